@@ -1,0 +1,13 @@
+-- Document 01 as definitions, in reading order.
+pub mod Lists
+pub mod Config
+pub mod Ledger
+pub mod Time
+pub mod Services
+pub mod Refusals
+pub mod Session
+pub mod Lines
+-- What is proved of them, and how they are computed.
+pub mod Examples
+pub mod Theorems
+pub mod Computing

@@ -1,0 +1,3 @@
+-- What is proved of the definitions alone.
+pub mod Settling
+pub mod Lengths

@@ -1,0 +1,42 @@
+-- Numbers of tocks: the tock value of a frame, and milliseconds as tocks.
+use Prim.Native.Nat.{ℕ, _+_, _-_, _/_}
+use mathlib.Core.Bool.{cond, _||_}
+use lib.Dec.{eqb, ltb}
+
+-- X as a tock value is a signed number: positive is one-shot, negative is cyclic with the opposite number as its period; 0 is none
+pub data TockValue : Type 0 where
+  none : TockValue
+  oneShot : ℕ → TockValue
+  cyclic : ℕ → TockValue
+
+-- the bits of a signed number: from half of all values on it is negative. The opposite of the lowest, as $8000, is half itself
+unfoldable pub signed : (half x : ℕ) → TockValue
+signed half x = cond (eqb x 0) none (cond (ltb x half) (oneShot x) (cyclic (half + half - x)))
+
+-- a signed 16-bit number
+unfoldable pub tockValue : ℕ → TockValue
+tockValue x = signed 0x8000 x
+
+-- the tocks until it is due for the first time
+unfoldable pub tocks : TockValue → ℕ
+tocks none = 0
+tocks (oneShot n) = n
+tocks (cyclic p) = p
+
+-- the period, or 0
+unfoldable pub period : TockValue → ℕ
+period none = 0
+period (oneShot n) = 0
+period (cyclic p) = p
+
+-- ---- milliseconds, a call of its own: a number of tocks, or a refusal
+pub data Tocks : Type 0 where
+  are : ℕ → Tocks
+  refused : ℕ → Tocks
+
+-- 0 milliseconds per tock gives 3, tested first; a result of 0 or above 32,767 gives 10
+unfoldable pub milliseconds : (ms perTock : ℕ) → Tocks
+milliseconds m p =
+    cond (eqb p 0) (refused 3)
+    (cond (eqb (m / p) 0 || ltb 32767 (m / p)) (refused 10)
+    (are (m / p)))

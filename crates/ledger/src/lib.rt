@@ -1,0 +1,3 @@
+// The ledger: document 01 as definitions, in specs/. No code and no tables here.
+// Promises: specs/Theorems holds what is proved of the definitions alone, specs/Examples the paper's marked examples.
+// Rests on nothing but the checker and its library of numbers and lists.
