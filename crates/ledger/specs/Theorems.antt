@@ -1,3 +1,26 @@
 -- What is proved of the definitions alone.
+-- The sheet's theorems:
+--   Settling: settles, one-end, at-most-2T, loop-at-most-2T. Lowest: lowest-runs. Shown: lowest-shown, reissues-shown. Refused: refused-changes-nothing. HandedOut: handed-out. Sound: sound.
+
+-- laws of lists and of checks
+pub mod Items
+pub mod Parts
+pub mod Checks
+pub mod Fresh
+-- the running task, settling and the sizes, for every ledger
+pub mod Lowest
 pub mod Settling
-pub mod Lengths
+pub mod Sizes
+pub mod Refused
+-- what an accepted configuration and an accepted frame say
+pub mod Configured
+pub mod Accepted
+pub mod Shown
+-- each step as a chain of changes, and what every change keeps
+pub mod Tocks
+pub mod Changes
+pub mod Named
+pub mod Steps
+pub mod Kept
+pub mod HandedOut
+pub mod Sound

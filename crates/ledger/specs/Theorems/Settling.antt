@@ -1,19 +1,21 @@
 -- Settling is "while the running task has an open request": the bound 2T of `settle` cuts nothing off.
-use Prim.Native.Nat.{ℕ, zero, suc, _+_, _*_, _≤_, _<_}
-use mathlib.Core.Path.{_≡_, refl, sym, _∙_, ap}
+use Prim.Native.Nat.{ℕ, zero, suc, _+_, _*_, _≤_}
+use mathlib.Core.Path.{_≡_, refl, _∙_, ap}
 use mathlib.Core.Logic.{_⊎_, inl, inr}
-use mathlib.Core.Bool.{Bool, true, false, cond, not, _&&_, and-false}
+use mathlib.Core.Bool.{Bool, true, false, not, _&&_, and-false}
 use mathlib.Core.List.{List, [], _∷_}
 use mathlib.Core.Option.{Option, none as nothing, some}
 use native.Mathlib.Nat.{le-refl, le-trans}
 use native.Mathlib.Omega.{arith}
-use lib.ListN.{length, getD, set, length-set}
-use lib.Seq.{getD-set-same}
+use lib.ListN.{length, getD, set}
 use Rattle.ledger.specs.Lists.{at, put, find}
 use Rattle.ledger.specs.Config.{Config}
-use Rattle.ledger.specs.Ledger.{Semaphore, PENDING, DONE, WAITING, Outcome, refused, Request, none, receive, dequeue, enqueue, Blocks, Task, Message, Ledger, nullTask, task, semaphoreOf, mailbox, queue, held, runnable, lowestRunnable, running, setTask, setSemaphores, setSemaphore, setMailbox, setQueue, setBlocks, setOutcome, setSlot, setRequest, setEventWait, setMessageWait}
+use Rattle.ledger.specs.Ledger.{Semaphore, PENDING, DONE, WAITING, Outcome, refused, Request, none, receive, dequeue, enqueue, Task, Message, Ledger, nullTask, task, semaphoreOf, mailbox, queue, held, runnable, running, setTask, setSemaphores, setSemaphore, setMailbox, setQueue, setBlocks, setOutcome, setSlot, setRequest, setEventWait, setMessageWait}
 use Rattle.ledger.specs.Services.{waitFor, signalled, signal, woken, wakeWaiter, wanted, notEmpty, notFull, full, takeEntry, putEntry, received, dequeued, enqueued, issue}
-use Rattle.ledger.specs.Session.{openRequest, isOpen, refused21, issueAgain, reissue, Settles, stops, goesOn, Settled, settle}
+use Rattle.ledger.specs.Session.{openRequest, isOpen, refused21, issueAgain, reissue, Settles, stops, goesOn, settle}
+use Rattle.ledger.specs.Theorems.Items.{Numbered, put-length, at-put-same, at-there}
+use Rattle.ledger.specs.Theorems.Checks.{cond-both}
+use Rattle.ledger.specs.Theorems.Lowest.{TaskRuns, NullRuns, lowest-runs}
 
 -- ---- what falls at each issue: 2 for each runnable task with an open request, 1 for a blocked one
 
@@ -118,45 +120,17 @@ close-load : (n : ℕ) (l : Ledger) → isOpen (task l n .request) ≡ true → 
 unfolding setRequest weight weigh isOpen
 close-load n l o r = lower n _ l (omega (arith, weigh-two _ _ o r))
 
--- ---- a number that names an item
-
-record Named (ts : List Task) (n : ℕ) : Type 0 where
-  from : 1 ≤ n
-  upto : n ≤ length ts
-
-put-length : (ts : List Task) (n : ℕ) (v : Task) → length (put ts n v) ≡ length ts
-unfolding put
-put-length ts zero v = refl
-put-length ts (suc n) v = length-set ts n v
-
-at-put : (ts : List Task) (n : ℕ) (v : Task) → Named ts n → at (put ts n v) n nullTask ≡ v
-unfolding at put
-at-put ts zero v h = let z : _≡_ {A = ℕ} 0 1 = omega arith in absurd (omega arith)
-at-put ts (suc n) v h = getD-set-same ts n v nullTask (omega arith)
-
--- a task with an open request is there: the null task has none
-getD-open : (ts : List Task) (n : ℕ) → isOpen (getD ts n nullTask .request) ≡ true → n < length ts
-unfolding isOpen
-getD-open [] n h = let z : _≡_ {A = ℕ} 0 1 = cc in omega arith
-getD-open (t ∷ ts) zero h = omega arith
-getD-open (t ∷ ts) (suc n) h = omega (arith, getD-open ts n h)
-
-at-open : (ts : List Task) (n : ℕ) → isOpen (at ts n nullTask .request) ≡ true → Named ts n
-unfolding at isOpen
-at-open ts zero h = let z : _≡_ {A = ℕ} 0 1 = cc in omega arith
-at-open ts (suc n) h = record { from = omega arith; upto = omega (arith, getD-open ts n h) }
-
 -- ---- the changes of an issue: the load rises by 1 at most
 
-event-blocks : (n : ℕ) (l : Ledger) → Named (l .tasks) n → runnable (task (setEventWait n true l) n) ≡ false
+event-blocks : (n : ℕ) (l : Ledger) → Numbered (length (l .tasks)) n → runnable (task (setEventWait n true l) n) ≡ false
 unfolding setEventWait setBlocks setTask task runnable
-event-blocks n l h = let b = task l n .blocks in ap runnable (at-put (l .tasks) n _ h) ∙ blocked-event (not (b .idle)) (not (b .suspended)) (not (b .messageWait))
+event-blocks n l h = let b = task l n .blocks in ap runnable (at-put-same (l .tasks) n _ nullTask h) ∙ blocked-event (not (b .idle)) (not (b .suspended)) (not (b .messageWait))
 
-message-blocks : (n : ℕ) (l : Ledger) → Named (l .tasks) n → runnable (task (setMessageWait n true l) n) ≡ false
+message-blocks : (n : ℕ) (l : Ledger) → Numbered (length (l .tasks)) n → runnable (task (setMessageWait n true l) n) ≡ false
 unfolding setMessageWait setBlocks setTask task runnable
-message-blocks n l h = let b = task l n .blocks in ap runnable (at-put (l .tasks) n _ h) ∙ blocked-message (not (b .idle)) (not (b .suspended)) (not (b .eventWait))
+message-blocks n l h = let b = task l n .blocks in ap runnable (at-put-same (l .tasks) n _ nullTask h) ∙ blocked-message (not (b .idle)) (not (b .suspended)) (not (b .eventWait))
 
-wait-load : (t b : ℕ) (r : Request) (l : Ledger) → Named (l .tasks) t → load (setRequest t r (waitFor t b l) .tasks) ≤ load (l .tasks) + 1
+wait-load : (t b : ℕ) (r : Request) (l : Ledger) → Numbered (length (l .tasks)) t → load (setRequest t r (waitFor t b l) .tasks) ≤ load (l .tasks) + 1
 unfolding waitFor setSemaphore setSemaphores
 wait-load t b r l h =
     let m = setSemaphore b (WAITING t) l in
@@ -178,74 +152,50 @@ take-load : (c : Config) (t q : ℕ) (e : List ℕ) (l : Ledger) → load (takeE
 unfolding takeEntry setQueue
 take-load c t q e l = le-trans (outcome-load t _ _) (slot-load t _ _)
 
-received-load : (t a : ℕ) (o : Option Message) (l : Ledger) → Named (l .tasks) t → load (received t a o l .tasks) ≤ load (l .tasks) + 1
+received-load : (t a : ℕ) (o : Option Message) (l : Ledger) → Numbered (length (l .tasks)) t → load (received t a o l .tasks) ≤ load (l .tasks) + 1
 unfolding received setMailbox
 received-load t a nothing l h = omega (arith, request-load t (receive a) (setMessageWait t true l) (message-blocks t l h), message-load t l)
 received-load t a (some m) l h = up (outcome-load t _ _)
 
-dequeued-load : (c : Config) (t q : ℕ) (es : List (List ℕ)) (l : Ledger) → Named (l .tasks) t → load (dequeued c t q es l .tasks) ≤ load (l .tasks) + 1
+dequeued-load : (c : Config) (t q : ℕ) (es : List (List ℕ)) (l : Ledger) → Numbered (length (l .tasks)) t → load (dequeued c t q es l .tasks) ≤ load (l .tasks) + 1
 unfolding dequeued wakeWaiter
 dequeued-load c t q [] l h = wait-load t (notEmpty c q) (dequeue q) l h
 dequeued-load c t q (e ∷ es) l h = omega (arith, wake-load (semaphoreOf (takeEntry c t q e l) (notFull c q)) (notFull c q) (takeEntry c t q e l), take-load c t q e l)
 
-enqueued-load : (c : Config) (t q : ℕ) (e : List ℕ) (b : Bool) (l : Ledger) → Named (l .tasks) t → load (enqueued c t q e b l .tasks) ≤ load (l .tasks) + 1
+enqueued-load : (c : Config) (t q : ℕ) (e : List ℕ) (b : Bool) (l : Ledger) → Numbered (length (l .tasks)) t → load (enqueued c t q e b l .tasks) ≤ load (l .tasks) + 1
 unfolding enqueued wakeWaiter putEntry setQueue
 enqueued-load c t q e true l h = wait-load t (notFull c q) (enqueue q e) l h
 enqueued-load c t q e false l h = wake-load _ (notEmpty c q) (putEntry q e l)
 
-issue-load : (c : Config) (t : ℕ) (r : Request) (l : Ledger) → Named (l .tasks) t → load (issue c t r l .tasks) ≤ load (l .tasks) + 1
+issue-load : (c : Config) (t : ℕ) (r : Request) (l : Ledger) → Numbered (length (l .tasks)) t → load (issue c t r l .tasks) ≤ load (l .tasks) + 1
 unfolding issue
 issue-load c t none l h = omega arith
 issue-load c t (receive a) l h = received-load t a (find (wanted a) (mailbox l t)) l h
 issue-load c t (dequeue q) l h = dequeued-load c t q (held (queue l q)) l h
 issue-load c t (enqueue q e) l h = enqueued-load c t q e (full c l q) l h
 
-either-load : (b : Bool) (x y : Ledger) (k : ℕ) → load (x .tasks) ≤ k → load (y .tasks) ≤ k → load (cond b x y .tasks) ≤ k
-either-load true x y k p q = p
-either-load false x y k p q = q
-
-again-load : (c : Config) (t : ℕ) (r : Request) (l : Ledger) → Named (l .tasks) t → load (issueAgain c t r l .tasks) ≤ load (l .tasks) + 1
+again-load : (c : Config) (t : ℕ) (r : Request) (l : Ledger) → Numbered (length (l .tasks)) t → load (issueAgain c t r l .tasks) ≤ load (l .tasks) + 1
 unfolding issueAgain
-again-load c t r l h = either-load (refused21 c r l) _ _ _ (up (outcome-load t (refused 21) l)) (issue-load c t r l h)
+again-load c t r l h = cond-both (λ (m : Ledger). load (m .tasks) ≤ load (l .tasks) + 1) (refused21 c r l) _ _ (up (outcome-load t (refused 21) l)) (issue-load c t r l h)
 
--- ---- the running task is runnable, or it is the null task
+-- ---- a running task with an open request is runnable: the null task has none
 
-Runs : List Task → ℕ → ℕ → Type 0
-Runs ts n m = (m ≡ 0) ⊎ ((i : ℕ) × (m ≡ n + i) × (runnable (getD ts i nullTask) ≡ true))
+pub running-named : (l : Ledger) → isOpen (openRequest l) ≡ true → Numbered (length (l .tasks)) (running l)
+unfolding openRequest task isOpen
+running-named l o = at-there (l .tasks) (running l) nullTask (λ e. let z : _≡_ {A = ℕ} 0 1 = cc in omega arith)
 
-later : (t : Task) (ts : List Task) (n m : ℕ) → Runs ts (suc n) m → Runs (t ∷ ts) n m
-unfolding Runs
-later t ts n m (inl e) = inl e
-later t ts n m (inr p) = inr (suc (p .0), omega (arith, p .1), p .2)
-
-now-or-later : (b : Bool) (t : Task) (ts : List Task) (n m : ℕ) → runnable t ≡ b → Runs ts (suc n) m → Runs (t ∷ ts) n (cond b n m)
-unfolding Runs
-now-or-later true t ts n m e h = inr (0, omega arith, e)
-now-or-later false t ts n m e h = later t ts n m h
-
-lowest-runs : (n : ℕ) (ts : List Task) → Runs ts n (lowestRunnable n ts)
-unfolding lowestRunnable Runs
-lowest-runs n [] = inl refl
-lowest-runs n (t ∷ ts) = now-or-later (runnable t) t ts n (lowestRunnable (suc n) ts) refl (lowest-runs (suc n) ts)
-
-at-runs : (ts : List Task) (m : ℕ) → Runs ts 1 m → isOpen (at ts m nullTask .request) ≡ true → runnable (at ts m nullTask) ≡ true
-unfolding Runs at isOpen
-at-runs ts zero (inl e) o = let z : _≡_ {A = ℕ} 0 1 = cc in absurd (omega arith)
-at-runs ts (suc m) (inl e) o = absurd (omega arith)
-at-runs ts zero (inr p) o = absurd (omega (arith, p .1))
-at-runs ts (suc m) (inr p) o = let e : m ≡ p .0 = omega (arith, p .1) in rw e (p .2)
-
-running-runs : (l : Ledger) → isOpen (openRequest l) ≡ true → runnable (task l (running l)) ≡ true
-unfolding openRequest running task
-running-runs l o = at-runs (l .tasks) (lowestRunnable 1 (l .tasks)) (lowest-runs 1 (l .tasks)) o
+pub running-runs : (l : Ledger) → isOpen (openRequest l) ≡ true → runnable (task l (running l)) ≡ true
+running-runs l o = go (lowest-runs (length (l .tasks)) l refl)
+  where
+    go : TaskRuns (length (l .tasks)) l (running l) ⊎ NullRuns (length (l .tasks)) l (running l) → runnable (task l (running l)) ≡ true
+    go (inl h) = h .runs
+    go (inr h) = absurd (omega (arith, running-named l o))
 
 -- ---- each issue lowers the load, so that 2T are enough
 
-closed-named : (l : Ledger) → isOpen (openRequest l) ≡ true → Named (setRequest (running l) none l .tasks) (running l)
-unfolding openRequest task setRequest setTask
-closed-named l o =
-    let h = at-open (l .tasks) (running l) o in
-    record { from = h .from; upto = rw put-length (h .upto) }
+closed-named : (l : Ledger) → isOpen (openRequest l) ≡ true → Numbered (length (setRequest (running l) none l .tasks)) (running l)
+unfolding setRequest setTask
+closed-named l o = rw put-length (running-named l o)
 
 reissue-load : (c : Config) (l : Ledger) → isOpen (openRequest l) ≡ true → load (reissue c l .tasks) + 1 ≤ load (l .tasks)
 unfolding reissue openRequest
@@ -265,6 +215,10 @@ settles-within (suc k) c l h = go (isOpen (openRequest l)) refl (λ p. settles-w
         → Settles c l (settle (suc k) c l .reissues) (settle (suc k) c l .ledger)
     go false e ih = rw (e, settle) (stops e)
     go true e ih = rw (e, settle) (goesOn e (ih (omega (arith, reissue-load c l e))))
+
+issues-load : {c : Config} {l l′ : Ledger} {n : ℕ} → Settles c l n l′ → n ≤ load (l .tasks)
+issues-load (stops e) = omega arith
+issues-load {c} {l} (goesOn e s) = omega (arith, issues-load s, reissue-load c l e)
 
 weigh-bound : (o r : Bool) → weigh o r ≤ 2
 unfolding weigh
@@ -288,8 +242,12 @@ one-end (stops e) (goesOn f q) = let z : _≡_ {A = ℕ} 0 1 = cc in absurd (ome
 one-end (goesOn e p) (stops f) = let z : _≡_ {A = ℕ} 0 1 = cc in absurd (omega arith)
 one-end (goesOn e p) (goesOn f q) = let r = one-end p q in (ap suc (r .0), r .1)
 
--- the count of a frame is at most 2T, so at most 252
-pub at-most : (k : ℕ) (c : Config) (l : Ledger) → settle k c l .reissues ≤ k
+-- it makes at most 2T issues
+pub loop-at-most-2T : {c : Config} {l l′ : Ledger} {n : ℕ} → length (l .tasks) ≡ c .T → Settles c l n l′ → n ≤ 2 * c .T
+loop-at-most-2T {l} h s = omega (arith, issues-load s, load-bound (l .tasks))
+
+-- and so does the computed form, whatever the ledger
+at-most : (k : ℕ) (c : Config) (l : Ledger) → settle k c l .reissues ≤ k
 unfolding settle
 at-most zero c l = omega arith
 at-most (suc k) c l = go (isOpen (openRequest l)) refl (at-most k c (reissue c l))
@@ -297,3 +255,6 @@ at-most (suc k) c l = go (isOpen (openRequest l)) refl (at-most k c (reissue c l
     go : (b : Bool) → isOpen (openRequest l) ≡ b → settle k c (reissue c l) .reissues ≤ k → settle (suc k) c l .reissues ≤ suc k
     go false e ih = rw (e, settle) (omega arith)
     go true e ih = rw (e, settle) (omega arith)
+
+pub at-most-2T : (c : Config) (l : Ledger) → settle (2 * c .T) c l .reissues ≤ 2 * c .T
+at-most-2T c l = at-most (2 * c .T) c l

@@ -1,0 +1,72 @@
+-- The laws of checks: a list of checks that gives 0 has none that fails; and what a test says of its parts.
+use Prim.Native.Nat.{ℕ, zero, suc, _<_}
+use mathlib.Core.Path.{_≡_, refl}
+use mathlib.Core.Bool.{Bool, true, false, cond, not, _&&_, _||_}
+use mathlib.Core.List.{List, [], _∷_}
+use native.Mathlib.Omega.{arith}
+use borrow.Author.Tests.{leb-true, eqb-false}
+use lib.Dec.{eqb, leb}
+use lib.ListN.{length, getD}
+use Rattle.ledger.specs.Lists.{Check, first, at, all, within}
+use Rattle.ledger.specs.Theorems.Items.{Numbered}
+
+pub and-left : (a b : Bool) → (a && b) ≡ true → a ≡ true
+and-left true b h = refl
+and-left false b h = h
+
+pub and-right : (a b : Bool) → (a && b) ≡ true → b ≡ true
+and-right true b h = h
+and-right false b h = cc
+
+pub or-left : (a b : Bool) → (a || b) ≡ false → a ≡ false
+or-left true b h = h
+or-left false b h = refl
+
+pub or-right : (a b : Bool) → (a || b) ≡ false → b ≡ false
+or-right true b h = cc
+or-right false b h = h
+
+-- a test that a code asks for
+pub asked : (a b : Bool) → (a && b) ≡ false → a ≡ true → b ≡ false
+asked true b h e = h
+asked false b h e = cc
+
+pub within-numbered : (n i : ℕ) → within 1 n i ≡ true → Numbered n i
+within-numbered n i h = record { from = leb-true 1 i (and-left (leb 1 i) (leb i n) h); upto = leb-true i n (and-right (leb 1 i) (leb i n) h) }
+
+-- what holds of both ways holds of the choice
+pub cond-both : {A : Type 0} (P : A → Type 0) (b : Bool) (x y : A) → P x → P y → P (cond b x y)
+cond-both P true x y p q = p
+cond-both P false x y p q = q
+
+-- the checks of a list, one after the other
+abbrev pub Passes : List Check → Type 0
+Passes [] = Unit {0}
+Passes (k ∷ ks) = (k .fails ≡ false) × Passes ks
+
+abbrev numbers : List Check → Bool
+numbers [] = true
+numbers (k ∷ ks) = not (eqb (k .number) 0) && numbers ks
+
+passes-one : (b : Bool) (n r : ℕ) → not (eqb n 0) ≡ true → cond b n r ≡ 0 → (b ≡ false) × (r ≡ 0)
+passes-one true n r h e = absurd (eqb-false n 0 (cc) e)
+passes-one false n r h e = (refl, e)
+
+pub passes : (ks : List Check) → numbers ks ≡ true → first ks ≡ 0 → Passes ks
+unfolding first
+passes [] h e = tt
+passes (k ∷ ks) h e =
+    let p = passes-one (k .fails) (k .number) (first ks) (and-left _ (numbers ks) h) e in
+    (p .0, passes ks (and-right (not (eqb (k .number) 0)) (numbers ks) h) (p .1))
+
+module _ {A : Type 0} where
+  getD-all : (p : A → Bool) (xs : List A) (i : ℕ) (d : A) → all p xs ≡ true → i < length xs → p (getD xs i d) ≡ true
+  unfolding all
+  getD-all p [] i d h k = absurd (omega arith)
+  getD-all p (x ∷ xs) zero d h k = and-left (p x) (all p xs) h
+  getD-all p (x ∷ xs) (suc i) d h k = getD-all p xs i d (and-right (p x) (all p xs) h) (omega arith)
+
+  pub at-all : (p : A → Bool) (xs : List A) (n : ℕ) (d : A) → all p xs ≡ true → Numbered (length xs) n → p (at xs n d) ≡ true
+  unfolding at
+  at-all p xs zero d h k = absurd (omega arith)
+  at-all p xs (suc n) d h k = getD-all p xs n d h (omega arith)

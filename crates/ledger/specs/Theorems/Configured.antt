@@ -1,0 +1,66 @@
+-- What an accepted configuration says: each of its checks has passed.
+use Prim.Native.Nat.{ℕ, zero, suc, _+_, _*_, _≤_}
+use mathlib.Core.Path.{_≡_, refl}
+use mathlib.Core.Bool.{true, not, _&&_}
+use mathlib.Core.List.{List, [], _∷_}
+use native.Mathlib.Omega.{arith}
+use borrow.Author.Tests.{leb-true, eqb-true, not-false}
+use lib.Dec.{eqb, ltb}
+use lib.ListN.{length, length-take, length-drop}
+use Rattle.ledger.specs.Lists.{_⇒_, all, within}
+use Rattle.ledger.specs.Config.{Shape, Config, shapesIn, configIn, goodHead, goodRest, configRefusal}
+use Rattle.ledger.specs.Services.{shape}
+use Rattle.ledger.specs.Theorems.Items.{Numbered}
+use Rattle.ledger.specs.Theorems.Checks.{and-left, and-right, within-numbered, passes, at-all}
+
+pub record Shaped (s : Shape) : Type 0 where
+  pub width : Numbered 16 (s .width)
+  pub depth : Numbered 255 (s .depth)
+
+pub record Configured (c : Config) : Type 0 where
+  pub tasks : Numbered 126 (c .T)
+  pub queues : c .Q ≤ 32
+  pub timers : c .R ≤ 64
+  pub messages : c .G ≤ 64
+  pub ticks : Numbered 255 (c .K)
+  pub semaphores : c .S + c .T + 2 * c .Q ≤ 255
+  pub states : length (c .states) ≡ c .T
+  pub shapes : length (c .shapes) ≡ c .Q
+  pub shaped : (q : ℕ) → Numbered (c .Q) q → Shaped (shape c q)
+
+shapesIn-length : (xs : List ℕ) (n : ℕ) → length xs ≡ 2 * n → length (shapesIn xs) ≡ n
+unfolding shapesIn
+shapesIn-length [] n h = omega arith
+shapesIn-length (w ∷ []) n h = absurd (omega arith)
+shapesIn-length (w ∷ d ∷ xs) zero h = absurd (omega arith)
+shapesIn-length (w ∷ d ∷ xs) (suc n) h = omega (arith, shapesIn-length xs n (omega arith))
+
+all-shaped : (c : Config) → length (c .shapes) ≡ c .Q → all (λ s. within 1 16 (s .width) && within 1 255 (s .depth)) (c .shapes) ≡ true → (q : ℕ) → Numbered (c .Q) q → Shaped (shape c q)
+unfolding shape
+all-shaped c e h q n =
+    let s = shape c q in
+    let k = at-all (λ s. within 1 16 (s .width) && within 1 255 (s .depth)) (c .shapes) q (record { width = 0; depth = 0 }) h (omega arith) in
+    record { width = within-numbered 16 (s .width) (and-left _ (within 1 255 (s .depth)) k); depth = within-numbered 255 (s .depth) (and-right (within 1 16 (s .width)) _ k) }
+
+checked : (c : Config) → goodHead c ≡ true → goodRest c ≡ true → length (c .states) ≡ c .T → length (c .shapes) ≡ c .Q → Configured c
+unfolding goodHead goodRest
+checked c h r s q =
+    record {
+      tasks = within-numbered 126 (c .T) (search (and-left, and-right) depth 9);
+      queues = leb-true (c .Q) 32 (search (and-left, and-right) depth 9);
+      timers = leb-true (c .R) 64 (search (and-left, and-right) depth 9);
+      messages = leb-true (c .G) 64 (search (and-left, and-right) depth 9);
+      ticks = within-numbered 255 (c .K) (search (and-left, and-right) depth 9);
+      semaphores = leb-true (c .S + c .T + 2 * c .Q) 255 (search (and-left, and-right) depth 9);
+      states = s;
+      shapes = q;
+      shaped = all-shaped c q (search (and-left, and-right) depth 9);
+    }
+
+pub configured : (g : List ℕ) → configRefusal g ≡ 0 → Configured (configIn g)
+unfolding configRefusal configIn
+configured g h =
+    let c = configIn g in
+    let p = passes (ltb (length g) 8 ⇒ 2 ∷ not (goodHead c) ⇒ 3 ∷ not (eqb (length g) (8 + c .T + 2 * c .Q)) ⇒ 2 ∷ not (goodRest c) ⇒ 3 ∷ []) refl h in
+    let n : length g ≡ 8 + c .T + 2 * c .Q = eqb-true (length g) _ (not-false _ (p .1 .1 .0)) in
+    checked c (not-false _ (p .1 .0)) (not-false _ (p .1 .1 .1 .0)) (simp (length-take, length-drop) (omega arith)) (shapesIn-length _ (c .Q) (simp length-drop (omega arith)))
