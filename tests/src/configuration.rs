@@ -1,0 +1,101 @@
+//! The configuration frame.
+
+use crate::numbers::{require, Number, CONFIGURATION, LENGTH};
+
+const FIXED_BYTES: usize = 8;
+const MOST_SEMAPHORES: usize = 255;
+const MOST_QUEUE_BYTES: usize = 4096;
+
+#[derive(Clone, Copy, Debug, PartialEq, Eq)]
+pub struct QueueSize {
+    /// Bytes in an entry.
+    pub width: u8,
+    /// Entries in the queue.
+    pub depth: u8,
+}
+
+#[derive(Clone, Debug, PartialEq, Eq)]
+pub struct Configuration {
+    pub tasks: u8,
+    pub named_semaphores: u8,
+    pub timers: u8,
+    pub messages: u8,
+    pub ticks_per_tock: u8,
+    pub milliseconds_per_tock: u16,
+    /// Of task 1 on: whether it starts idle.
+    pub starts_idle: Vec<bool>,
+    /// Of queue 1 on.
+    pub queues: Vec<QueueSize>,
+}
+
+impl Configuration {
+    pub fn read(frame: &[u8]) -> Result<Self, Number> {
+        let (fixed, rest) = frame.split_first_chunk::<FIXED_BYTES>().ok_or(LENGTH)?;
+        let [tasks, named, queues, timers, messages, ticks, high, low] = *fixed;
+        let milliseconds = u16::from_be_bytes([high, low]);
+        let (task_count, queue_count) = (usize::from(tasks), usize::from(queues));
+
+        require((1..=126).contains(&tasks), CONFIGURATION)?;
+        require(queues <= 32 && timers <= 64 && messages <= 64, CONFIGURATION)?;
+        require(ticks >= 1 && milliseconds >= 1, CONFIGURATION)?;
+        let semaphores = usize::from(named) + task_count + 2 * queue_count;
+        require(semaphores <= MOST_SEMAPHORES, CONFIGURATION)?;
+        require(rest.len() == task_count + 2 * queue_count, LENGTH)?;
+
+        let (states, sizes) = rest.split_at(task_count);
+        Ok(Configuration {
+            tasks,
+            named_semaphores: named,
+            timers,
+            messages,
+            ticks_per_tock: ticks,
+            milliseconds_per_tock: milliseconds,
+            starts_idle: read_states(states)?,
+            queues: read_queues(sizes)?,
+        })
+    }
+
+    pub fn queue_count(&self) -> u8 {
+        self.queues.len() as u8
+    }
+
+    pub fn width(&self, queue: u8) -> usize {
+        usize::from(self.queues[usize::from(queue) - 1].width)
+    }
+
+    /// All semaphores, also those of the queues, which no caller may name.
+    pub fn semaphores(&self) -> u8 {
+        self.nameable_semaphores() + 2 * self.queue_count()
+    }
+
+    pub fn nameable_semaphores(&self) -> u8 {
+        self.named_semaphores + self.tasks
+    }
+
+    pub fn semaphore_of_task(&self, task: u8) -> u8 {
+        self.named_semaphores + task
+    }
+
+    pub fn not_empty(&self, queue: u8) -> u8 {
+        self.not_full(queue) - 1
+    }
+
+    pub fn not_full(&self, queue: u8) -> u8 {
+        self.nameable_semaphores() + 2 * queue
+    }
+}
+
+fn read_states(bytes: &[u8]) -> Result<Vec<bool>, Number> {
+    require(bytes.iter().all(|&state| state <= 1), CONFIGURATION)?;
+    Ok(bytes.iter().map(|&state| state == 1).collect())
+}
+
+fn read_queues(bytes: &[u8]) -> Result<Vec<QueueSize>, Number> {
+    let sizes: Vec<QueueSize> =
+        bytes.chunks_exact(2).map(|pair| QueueSize { width: pair[0], depth: pair[1] }).collect();
+    let possible = |size: &QueueSize| (1..=16).contains(&size.width) && size.depth >= 1;
+    require(sizes.iter().all(possible), CONFIGURATION)?;
+    let bytes: usize = sizes.iter().map(|size| usize::from(size.width) * usize::from(size.depth)).sum();
+    require(bytes <= MOST_QUEUE_BYTES, CONFIGURATION)?;
+    Ok(sizes)
+}

@@ -1,0 +1,43 @@
+//! The named situations that frames can meet, a table for each subject.
+
+mod answers;
+mod clock;
+mod messages;
+mod queues;
+mod semaphores;
+mod settling;
+mod tasks;
+mod timers;
+
+use super::Step;
+
+type Situation = (&'static str, fn(&Step) -> bool);
+
+const TABLES: [(&str, &[Situation]); 8] = [
+    ("answers", answers::TABLE),
+    ("semaphores", semaphores::TABLE),
+    ("messages", messages::TABLE),
+    ("queues", queues::TABLE),
+    ("settling", settling::TABLE),
+    ("tasks", tasks::TABLE),
+    ("timers", timers::TABLE),
+    ("clock", clock::TABLE),
+];
+
+pub fn names() -> impl Iterator<Item = String> {
+    TABLES.iter().flat_map(|(title, table)| table.iter().map(move |(name, _)| titled(title, name)))
+}
+
+/// Only accepted frames count, but for the answers.
+pub fn reached(step: &Step) -> Vec<String> {
+    let tables = if step.answer.refusal() == 0 { &TABLES[..] } else { &TABLES[..1] };
+    let mut reached = Vec::new();
+    for (title, table) in tables {
+        reached.extend(table.iter().filter(|(_, fits)| fits(step)).map(|(name, _)| titled(title, name)));
+    }
+    reached
+}
+
+fn titled(title: &str, name: &str) -> String {
+    format!("{title}: {name}")
+}

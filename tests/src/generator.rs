@@ -1,0 +1,119 @@
+//! Random sessions. Frames are chosen by looking at the executive's state, so that they meet meaningful situations,
+//! and are mixed with plain noise.
+
+mod cascade;
+mod configurations;
+mod damage;
+mod fields;
+mod moves;
+
+use std::ops::RangeInclusive;
+
+use crate::executive::Executive;
+use crate::line;
+use crate::random::Random;
+use crate::tasks::Block;
+use moves::Mood;
+
+pub use cascade::cascade;
+
+/// A configuration and the frames behind it.
+#[derive(Clone, Debug, PartialEq, Eq)]
+pub struct Script {
+    pub configuration: Vec<u8>,
+    pub frames: Vec<Vec<u8>>,
+}
+
+impl Script {
+    /// The session as lines that a person can replay. Frames too long for a line are left out.
+    pub fn lines(&self) -> Vec<u8> {
+        let frames = std::iter::once(&self.configuration).chain(&self.frames);
+        frames.filter_map(|frame| line::write(frame).ok()).flat_map(|line| [line, vec![b'\n']].concat()).collect()
+    }
+}
+
+pub struct Generator {
+    random: Random,
+    mood: Mood,
+}
+
+impl Generator {
+    pub fn new(seed: u64) -> Self {
+        Generator { random: Random::new(seed), mood: Mood::Any }
+    }
+
+    /// A configuration that is accepted and this many frames.
+    pub fn script(&mut self, tasks: RangeInclusive<u8>, frames: usize) -> Script {
+        let configuration = configurations::accepted(&mut self.random, tasks);
+        let mut executive = Executive::configure(&configuration).expect("an accepted configuration");
+        let frames = (0..frames).map(|_| self.next_frame(&mut executive)).collect();
+        Script { configuration, frames }
+    }
+
+    /// A configuration that is refused.
+    pub fn refused_configuration(&mut self) -> Vec<u8> {
+        configurations::refused(&mut self.random)
+    }
+
+    /// Any bytes as the session program may find them: damaged lines, refused configurations, no last $0A.
+    pub fn input(&mut self, frames: usize) -> Vec<u8> {
+        let mut input = match self.random.below(16) {
+            0 => self.refused_first_line(),
+            1 => return self.random.pick(&[b"".as_slice(), b"\n", b"\n\n", b"\r\n", b" "]).to_vec(),
+            _ => Vec::new(),
+        };
+        for line in self.script(1..=9, frames).lines().split_inclusive(|&byte| byte == b'\n') {
+            if self.random.percent(8) {
+                input.extend(damage::line(&mut self.random, &line[..line.len() - 1]));
+                input.push(b'\n');
+            }
+            input.extend_from_slice(line);
+        }
+        if self.random.percent(30) {
+            input.pop();
+        }
+        input
+    }
+
+    fn refused_first_line(&mut self) -> Vec<u8> {
+        let frame = self.refused_configuration();
+        let digits = line::write(&frame).unwrap_or_default();
+        let mut line = if self.random.percent(50) { damage::line(&mut self.random, &digits) } else { digits };
+        line.push(b'\n');
+        line
+    }
+
+    /// Chosen again, up to some times, if it would leave no task that can ever run.
+    fn next_frame(&mut self, executive: &mut Executive) -> Vec<u8> {
+        for _ in 0..20 {
+            let frame = self.any_frame(executive);
+            let mut after = executive.clone();
+            after.frame(&frame);
+            if is_alive(&after) || self.random.percent(1) {
+                *executive = after;
+                return frame;
+            }
+        }
+        let frame = self.any_frame(executive);
+        executive.frame(&frame);
+        frame
+    }
+
+    fn any_frame(&mut self, executive: &Executive) -> Vec<u8> {
+        match self.random.below(100) {
+            0..=3 => damage::frame(&mut self.random, executive),
+            4 => self.random.bytes(5),
+            _ => self.frame(executive),
+        }
+    }
+}
+
+/// Some task runs, or would run after an interrupt exit.
+fn is_alive(executive: &Executive) -> bool {
+    let nameable = 1..=executive.configuration().nameable_semaphores();
+    let wakeable = |task: u8| {
+        let record = executive.tasks().get(task);
+        nameable.contains(&record.waits_on) && !record.blocks().has(Block::Suspended)
+    };
+    executive.running() != 0 || (1..=executive.configuration().tasks).any(wakeable)
+}

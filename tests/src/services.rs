@@ -1,0 +1,180 @@
+//! What each accepted command does.
+
+use crate::command::Command;
+use crate::executive::Executive;
+use crate::semaphore::Semaphore;
+use crate::tasks::{Block, Letter, Outcome, Request, SLOT_BYTES};
+use crate::timers::Start;
+
+impl Executive {
+    pub(crate) fn carry_out(&mut self, command: Command) {
+        match command {
+            Command::Tick => self.tick(),
+            Command::InterruptExit(0) => {}
+            Command::InterruptExit(semaphore) => {
+                self.signal(semaphore);
+            }
+            _ => self.serve(command),
+        }
+    }
+
+    /// The services; a caller's outcome is plain unless its service says otherwise.
+    fn serve(&mut self, command: Command) {
+        let own = self.running();
+        self.set_outcome(own, Outcome::Plain);
+        match command {
+            Command::Wait(semaphore) => self.wait(own, semaphore),
+            Command::Signal(semaphore) => {
+                self.signal(semaphore);
+            }
+            Command::Pend(semaphore) => self.set_semaphore(semaphore, Semaphore::Pending),
+            Command::Send(to, letter) => self.send(own, to, letter),
+            Command::SendAndWait(to, letter) => {
+                self.send(own, to, letter);
+                self.wait_on(own, letter.semaphore);
+            }
+            Command::Receive(from) => self.receive(own, from),
+            Command::Dequeue(queue) => self.dequeue(own, queue),
+            Command::Enqueue(queue, entry) => self.enqueue(own, queue, entry),
+            Command::Resume(task) => self.tasks.unblock(task, Block::Suspended),
+            Command::Suspend(task) => self.tasks.block(task, Block::Suspended),
+            Command::Terminate(task) => self.terminate(task),
+            Command::Execute(task) => self.execute(task),
+            Command::Delay(start) => self.delay(start),
+            Command::Timer(start) => self.start(start),
+            Command::PurgeAll(task) => self.timers.remove_of_task(task),
+            Command::PurgeOne(task, semaphore) => self.timers.remove(task, semaphore),
+            Command::Tick | Command::InterruptExit(_) => unreachable!("no services"),
+        }
+    }
+
+    fn wait(&mut self, own: u8, semaphore: u8) {
+        self.set_outcome(own, Outcome::Semaphore(semaphore));
+        if self.semaphore(semaphore) == Semaphore::Done {
+            self.set_semaphore(semaphore, Semaphore::Pending);
+        } else {
+            self.wait_on(own, semaphore);
+        }
+    }
+
+    /// Tells which task lost its event wait, or 0.
+    pub(crate) fn signal(&mut self, semaphore: u8) -> u8 {
+        let woken = self.wake(semaphore);
+        if woken == 0 {
+            self.set_semaphore(semaphore, Semaphore::Done);
+        }
+        woken
+    }
+
+    /// As signal, but a semaphore on which nobody waits stays as it is: those of queues are never DONE.
+    fn wake(&mut self, semaphore: u8) -> u8 {
+        let Semaphore::Waiting(task) = self.semaphore(semaphore) else {
+            return 0;
+        };
+        self.set_semaphore(semaphore, Semaphore::Pending);
+        self.tasks.get_mut(task).waits_on = 0;
+        self.tasks.unblock(task, Block::EventWait);
+        task
+    }
+
+    fn send(&mut self, own: u8, to: u8, letter: Letter) {
+        self.mailboxes.insert(to, letter);
+        self.tasks.unblock(to, Block::MessageWait);
+        self.set_outcome(own, Outcome::Semaphore(letter.semaphore));
+    }
+
+    pub(crate) fn receive(&mut self, own: u8, from: u8) {
+        match self.mailboxes.take(own, from) {
+            Some(letter) => self.set_outcome(own, Outcome::Message(letter)),
+            None => {
+                self.tasks.get_mut(own).request = Request::Receive(from);
+                self.tasks.block(own, Block::MessageWait);
+            }
+        }
+    }
+
+    pub(crate) fn dequeue(&mut self, own: u8, queue: u8) {
+        if self.queues.is_empty(queue) {
+            self.tasks.get_mut(own).request = Request::Dequeue(queue);
+            self.wait_on(own, self.configuration.not_empty(queue));
+            return;
+        }
+        let task = self.tasks.get_mut(own);
+        let width = self.queues.take(queue, &mut task.slot);
+        task.outcome = Outcome::Entry(width as u8);
+        if let Some(histories) = &mut self.history {
+            histories[usize::from(queue) - 1].copied.push(task.slot[..width].to_vec());
+        }
+        self.wake(self.configuration.not_full(queue));
+    }
+
+    pub(crate) fn enqueue(&mut self, own: u8, queue: u8, entry: &[u8]) {
+        if self.queues.is_full(queue) {
+            let mut waiting = [0; SLOT_BYTES];
+            waiting[..entry.len()].copy_from_slice(entry);
+            self.tasks.get_mut(own).request = Request::Enqueue(queue, waiting);
+            self.wait_on(own, self.configuration.not_full(queue));
+            return;
+        }
+        self.queues.put(queue, entry);
+        if let Some(histories) = &mut self.history {
+            histories[usize::from(queue) - 1].put.push(entry.to_vec());
+        }
+        self.wake(self.configuration.not_empty(queue));
+    }
+
+    fn terminate(&mut self, task: u8) {
+        self.reset(task, Outcome::Plain);
+        self.tasks.block(task, Block::Idle);
+        self.timers.remove_of_task(task);
+        self.mailboxes.empty(task);
+    }
+
+    fn execute(&mut self, task: u8) {
+        self.reset(task, Outcome::Begin);
+    }
+
+    /// No block, no open request, no wait.
+    fn reset(&mut self, task: u8, outcome: Outcome) {
+        let record = self.tasks.get_mut(task);
+        record.outcome = outcome;
+        record.request = Request::None;
+        let waited_on = std::mem::take(&mut record.waits_on);
+        self.tasks.unblock_all(task);
+        if waited_on != 0 {
+            self.set_semaphore(waited_on, Semaphore::Pending);
+        }
+    }
+
+    fn delay(&mut self, start: Start) {
+        self.start(start);
+        self.wait_on(start.task, start.semaphore);
+    }
+
+    fn start(&mut self, start: Start) {
+        self.timers.start(start, self.clock.tocks());
+    }
+
+    fn tick(&mut self) {
+        if !self.clock.tick() {
+            return;
+        }
+        while let Some(timer) = self.timers.take_due(self.clock.tocks()) {
+            self.signal(timer.semaphore);
+        }
+    }
+
+    fn wait_on(&mut self, task: u8, semaphore: u8) {
+        self.set_semaphore(semaphore, Semaphore::Waiting(task));
+        self.tasks.get_mut(task).waits_on = semaphore;
+        self.tasks.block(task, Block::EventWait);
+    }
+
+    pub(crate) fn set_outcome(&mut self, task: u8, outcome: Outcome) {
+        self.tasks.get_mut(task).outcome = outcome;
+    }
+
+    fn set_semaphore(&mut self, number: u8, state: Semaphore) {
+        self.semaphores[usize::from(number)] = state;
+    }
+}

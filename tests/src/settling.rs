@@ -1,0 +1,40 @@
+//! Settling: while the running task has an open request, it is closed and issued again.
+
+use crate::executive::Executive;
+use crate::numbers::Number;
+use crate::tasks::{Outcome, Request};
+
+impl Executive {
+    /// Counts the reissues.
+    pub(crate) fn settle(&mut self) -> u8 {
+        let mut reissues = 0;
+        loop {
+            let own = self.running();
+            let request = self.tasks.get(own).request;
+            if request == Request::None {
+                return reissues;
+            }
+            self.tasks.get_mut(own).request = Request::None;
+            if let Err(number) = self.reissue(own, request) {
+                self.set_outcome(own, Outcome::Refused(number));
+            }
+            reissues += 1;
+        }
+    }
+
+    fn reissue(&mut self, own: u8, request: Request) -> Result<(), Number> {
+        match request {
+            Request::None => {}
+            Request::Receive(from) => self.receive(own, from),
+            Request::Dequeue(queue) => {
+                self.may_dequeue(queue)?;
+                self.dequeue(own, queue);
+            }
+            Request::Enqueue(queue, entry) => {
+                self.may_enqueue(queue)?;
+                self.enqueue(own, queue, &entry[..self.configuration.width(queue)]);
+            }
+        }
+        Ok(())
+    }
+}

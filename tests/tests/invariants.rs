@@ -1,0 +1,152 @@
+//! What holds after every frame of every random session.
+
+use plain_executive::answer::Answer;
+use plain_executive::coverage::causes::causes;
+use plain_executive::executive::Executive;
+use plain_executive::generator::{cascade, Generator};
+use plain_executive::semaphore::Semaphore;
+use plain_executive::tasks::Block;
+
+const SESSIONS: u64 = 600;
+const FRAMES: usize = 200;
+
+struct Step {
+    before: Executive,
+    frame: Vec<u8>,
+    answer: Answer,
+    after: Executive,
+}
+
+/// Every frame of every session.
+fn each_step(holds: impl Fn(&Step)) {
+    let random = (0..SESSIONS).map(|seed| Generator::new(seed).script(tasks(seed), FRAMES));
+    for script in random.chain([cascade()]) {
+        let mut before = Executive::configure(&script.configuration).expect("an accepted configuration");
+        before.keep_history();
+        for frame in script.frames {
+            let mut after = before.clone();
+            let answer = after.frame(&frame);
+            let step = Step { before, frame, answer, after };
+            holds(&step);
+            before = step.after;
+        }
+    }
+}
+
+fn tasks(seed: u64) -> std::ops::RangeInclusive<u8> {
+    match seed % 20 {
+        0 => 1..=1,
+        1 => 126..=126,
+        _ => 2..=20,
+    }
+}
+
+#[test]
+fn a_refused_frame_changes_nothing() {
+    each_step(|step| {
+        if step.answer.refusal() != 0 {
+            assert_eq!(step.before.items(), step.after.items());
+            assert_eq!(step.before.clock().tocks(), step.after.clock().tocks());
+            assert_eq!(step.answer.reissues(), 0);
+            assert_eq!(step.answer.bytes()[1..], step.before.answer(0, 0).bytes()[1..]);
+        }
+    });
+}
+
+#[test]
+fn the_first_cause_is_the_refusal() {
+    each_step(|step| {
+        let first = causes(&step.before, &step.frame).first().copied();
+        assert_eq!(step.answer.refusal(), first.unwrap_or(0), "{:02X?}", step.frame);
+    });
+}
+
+#[test]
+fn the_lowest_runnable_task_runs() {
+    each_step(|step| {
+        let items = step.after.items();
+        let lowest = items.tasks.iter().position(|task| task.blocks.is_empty());
+        assert_eq!(usize::from(step.answer.running()), lowest.map_or(0, |place| place + 1));
+    });
+}
+
+#[test]
+fn reissues_are_at_most_twice_the_tasks() {
+    each_step(|step| {
+        let most = 2 * u32::from(step.after.configuration().tasks);
+        assert!(u32::from(step.answer.reissues()) <= most);
+    });
+}
+
+#[test]
+fn copied_and_held_is_what_was_put() {
+    each_step(|step| {
+        let histories = step.after.history().expect("kept");
+        for (queue, history) in (1u8..).zip(histories) {
+            let seen = [history.copied.clone(), step.after.held(queue)].concat();
+            assert_eq!(seen, history.put);
+        }
+    });
+}
+
+#[test]
+fn waits_and_semaphores_agree() {
+    each_step(|step| {
+        let after = &step.after;
+        for task in 1..=after.configuration().tasks {
+            let waited_on: Vec<u8> = (1..=after.configuration().semaphores())
+                .filter(|&number| after.semaphore(number) == Semaphore::Waiting(task))
+                .collect();
+            let waits = after.tasks().get(task).blocks().has(Block::EventWait);
+            assert_eq!(waited_on.len(), usize::from(waits));
+            assert_eq!(waited_on.first().copied().unwrap_or(0), after.tasks().get(task).waits_on);
+        }
+    });
+}
+
+#[test]
+fn queue_semaphores_are_never_done() {
+    each_step(|step| {
+        let configuration = step.after.configuration();
+        for number in configuration.nameable_semaphores()..configuration.semaphores() {
+            assert_ne!(step.after.semaphore(number + 1), Semaphore::Done);
+        }
+    });
+}
+
+#[test]
+fn tables_stay_within_their_sizes() {
+    each_step(|step| {
+        let (items, configuration) = (step.after.items(), step.after.configuration());
+        assert!(items.timers.len() <= usize::from(configuration.timers));
+        for (held, size) in items.queues.iter().zip(&configuration.queues) {
+            assert!(held.len() <= usize::from(size.depth));
+        }
+        let mut messages: Vec<u8> = items.mailboxes.concat().iter().map(|letter| letter.message).collect();
+        let lying = messages.len();
+        messages.sort_unstable();
+        messages.dedup();
+        assert_eq!(messages.len(), lying, "a message lies in two places");
+    });
+}
+
+#[test]
+fn lists_are_in_order() {
+    each_step(|step| {
+        let items = step.after.items();
+        assert!(items.timers.is_sorted_by_key(|timer| timer.tocks_left));
+        assert!(items.timers.iter().all(|timer| (1..=32_768).contains(&timer.tocks_left)));
+        assert!(items.mailboxes.iter().all(|mailbox| mailbox.is_sorted_by_key(|letter| letter.sender)));
+        assert!(items.ticks < step.after.configuration().ticks_per_tock);
+    });
+}
+
+#[test]
+fn the_cascade_counts_98_reissues() {
+    let script = cascade();
+    let mut executive = Executive::configure(&script.configuration).expect("an accepted configuration");
+    let answers: Vec<Answer> = script.frames.iter().map(|frame| executive.frame(frame)).collect();
+    assert!(answers.iter().all(|answer| answer.refusal() == 0));
+    let last = answers.last().expect("an answer");
+    assert_eq!(last.bytes(), [0, 2, 98, 3, 1]);
+}

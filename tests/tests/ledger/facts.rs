@@ -1,0 +1,122 @@
+//! What the checker is to compute: equations between the ledger's results and this implementation's.
+
+use crate::antt;
+use plain_executive::executive::Executive;
+use plain_executive::generator::Script;
+use plain_executive::items::Items;
+use plain_executive::session;
+use plain_executive::tocks::{self, Tocks};
+
+/// What stands in front of facts about sessions.
+pub const SESSIONS: &str = "\
+use Prim.Native.Nat.{ℕ}
+use Prim.Native.String.{String}
+use mathlib.Core.Path.{_≡_, refl}
+use mathlib.Core.Bool.{Bool, true, false}
+use mathlib.Core.List.{List, [], _∷_, map}
+use Rattle.ledger.specs.Ledger.{Semaphore, PENDING, DONE, WAITING, Outcome, plain, begin, message, entry, refused, semaphore, \
+Request, none, receive, dequeue, enqueue}
+use Rattle.ledger.specs.Session.{session}
+use Rattle.ledger.specs.Lines.{output}
+use Rattle.ledger.specs.Computing.Hex.{hex}
+use Rattle.ledger.specs.Computing.Quick.{everything}
+use Rattle.sessions.specs.Compared.{all, compared, task, letter, timer}
+";
+
+/// What stands in front of facts about tocks.
+pub const TIMES: &str = "\
+use Prim.Native.Nat.{ℕ}
+use mathlib.Core.Path.{_≡_, refl}
+use Rattle.ledger.specs.Time.{TockValue, none, oneShot, cyclic, tockValue, Tocks, are, refused, milliseconds}
+use Rattle.ledger.specs.Computing.Quick.{everything}
+";
+
+#[derive(Clone)]
+pub struct Fact {
+    pub name: String,
+    pub equation: String,
+    pub unfolding: &'static str,
+    /// Lines that a person can replay, and what they are answered with here.
+    pub replay: String,
+}
+
+/// What a session of an accepted configuration leads to.
+#[derive(Clone)]
+pub struct Results {
+    /// That to the configuration first.
+    pub answers: Vec<Vec<u8>>,
+    /// After the last frame.
+    pub items: Items,
+}
+
+impl Results {
+    /// Those of this implementation.
+    pub fn of(script: &Script) -> Self {
+        let mut executive = Executive::configure(&script.configuration).expect("an accepted configuration");
+        let mut answers = vec![executive.answer(0, 0).bytes().to_vec()];
+        answers.extend(script.frames.iter().map(|frame| executive.frame(frame).bytes().to_vec()));
+        Results { answers, items: executive.items() }
+    }
+}
+
+/// That the ledger leads to these results.
+pub fn session(number: usize, script: &Script, results: &Results) -> Fact {
+    let configuration = antt::digits(&script.configuration);
+    let frames = antt::list(script.frames.iter().map(|frame| antt::digits(frame)));
+    let answers = antt::list(results.answers.iter().map(|answer| antt::digits(answer)));
+    let items = antt::items(&results.items);
+    Fact {
+        name: format!("session-{number}"),
+        equation: format!("compared {configuration} {frames}\n  ≡ (map hex {answers},\n    {items})"),
+        unfolding: "all",
+        replay: replay(&script.lines()),
+    }
+}
+
+/// A frame behind a refused configuration is not answered.
+pub fn refused_configuration(number: usize, configuration: &[u8]) -> Fact {
+    let refusal = Executive::configure(configuration).expect_err("a refused configuration");
+    let frames = antt::list([antt::digits(&[0x10, 0, 0, 0, 0])]);
+    let answers = antt::list([antt::digits(&[refusal, 0, 0, 0])]);
+    Fact {
+        name: format!("configuration-{number}"),
+        equation: format!("session {} (map hex {frames}) ≡ map hex {answers}", antt::bytes(configuration)),
+        unfolding: "everything",
+        replay: format!("{}\nrefused here with {refusal}\n", antt::digits(configuration)),
+    }
+}
+
+pub fn input(number: usize, input: &[u8]) -> Fact {
+    let output = session::run(input);
+    Fact {
+        name: format!("input-{number}"),
+        equation: format!("output {} ≡ hex {}", antt::bytes(input), antt::digits(&output)),
+        unfolding: "everything",
+        replay: replay(input),
+    }
+}
+
+pub fn tock_value(number: usize, x: u16) -> Fact {
+    let value = match tocks::tock_value(x) {
+        Ok(Tocks::OneShot(tocks)) => format!("oneShot {tocks}"),
+        Ok(Tocks::Cyclic(period)) => format!("cyclic {period}"),
+        Err(_) => "none".into(),
+    };
+    let equation = format!("tockValue {x} ≡ {value}");
+    Fact { name: format!("tocks-{number}"), replay: equation.clone(), equation, unfolding: "everything" }
+}
+
+pub fn milliseconds(number: usize, milliseconds: u16, per_tock: u16) -> Fact {
+    let tocks = match tocks::tocks_of_milliseconds(milliseconds, per_tock) {
+        Ok(tocks) => format!("are {tocks}"),
+        Err(number) => format!("refused {number}"),
+    };
+    let equation = format!("milliseconds {milliseconds} {per_tock} ≡ {tocks}");
+    Fact { name: format!("milliseconds-{number}"), replay: equation.clone(), equation, unfolding: "everything" }
+}
+
+fn replay(input: &[u8]) -> String {
+    let output = session::run(input);
+    let text = String::from_utf8_lossy;
+    format!("the session's lines:\n{}\nanswered here with:\n{}", text(input), text(&output))
+}

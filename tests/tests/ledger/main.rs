@@ -1,0 +1,114 @@
+//! The ledger's own definitions, computed by the checker on random sessions: their answers byte for byte and their items
+//! afterwards are those of this implementation.
+
+mod antt;
+mod compared;
+mod facts;
+mod scratch;
+
+use facts::{Fact, Results};
+use plain_executive::coverage::Coverage;
+use plain_executive::generator::{cascade, Generator, Script};
+use plain_executive::random::Random;
+use scratch::File;
+
+const FRAMES: usize = 60;
+const FURTHER: usize = 60;
+
+/// Other seeds, by the variable SEED, give other sessions.
+fn seed() -> u64 {
+    let given = std::env::var("SEED").ok();
+    given.map_or(1, |seed| seed.parse().expect("SEED is a number")) << 32
+}
+
+/// Sessions of 126 tasks, the one with the most reissues, and small ones that together reach every situation.
+fn scripts() -> Vec<Script> {
+    let large = (0..4).map(|session| Generator::new(seed() + session).script(126..=126, FRAMES));
+    let mut scripts: Vec<Script> = large.chain([cascade()]).collect();
+    scripts.extend(small(&scripts));
+    scripts
+}
+
+/// Each of the first reaches a situation that none before it reached; some more follow.
+fn small(others: &[Script]) -> Vec<Script> {
+    let mut coverage = covered(others);
+    let (mut chosen, mut further) = (Vec::new(), Vec::new());
+    for session in 100..10_000 {
+        let tasks = if session % 50 == 0 { 126..=126 } else { 1..=20 };
+        let script = Generator::new(seed() + session).script(tasks, FRAMES);
+        let missing = coverage.missing_of_frames().len();
+        coverage.watch_script(&script);
+        if coverage.missing_of_frames().len() < missing {
+            chosen.push(script);
+        } else if further.len() < FURTHER {
+            further.push(script);
+        } else if missing == 0 {
+            break;
+        }
+    }
+    [chosen, further].concat()
+}
+
+fn covered(scripts: &[Script]) -> Coverage {
+    let mut coverage = Coverage::new();
+    scripts.iter().for_each(|script| coverage.watch_script(script));
+    coverage
+}
+
+fn sessions(scripts: &[Script]) -> Vec<Fact> {
+    let numbered = scripts.iter().enumerate();
+    numbered.map(|(number, script)| facts::session(number, script, &Results::of(script))).collect()
+}
+
+fn refused_configurations() -> Vec<Fact> {
+    let mut generator = Generator::new(seed() + 13);
+    (0..80).map(|number| facts::refused_configuration(number, &generator.refused_configuration())).collect()
+}
+
+fn inputs() -> Vec<Fact> {
+    let mut generator = Generator::new(seed() + 14);
+    (0..60).map(|number| facts::input(number, &generator.input(8))).collect()
+}
+
+fn times() -> Vec<Fact> {
+    let mut random = Random::new(seed() + 15);
+    let mut values = vec![0, 1, 0x7FFF, 0x8000, 0x8001, 0xFFFF];
+    for _ in 0..60 {
+        let bits = random.below(16);
+        values.push((random.number() as u16) >> bits);
+    }
+    let tocks = values.iter().enumerate().map(|(number, &x)| facts::tock_value(number, x));
+    let pairs = values.iter().zip(&values[1..]).map(|(&one, &other)| (one.max(other), one.min(other)));
+    tocks.chain(pairs.enumerate().map(|(number, (a, b))| facts::milliseconds(number, a, b))).collect()
+}
+
+#[test]
+fn the_ledger_computes_the_same() {
+    let scripts = scripts();
+    let sessions = sessions(&scripts);
+    let mut files: Vec<File> = sessions.chunks(8).map(|group| (facts::SESSIONS, group.to_vec())).collect();
+    files.push((facts::SESSIONS, refused_configurations()));
+    files.push((facts::SESSIONS, inputs()));
+    files.push((facts::TIMES, times()));
+    if let Err(difference) = scratch::check("ledger-sessions", &files) {
+        panic!("{difference}");
+    }
+    let missing = covered(&scripts).missing_of_frames();
+    assert!(missing.is_empty(), "not compared: {missing:#?}");
+}
+
+/// The comparison can fail: on one altered byte of an answer, and on one altered item.
+#[test]
+fn an_altered_session_is_found() {
+    let script = Generator::new(seed()).script(5..=5, 12);
+    let honest = Results::of(&script);
+    let mut altered = [honest.clone(), honest.clone()];
+    altered[0].answers[7][1] ^= 1;
+    altered[1].items.ticks ^= 1;
+    for (number, results) in (1..).zip(&altered) {
+        let facts = [facts::session(0, &script, &honest), facts::session(number, &script, results)];
+        let found = scratch::check("ledger-altered", &[(facts::SESSIONS, facts.to_vec())]);
+        let difference = found.expect_err("a difference");
+        assert!(difference.starts_with(&format!("session-{number} differs")), "{difference}");
+    }
+}
