@@ -24,3 +24,6 @@ pub mod Steps
 pub mod Kept
 pub mod HandedOut
 pub mod Sound
+-- lines and frames are inverse to each other (written-reads-back, read-is-the-line); a tock value at every width (negative, lowest)
+pub mod Lines
+pub mod TockValues

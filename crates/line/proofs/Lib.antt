@@ -1,0 +1,4 @@
+pub mod Front
+pub mod Pairs
+pub mod Digits
+pub mod Giving

@@ -1,0 +1,81 @@
+// Numbers of tocks: the tock value of a frame and milliseconds as tocks.
+// Promises: each answer is the ledger's own (Time) of the same bits or numbers, for every input.
+// Rests on the checker's reading of a signed number's bits.
+ghost use mathlib.Core.Path.{_≡_};
+ghost use Prim.Native.Nat.{_+_, _*_, _/_, _<_};
+ghost use mir.Syntax.{w16};
+ghost use mir.Val.{ofZ, toZ};
+ghost use Rattle.ledger.specs.Time as time;
+ghost use Rattle.tocks.specs.Views.{tockView, tocksView};
+
+// What a tock value asks for: nothing, or one expiry, or one each period.
+pub enum TockValue {
+    None,
+    OneShot(u32),
+    Cyclic(u32),
+}
+
+// A number of tocks, or the number of a refusal.
+pub enum Tocks {
+    Are(u16),
+    Refused(u8),
+}
+
+// Positive is one-shot, negative is cyclic with the opposite number as its period: -32,768 is cyclic, 32,768.
+pub fn tock_value(x: i16) -> TockValue
+    ensures { λ r. ⌜ tockView r ≡ time.tockValue (ofZ w16 x) ⌝ }
+{
+    if x == 0 {
+        return TockValue::None;
+    }
+    if 0 < x {
+        return TockValue::OneShot(x as u32);
+    }
+    // The opposite is taken in the wider type: -32,768 has none in 16 bits.
+    let period = x as i32;
+    let period = -period;
+    TockValue::Cyclic(period as u32)
+}
+
+// The number that two bytes of a frame are, high first.
+pub fn signed_word(high: u8, low: u8) -> i16
+    ensures { λ r. ⌜ r ≡ toZ w16 (256 * high + low) ⌝ }
+{
+    let bits = 256 * (high as u16) + (low as u16);
+    if bits < 0x8000 {
+        return bits as i16;
+    }
+    -1 - ((0xFFFF - bits) as i16)
+}
+
+// The tock value of two bytes of a frame, high first.
+pub fn tock_value_at(high: u8, low: u8) -> TockValue
+    ensures { λ r. ⌜ tockView r ≡ time.tockValue (256 * high + low) ⌝ }
+{
+    tock_value(signed_word(high, low))
+}
+
+// The whole tocks in some milliseconds.
+fn whole_tocks(ms: u16, per: u16) -> u16
+    requires { ⌜ 0 < per ⌝ }
+    ensures { λ r. ⌜ r ≡ ms / per ⌝ }
+{
+    ms / per
+}
+
+// Milliseconds as tocks of `per` milliseconds each.
+pub fn milliseconds(ms: u16, per: u16) -> Tocks
+    ensures { λ r. ⌜ tocksView r ≡ time.milliseconds ms per ⌝ }
+{
+    if per == 0 {
+        return Tocks::Refused(3);
+    }
+    let tocks = whole_tocks(ms, per);
+    if tocks == 0 {
+        return Tocks::Refused(10);
+    }
+    if 32767 < tocks {
+        return Tocks::Refused(10);
+    }
+    Tocks::Are(tocks)
+}
