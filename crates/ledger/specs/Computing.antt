@@ -1,4 +1,5 @@
--- To compute the ledger on long sessions.
+-- To compute the ledger, also on long sessions, and to write sessions as the document does.
 pub mod Hex
 pub mod Force
 pub mod Quick
+pub mod Sessions

@@ -4,42 +4,35 @@ use Prim.Native.String.{String}
 use mathlib.Core.Path.{_≡_, refl}
 use mathlib.Core.List.{List, [], _∷_, _++_, map}
 use lib.ListN.{replicate}
-use Rattle.ledger.specs.Config.{configIn, configRefusal}
-use Rattle.ledger.specs.Ledger.{Semaphore, PENDING, DONE, Message, Timer, Ledger, semaphoreOf, mailbox}
-use Rattle.ledger.specs.Session.{run, session}
+use Rattle.ledger.specs.Config.{configRefusal}
+use Rattle.ledger.specs.Ledger.{PENDING, DONE, semaphoreOf, mailbox}
+use Rattle.ledger.specs.Session.{session}
+use Rattle.ledger.specs.Lines.{output}
 use Rattle.ledger.specs.Time.{are, refused, milliseconds}
-use Rattle.ledger.specs.Computing.Hex.{hex}
+use Rattle.ledger.specs.Computing.Hex.{hex, text}
 use Rattle.ledger.specs.Computing.Quick.{everything}
+use Rattle.ledger.specs.Computing.Sessions.{after, two, period, number-of}
 
--- lines of a session, and the ledger after one
+-- lines of a session
 abbrev answers : String → List String → List (List ℕ)
 answers g fs = session (hex g) (map hex fs)
 
 abbrev lines : List String → List (List ℕ)
 lines ls = map hex ls
 
-abbrev after : String → List String → Ledger
-after g fs = run (configIn (hex g)) (map hex fs) .0
-
--- one named semaphore and one queue of one byte: 2 tasks and 1 message; 3 tasks and 3 messages. T 126, Q 1
-abbrev two : String
-two = "020101010101007D00000101"
-
+-- as `two`, with 3 tasks and 3 messages. T 126, Q 1
 abbrev three : String
 three = "030101010301007D0000000101"
 
 abbrev large : ℕ → List ℕ
 large s = (126 ∷ s ∷ 1 ∷ 0 ∷ 0 ∷ 1 ∷ 0 ∷ 125 ∷ []) ++ replicate 126 0 ++ (1 ∷ 1 ∷ [])
 
-abbrev period : Timer → ℕ × ℕ
-period t = (t .due, t .period)
-
-abbrev number-of : Message → ℕ
-number-of m = m .number
-
 pub record Table : Type 0 where
   the-session : answers two ("0701000000" ∷ "080100000041" ∷ "0D00000002" ∷ "1000000000" ∷ "1000000000" ∷ "0702000000" ∷ [])
       ≡ lines ("00010001" ∷ "00020001" ∷ "0001010341" ∷ "00020000" ∷ "00020000" ∷ "00010000" ∷ "07010000" ∷ [])
+  -- the same session, as the bytes that the session program reads and writes
+  the-session-in-bytes : output (text (two ∷ "0701000000" ∷ "080100000041" ∷ "0D00000002" ∷ "1000000000" ∷ "1000000000" ∷ "0702000000" ∷ []))
+      ≡ text ("00010001" ∷ "00020001" ∷ "0001010341" ∷ "00020000" ∷ "00020000" ∷ "00010000" ∷ "07010000" ∷ [])
   signal-on-PENDING : semaphoreOf (after two ("0200010000" ∷ [])) 1 ≡ DONE
   signal-on-DONE : semaphoreOf (after two ("0200010000" ∷ "0200010000" ∷ [])) 1 ≡ DONE
   wait-on-DONE : semaphoreOf (after two ("0200010000" ∷ "0100010000" ∷ [])) 1 ≡ PENDING
@@ -63,6 +56,7 @@ pub the-table : Table
 unfolding everything
 the-table = record {
   the-session = refl;
+  the-session-in-bytes = refl;
   signal-on-PENDING = refl;
   signal-on-DONE = refl;
   wait-on-DONE = refl;

@@ -9,5 +9,6 @@ pub mod Session
 pub mod Lines
 -- What is proved of them, and how they are computed.
 pub mod Examples
+pub mod Readings
 pub mod Theorems
 pub mod Computing

@@ -10,8 +10,9 @@ use lib.ListN.{length, length-map, length-replicate}
 use Rattle.ledger.specs.Config.{Config}
 use Rattle.ledger.specs.Ledger.{Semaphore, PENDING, DONE, WAITING, Outcome, plain, refused, Request, none, receive, dequeue, enqueue, Task, Message, Queue, Timer, Ledger, semaphoreOf, running, setTask, setSemaphores, setSemaphore, setMailbox, setQueue, setTimers, setClock, setBlocks, setOutcome, setSlot, setRequest, setSuspended, setEventWait, setMessageWait, fresh}
 use Rattle.ledger.specs.Services.{waitFor, signalled, signal, woken, wakeWaiter, waited, wait, withdrawWait, send, takeEntry, putEntry, received, dequeued, enqueued, issue, terminate, execute, insertTimer, startTimer, purge, insertAgain, expire, expireAll, tock, tick, Code, WAIT, SIGNAL, PEND, SEND, SENDW, RECEIVE, DEQUEUE, ENQUEUE, RESUME, SUSPEND, TERMINATE, EXECUTE, DELAY, TIMER, PURGE, TICK, EXIT, effect}
+use Rattle.ledger.specs.Lists.{byte}
 use Rattle.ledger.specs.Refusals.{isService, refusal}
-use Rattle.ledger.specs.Session.{Settles, openRequest, isOpen, refused21, issueAgain, reissue, settle, accept, Stepped, step, runFrom, run}
+use Rattle.ledger.specs.Session.{Settles, openRequest, isOpen, refused21, issueAgain, reissue, settle, answer, accept, Stepped, step, runFrom, run}
 use Rattle.ledger.specs.Theorems.Items.{put-length}
 use Rattle.ledger.specs.Theorems.Checks.{cond-both}
 use Rattle.ledger.specs.Theorems.Settling.{settles}
@@ -216,3 +217,9 @@ pub step-settles : (c : Config) (f : List ℕ) (l : Ledger) → length (l .tasks
     → Settles c (accept c f l) (settle (2 * c .T) c (accept c f l) .reissues) (settle (2 * c .T) c (accept c f l) .ledger)
 unfolding sizes
 step-settles c f l h = settles c (accept c f l) (ap (λ s. s .tasks) (of-accept c f l) ∙ h)
+
+-- so an accepted frame ends where the while loop ends, and its answer carries the loop's count
+pub step-is-the-loop : (c : Config) (f : List ℕ) (l : Ledger) → length (l .tasks) ≡ c .T → refusal c l f ≡ 0
+    → Settles c (accept c f l) (byte 2 (step c f l .answered)) (step c f l .ledger)
+unfolding step answer
+step-is-the-loop c f l h e = rw e (step-settles c f l h)

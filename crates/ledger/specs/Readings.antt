@@ -1,0 +1,230 @@
+-- Where document 01 leaves room, what we read in it: a row for each point, shown by a short session and proved by computing both sides.
+-- docs/DECISIONS.md gives the reasons, under the same headings.
+use Prim.Native.Nat.{ℕ}
+use Prim.Native.String.{String}
+use mathlib.Core.Path.{_≡_, refl}
+use mathlib.Core.List.{List, [], _∷_, map}
+use mathlib.Core.Option.{none as nothing, some}
+use lib.ListN.{replicate, take}
+use Rattle.ledger.specs.Config.{Config, configIn, configRefusal}
+use Rattle.ledger.specs.Ledger.{Semaphore, PENDING, DONE, WAITING, Outcome, begin, Request, dequeue, Timer, Ledger, task, semaphoreOf, mailbox, queue, held, fresh}
+use Rattle.ledger.specs.Session.{runFrom}
+use Rattle.ledger.specs.Lines.{number, result, frameOf, lineOf, readLine, writeLine, output}
+use Rattle.ledger.specs.Computing.Hex.{hex, letters, text}
+use Rattle.ledger.specs.Computing.Quick.{everything}
+use Rattle.ledger.specs.Computing.Sessions.{after, two, period, number-of}
+
+-- a frame and its answer; a session of them behind a configuration
+infix 68 _▸_
+abbrev _▸_ : String → String → String × String
+frame ▸ told = (frame, told)
+
+abbrev Talk : String → List (String × String) → Type 0
+Talk g rows =
+    let c = configIn (hex g) in
+    runFrom c (fresh c) (map (λ r. hex (r .0)) rows) .1 ≡ map (λ r. hex (r .1)) rows
+
+-- T 3, S 2, Q 1, R 3, G 3, K 1; a queue of one byte. Semaphores 1 and 2 are named, 3 to 5 belong to the tasks, 6 is not-empty, 7 not-full
+abbrev room : String
+room = "030201030301007D0000000101"
+
+-- T 1, S 0, Q 2, R 0, G 0, K 3; three entries of two bytes, and one of one byte
+abbrev bare : String
+bare = "010002000003007D0002030101"
+
+-- task and semaphore of a timer
+abbrev on : Timer → ℕ × ℕ
+on t = (t .task, t .semaphore)
+
+-- the clock: tocks since the start, ticks in the present tock
+abbrev clock : Ledger → ℕ × ℕ
+clock l = (l .N, l .ticks)
+
+pub record Table : Type 0 where
+  -- ---- tasks
+
+  -- 25 ($19): event wait, message wait and idle, but not suspended
+  a-suspended-task-may-be-delayed : Talk room ("0A02000000" ▸ "00010000" ∷ "0D02000002" ▸ "00010000" ∷ [])
+  a-waiting-task-may-not-be-delayed : Talk room ("0100010000" ▸ "00020001" ∷ "0D01000002" ▸ "19020001" ∷ [])
+  nor-one-that-waits-for-a-message : Talk room ("0600000000" ▸ "00020001" ∷ "0D01000002" ▸ "19020001" ∷ [])
+  nor-an-idle-one : Talk room ("0B02000000" ▸ "00010000" ∷ "0D02000002" ▸ "19010000" ∷ [])
+  -- task 2 waits on the empty queue and is woken by a put; before it runs, task 1 delays it. When it runs at last, its dequeue is issued again
+  a-woken-task-with-an-open-request-may-be-delayed : Talk room ("0100010000" ▸ "00020001" ∷ "0701000000" ▸ "00030001" ∷ "1100010000" ▸ "0001000501"
+      ∷ "080100000041" ▸ "00010000" ∷ "0D02000001" ▸ "00010000" ∷ "0100010000" ▸ "00030001" ∷ "1000000000" ▸ "0002010341" ∷ [])
+  delay-of-another-sets-the-callers-outcome : Talk room ("0D02000002" ▸ "00010000" ∷ [])
+  and-leaves-the-others : task (after room ("0D02000002" ∷ [])) 2 .outcome ≡ begin
+  -- send, receive and resume; but not execute, nor execute of 0
+  a-task-may-name-itself : Talk room ("0401000001" ▸ "0001000503" ∷ "0601000000" ▸ "00010002010103" ∷ "0901000000" ▸ "00010000" ∷ [])
+  but-not-execute-itself : Talk room ("0C01000000" ▸ "05010001" ∷ "0C00000000" ▸ "05010001" ∷ [])
+  an-idle-task-may-be-suspended-terminated-and-timed : Talk room ("0B02000000" ▸ "00010000" ∷ "0A02000000" ▸ "00010000" ∷ "0B02000000" ▸ "00010000" ∷ "0E02000005" ▸ "00010000" ∷ [])
+  execute-restarts-a-waiting-task : Talk room ("0100010000" ▸ "00020001" ∷ "0C01000000" ▸ "00010001" ∷ [])
+  and-its-semaphore-is-PENDING : semaphoreOf (after room ("0100010000" ∷ "0C01000000" ∷ [])) 1 ≡ PENDING
+  -- task 1 starts a timer of task 3 on task 2's semaphore and one of task 2; then it terminates task 2
+  terminate-leaves-timers-of-others-on-its-semaphore : map on (after room ("0E03040005" ∷ "0E02010005" ∷ "0B02000000" ∷ []) .timers) ≡ (3, 4) ∷ []
+  and-the-messages-that-the-task-sent : map number-of (mailbox (after room ("0100010000" ∷ "0403000001" ∷ "0B00000000" ∷ [])) 3) ≡ 1 ∷ []
+  but-not-the-semaphore-WAITING : semaphoreOf (after room ("0100010000" ∷ "0B01000000" ∷ [])) 1 ≡ PENDING
+  terminate-and-execute-leave-the-slot : take 2 (task (after room ("080100000041" ∷ "0701000000" ∷ "0B00000000" ∷ "0C01000000" ∷ [])) 1 .slot) ≡ 0x41 ∷ 0 ∷ []
+  -- ---- semaphores
+
+  -- the number that B = 0 means is stored and shown: task 1's is 3
+  zero-is-shown-as-the-tasks-own : Talk room ("0402000001" ▸ "0001000503" ∷ "0100000000" ▸ "00020001" ∷ "1100030000" ▸ "0001000503" ∷ [])
+  sendw-waits-even-on-DONE : Talk room ("0200030000" ▸ "00010000" ∷ "0502000001" ▸ "00020001" ∷ [])
+  and-delay-does : semaphoreOf (after room ("0200030000" ∷ "0D00000002" ∷ [])) 3 ≡ WAITING 1
+  -- 21 ($15): task 1 waits on semaphore 1, task 2 calls
+  wait-pend-sendw-and-delay-meet-21 : Talk room ("0100010000" ▸ "00020001" ∷ "0100010000" ▸ "15020001" ∷ "0300010000" ▸ "15020001" ∷ "0503010001" ▸ "15020001" ∷ "0D00010002" ▸ "15020001" ∷ [])
+  send-timer-purge-and-signal-do-not : Talk room ("0100010000" ▸ "00020001" ∷ "0403010001" ▸ "0002000501" ∷ "0E00010002" ▸ "00020000" ∷ "0F00010001" ▸ "00020000" ∷ "0200010000" ▸ "0001000501" ∷ [])
+  semaphores-of-other-tasks-may-be-named : Talk room ("0200040000" ▸ "00010000" ∷ "0200050000" ▸ "00010000" ∷ "0200060000" ▸ "06010000" ∷ [])
+  the-interrupt-exit-names-no-queues-semaphore : Talk room ("1100060000" ▸ "06010001" ∷ "1100050000" ▸ "00010001" ∷ [])
+  and-0-signals-nothing : after room ("1100000000" ∷ []) ≡ after room []
+  a-tick-and-an-interrupt-exit-set-no-outcome : Talk room ("1000000000" ▸ "00010001" ∷ "1100010000" ▸ "00010001" ∷ [])
+  -- 20 ($14): all tasks wait
+  the-null-task-may-tick-but-not-call : Talk room ("0100000000" ▸ "00020001" ∷ "0100000000" ▸ "00030001" ∷ "0100000000" ▸ "00000000" ∷ "0200010000" ▸ "14000000" ∷ "1000000000" ▸ "00000000" ∷ "1100030000" ▸ "0001000503" ∷ [])
+  -- ---- messages
+
+  -- two of one sender, then none
+  receive-takes-the-first-message : Talk room ("0401000001" ▸ "0001000503" ∷ "0401000002" ▸ "0001000503" ∷ "0600000000" ▸ "00010002010103" ∷ "0600000000" ▸ "00010002020103" ∷ "0600000000" ▸ "00020001" ∷ [])
+  -- tasks 1 and 2 send 1 and 2 to task 3, which asks for task 2's
+  or-the-first-from-the-wanted-sender : Talk room ("0403000001" ▸ "0001000503" ∷ "0100010000" ▸ "00020001" ∷ "0403000002" ▸ "0002000504" ∷ "0100020000" ▸ "00030001" ∷ "0602000000" ▸ "00030002020204" ∷ "0600000000" ▸ "00030002010103" ∷ [])
+  -- task 1 wants one from task 3; task 2 writes
+  a-wrong-sender-wakes-the-receiver-which-waits-again : Talk room ("0603000000" ▸ "00020001" ∷ "0401000001" ▸ "0002010504" ∷ [])
+  -- 22 ($16)
+  a-message-lies-in-one-mailbox-only : Talk room ("0402000001" ▸ "0001000503" ∷ "0403000001" ▸ "1601000503" ∷ [])
+  all-16-bits-of-X-are-the-message : Talk room ("0402000101" ▸ "08010001" ∷ "0402000000" ▸ "08010001" ∷ "0402000004" ▸ "08010001" ∷ [])
+  -- ---- queues
+
+  a-queues-semaphore-is-not-DONE-after-an-enqueue : semaphoreOf (after room ("080100000041" ∷ [])) 6 ≡ PENDING
+  nor-after-a-dequeue : semaphoreOf (after room ("080100000041" ∷ "0701000000" ∷ [])) 7 ≡ PENDING
+  -- task 2 waits on the empty queue; task 1 puts and goes on
+  an-entry-lies-in-the-queue-until-the-woken-task-runs : held (queue (after room ("0100010000" ∷ "0701000000" ∷ "1100010000" ∷ "080100000041" ∷ [])) 1) ≡ (0x41 ∷ []) ∷ []
+  and-its-request-stays-open : task (after room ("0100010000" ∷ "0701000000" ∷ "1100010000" ∷ "080100000041" ∷ [])) 2 .request ≡ dequeue 1
+  a-first-issue-that-meets-21-is-a-refused-frame : Talk room ("0701000000" ▸ "00020001" ∷ "0701000000" ▸ "15020001" ∷ [])
+  and-so-is-an-enqueue : Talk room ("080100000041" ▸ "00010000" ∷ "080100000042" ▸ "00020001" ∷ "080100000043" ▸ "15020001" ∷ [])
+  -- task 1 wakes tasks 2 and 3, takes the entry itself and waits: task 2 waits again, task 3 has its message
+  two-reissues-in-one-frame : Talk room ("0100010000" ▸ "00020001" ∷ "0701000000" ▸ "00030001" ∷ "0600000000" ▸ "00000000" ∷ "1100010000" ▸ "0001000501"
+      ∷ "080100000041" ▸ "00010000" ∷ "0403000001" ▸ "0001000503" ∷ "0701000000" ▸ "0001000341" ∷ "0100010000" ▸ "00030202010103" ∷ [])
+  the-slots-other-bytes-stay : take 3 (task (after bare ("08010000004142" ∷ "0701000000" ∷ "080200000043" ∷ "0702000000" ∷ [])) 1 .slot) ≡ 0x43 ∷ 0x42 ∷ 0 ∷ []
+  handed-out-is-what-was-copied-into-slots : queue (after bare ("08010000004142" ∷ "08010000004344" ∷ "0701000000" ∷ [])) 1 .handedOut ≡ (0x41 ∷ 0x42 ∷ []) ∷ []
+  -- ---- timers
+
+  purge-with-B-0-removes-the-timer-on-the-tasks-own : map on (after room ("0E00000005" ∷ "0E00010005" ∷ "0E02010005" ∷ "0F00000001" ∷ []) .timers) ≡ (1, 1) ∷ (2, 1) ∷ []
+  purge-ignores-the-high-byte-of-X : map on (after room ("0E00000005" ∷ "0E00010005" ∷ "0E02010005" ∷ "0F00000100" ∷ []) .timers) ≡ (2, 1) ∷ []
+  purge-checks-A-and-B-always : Talk room ("0F04000000" ▸ "05010001" ∷ "0F00060000" ▸ "06010001" ∷ [])
+  after-a-purge-a-waiting-task-keeps-waiting : Talk room ("0D00000001" ▸ "00020001" ∷ "0F01000000" ▸ "00020000" ∷ "1000000000" ▸ "00020000" ∷ [])
+  -- 24 ($18) is on the task and the semaphore that A and B mean, and comes before 23 ($17); a freed record is free
+  one-timer-for-a-task-and-a-semaphore : Talk room ("0E00000005" ▸ "00010000" ∷ "0E01030007" ▸ "18010000" ∷ "0E00010005" ▸ "00010000" ∷ "0E02010005" ▸ "00010000" ∷ "0E02010005" ▸ "18010000"
+      ∷ "0E02020005" ▸ "17010000" ∷ "0F00000000" ▸ "00010000" ∷ "0E02020005" ▸ "00010000" ∷ [])
+  with-R-0-there-is-no-timer : Talk bare ("0D00000001" ▸ "17010001" ∷ "0E00000001" ▸ "17010001" ∷ "0E00000000" ▸ "09010001" ∷ [])
+  -- R is 1, and in use: period 2, three tocks
+  a-cyclic-timer-keeps-its-period : map period (after two ("0E0001FFFE" ∷ "1000000000" ∷ "1000000000" ∷ "1000000000" ∷ []) .timers) ≡ (4, 2) ∷ []
+  -- the timer is task 3's, the waiter task 1
+  a-timer-wakes-whoever-waits : Talk room ("0E03010001" ▸ "00010000" ∷ "0100010000" ▸ "00020001" ∷ "1000000000" ▸ "0001000501" ∷ [])
+  ticks-are-counted-up : clock (after bare ("1000000000" ∷ "1000000000" ∷ [])) ≡ (0, 2)
+  and-a-tock-passes-after-K : clock (after bare ("1000000000" ∷ "1000000000" ∷ "1000000000" ∷ [])) ≡ (1, 0)
+  -- ---- lines
+
+  a-line-that-is-no-frame-is-1-and-the-session-goes-on : output (text (two ∷ "070100000" ∷ "0d00000002" ∷ "0701000000 " ∷ "0701000000\r" ∷ "0701000000" ∷ []))
+      ≡ text ("00010001" ∷ "01010001" ∷ "01010001" ∷ "01010001" ∷ "01010001" ∷ "00020001" ∷ [])
+  an-empty-line-is-2 : output (text (two ∷ "" ∷ "0701000000" ∷ [])) ≡ text ("00010001" ∷ "02010001" ∷ "00020001" ∷ [])
+  as-the-first-line-it-ends-the-session : output (text ("" ∷ two ∷ [])) ≡ text ("02000000" ∷ [])
+  and-so-does-one-that-is-no-frame : output (text ("0" ∷ two ∷ [])) ≡ text ("01000000" ∷ [])
+  the-last-line-needs-no-end : output (letters two) ≡ text ("00010001" ∷ [])
+  empty-input-prints-nothing : output [] ≡ []
+  a-line-has-at-most-400-digits : frameOf (replicate 402 0x30) ≡ nothing
+  and-may-have-400 : frameOf (replicate 400 0x30) ≡ some (replicate 200 0)
+  a-frame-above-200-bytes-has-no-line : lineOf (replicate 201 0) ≡ nothing
+  reading-tests-1-before-11 : readLine 0 (letters "0") ≡ number 1
+  then-the-room : readLine 4 (letters "0701000000") ≡ number 11
+  and-writing-too : writeLine 9 (hex "0701000000") ≡ number 11
+  just-enough-room : writeLine 10 (hex "0701000000") ≡ result (letters "0701000000")
+  -- ---- refusals
+
+  a-refused-frame-shows-the-outcome-as-it-was : Talk room ("080100000041" ▸ "00010000" ∷ "0701000000" ▸ "0001000341" ∷ "0702000000" ▸ "0701000341" ∷ "0702000000" ▸ "0701000341" ∷ [])
+  shorter-than-5-then-4-then-longer-than-5 : Talk room ("12000000" ▸ "02010001" ∷ "120000000000" ▸ "04010001" ∷ "000000000000" ▸ "04010001" ∷ "020000000000" ▸ "02010001" ∷ [])
+  a-bare-enqueue-meets-7-before-2 : Talk room ("0802000000" ▸ "07010001" ∷ "0801000000" ▸ "02010001" ∷ [])
+  and-20-before-both : Talk bare ("0100000000" ▸ "00000000" ∷ "0803000000" ▸ "14000000" ∷ "0801000000" ▸ "14000000" ∷ [])
+  queue-0-is-7 : Talk room ("0700000000" ▸ "07010001" ∷ "0800000000" ▸ "07010001" ∷ [])
+  S-may-be-0 : configRefusal (hex "010000000001000100") ≡ 0
+  S-may-be-254 : configRefusal (hex "01FE00000001000100") ≡ 0
+  the-sum-is-tested-before-the-length : configRefusal (hex "01FF000000010001") ≡ 3
+  queues-may-have-4096-bytes : configRefusal (hex "01000200000100010010FF1001") ≡ 0
+  more-is-3 : configRefusal (hex "01000200000100010010FF1002") ≡ 3
+  but-tested-after-the-length : configRefusal (hex "01000200000100010010FF100200") ≡ 2
+
+pub the-table : Table
+unfolding everything
+the-table = record {
+  a-suspended-task-may-be-delayed = refl;
+  a-waiting-task-may-not-be-delayed = refl;
+  nor-one-that-waits-for-a-message = refl;
+  nor-an-idle-one = refl;
+  a-woken-task-with-an-open-request-may-be-delayed = refl;
+  delay-of-another-sets-the-callers-outcome = refl;
+  and-leaves-the-others = refl;
+  a-task-may-name-itself = refl;
+  but-not-execute-itself = refl;
+  an-idle-task-may-be-suspended-terminated-and-timed = refl;
+  execute-restarts-a-waiting-task = refl;
+  and-its-semaphore-is-PENDING = refl;
+  terminate-leaves-timers-of-others-on-its-semaphore = refl;
+  and-the-messages-that-the-task-sent = refl;
+  but-not-the-semaphore-WAITING = refl;
+  terminate-and-execute-leave-the-slot = refl;
+  zero-is-shown-as-the-tasks-own = refl;
+  sendw-waits-even-on-DONE = refl;
+  and-delay-does = refl;
+  wait-pend-sendw-and-delay-meet-21 = refl;
+  send-timer-purge-and-signal-do-not = refl;
+  semaphores-of-other-tasks-may-be-named = refl;
+  the-interrupt-exit-names-no-queues-semaphore = refl;
+  and-0-signals-nothing = refl;
+  a-tick-and-an-interrupt-exit-set-no-outcome = refl;
+  the-null-task-may-tick-but-not-call = refl;
+  receive-takes-the-first-message = refl;
+  or-the-first-from-the-wanted-sender = refl;
+  a-wrong-sender-wakes-the-receiver-which-waits-again = refl;
+  a-message-lies-in-one-mailbox-only = refl;
+  all-16-bits-of-X-are-the-message = refl;
+  a-queues-semaphore-is-not-DONE-after-an-enqueue = refl;
+  nor-after-a-dequeue = refl;
+  an-entry-lies-in-the-queue-until-the-woken-task-runs = refl;
+  and-its-request-stays-open = refl;
+  a-first-issue-that-meets-21-is-a-refused-frame = refl;
+  and-so-is-an-enqueue = refl;
+  two-reissues-in-one-frame = refl;
+  the-slots-other-bytes-stay = refl;
+  handed-out-is-what-was-copied-into-slots = refl;
+  purge-with-B-0-removes-the-timer-on-the-tasks-own = refl;
+  purge-ignores-the-high-byte-of-X = refl;
+  purge-checks-A-and-B-always = refl;
+  after-a-purge-a-waiting-task-keeps-waiting = refl;
+  one-timer-for-a-task-and-a-semaphore = refl;
+  with-R-0-there-is-no-timer = refl;
+  a-cyclic-timer-keeps-its-period = refl;
+  a-timer-wakes-whoever-waits = refl;
+  ticks-are-counted-up = refl;
+  and-a-tock-passes-after-K = refl;
+  a-line-that-is-no-frame-is-1-and-the-session-goes-on = refl;
+  an-empty-line-is-2 = refl;
+  as-the-first-line-it-ends-the-session = refl;
+  and-so-does-one-that-is-no-frame = refl;
+  the-last-line-needs-no-end = refl;
+  empty-input-prints-nothing = refl;
+  a-line-has-at-most-400-digits = refl;
+  and-may-have-400 = refl;
+  a-frame-above-200-bytes-has-no-line = refl;
+  reading-tests-1-before-11 = refl;
+  then-the-room = refl;
+  and-writing-too = refl;
+  just-enough-room = refl;
+  a-refused-frame-shows-the-outcome-as-it-was = refl;
+  shorter-than-5-then-4-then-longer-than-5 = refl;
+  a-bare-enqueue-meets-7-before-2 = refl;
+  and-20-before-both = refl;
+  queue-0-is-7 = refl;
+  S-may-be-0 = refl;
+  S-may-be-254 = refl;
+  the-sum-is-tested-before-the-length = refl;
+  queues-may-have-4096-bytes = refl;
+  more-is-3 = refl;
+  but-tested-after-the-length = refl;
+}
