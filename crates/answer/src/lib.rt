@@ -1,0 +1,149 @@
+// The answer to a frame, written into a lent block: its length in byte 0, the answer from byte 1 on.
+// Promises: it is the ledger's answer, byte by byte, for every ledger that the memory shows; the bytes behind it stay.
+// Rests on tables for the running task and its outcome, and on rows for the copy of an entry.
+use tables::shape::Shape;
+use tables::tasks::Outcome;
+ghost use mathlib.Core.Path.{_≡_};
+ghost use mathlib.Core.List.{List, [], _∷_};
+ghost use Prim.Native.Nat.{ℕ, _-_, _*_, _≤_};
+ghost use lib.ListN.{length, take};
+ghost use Rattle.rows.specs.Splice.{splice};
+ghost use Rattle.rows.specs.Rows.{rowAt};
+ghost use Rattle.tables.specs.Decode.{viewOutcome};
+ghost use Rattle.tables.specs.Layout.{Fits};
+ghost use Rattle.tables.specs.Shows.{Shows, Tells};
+ghost use Rattle.ledger.specs.Config.{Config};
+ghost use Rattle.ledger.specs.Ledger as ledger;
+ghost use Rattle.ledger.specs.Ledger.{Ledger};
+ghost use Rattle.ledger.specs.Session as session;
+ghost use Rattle.answer.specs.Written.{written, parts, line, narrow};
+
+// What stands before the outcome.
+struct Head {
+    number: u8,
+    running: u8,
+    reissues: u8,
+}
+
+fn put_head(answer: &mut [u8], n: u8, head: Head, kind: u8)
+    requires { ⌜ 21 ≤ length (now answer) ⌝ }
+    ensures { λ _. ⌜ now (answer .exit) ≡ splice (now (answer .entry)) 0 (n ∷ parts head kind []) ⌝ }
+{
+    answer[0] = n;
+    answer[1] = head.number;
+    answer[2] = head.running;
+    answer[3] = head.reissues;
+    answer[4] = kind;
+}
+
+// A kind without a value.
+fn put_kind(answer: &mut [u8], head: Head, kind: u8)
+    requires { ⌜ 21 ≤ length (now answer) ⌝ }
+    ensures { λ _. ⌜ now (answer .exit) ≡ written (parts head kind []) (now (answer .entry)) ⌝ }
+{
+    put_head(answer, 4, head, kind);
+}
+
+fn put_message(answer: &mut [u8], head: Head, message: u8, sender: u8, semaphore: u8)
+    requires { ⌜ 21 ≤ length (now answer) ⌝ }
+    ensures { λ _. ⌜ now (answer .exit) ≡ written (line head (ledger.message message sender semaphore)) (now (answer .entry)) ⌝ }
+{
+    put_head(answer, 7, head, 2);
+    answer[5] = message;
+    answer[6] = sender;
+    answer[7] = semaphore;
+}
+
+// The bytes of an entry, 16 at most.
+fn narrowed(width: u8) -> u8
+    ensures { λ r. ⌜ (r ≡ narrow width) × (r ≤ 16) ⌝ }
+{
+    if width <= 16 {
+        return width;
+    }
+    16
+}
+
+// The entry in the slot of task t.
+fn put_entry(answer: &mut [u8], head: Head, width: u8, slots: &[u8], t: usize)
+    requires { ⌜ (21 ≤ length (now answer)) × (1 ≤ t) × (16 * t ≤ length (now slots)) ⌝ }
+    ensures { λ _. ⌜ now (answer .exit) ≡ written (line head (ledger.entry (take width (rowAt 16 (t - 1) (now (slots .entry)))))) (now (answer .entry)) ⌝ }
+{
+    let w = narrowed(width);
+    put_head(answer, w + 4, head, 3);
+    let at = (t - 1) * 16;
+    let end = at + w as usize;
+    rows::copy_in(&slots[at..end], answer, 5);
+}
+
+fn put_refused(answer: &mut [u8], head: Head, number: u8)
+    requires { ⌜ 21 ≤ length (now answer) ⌝ }
+    ensures { λ _. ⌜ now (answer .exit) ≡ written (line head (ledger.refused number)) (now (answer .entry)) ⌝ }
+{
+    put_head(answer, 5, head, 4);
+    answer[5] = number;
+}
+
+fn put_semaphore(answer: &mut [u8], head: Head, semaphore: u8)
+    requires { ⌜ 21 ≤ length (now answer) ⌝ }
+    ensures { λ _. ⌜ now (answer .exit) ≡ written (line head (ledger.semaphore semaphore)) (now (answer .entry)) ⌝ }
+{
+    put_head(answer, 5, head, 5);
+    answer[5] = semaphore;
+}
+
+// An outcome of task t.
+fn put_outcome(answer: &mut [u8], head: Head, o: Outcome, slots: &[u8], t: usize)
+    requires { ⌜ (21 ≤ length (now answer)) × (1 ≤ t) × (16 * t ≤ length (now slots)) ⌝ }
+    ensures { λ _. ⌜ now (answer .exit) ≡ written (line head (viewOutcome o (rowAt 16 (t - 1) (now (slots .entry))))) (now (answer .entry)) ⌝ }
+{
+    match o {
+        Outcome::Plain => put_kind(answer, head, 0),
+        Outcome::Begin => put_kind(answer, head, 1),
+        Outcome::Message(m, s, b) => put_message(answer, head, m, s, b),
+        Outcome::Entry(w) => put_entry(answer, head, w, slots, t),
+        Outcome::Refused(n) => put_refused(answer, head, n),
+        Outcome::Semaphore(b) => put_semaphore(answer, head, b),
+    }
+}
+
+// The answer with the number that a frame was refused with, 0 if it was accepted. Gives the running task back.
+pub fn write(
+    tables: &[u8],
+    slots: &[u8],
+    shape: Shape,
+    number: u8,
+    reissues: u8,
+    answer: &mut [u8],
+) -> usize
+    requires { ⌜ Fits shape (length (now tables)) × (16 * shape .tasks ≤ length (now slots)) × (21 ≤ length (now answer)) ⌝ }
+    ensures { λ r. ⌜ (r ≤ shape .tasks) × Tells shape (now (tables .entry)) (λ c L. ledger.running L) r × ((c : Config) (L : Ledger) (w : List ℕ) → Shows c shape L (now (tables .entry)) (now (slots .entry)) w → now (answer .exit) ≡ written (session.answer number reissues L) (now (answer .entry))) ⌝ }
+{
+    let t = tables::tasks::running(tables, shape);
+    let head = Head {
+        number: number,
+        running: t as u8,
+        reissues: reissues,
+    };
+    if t == 0 {
+        put_kind(answer, head, 0);
+        return t;
+    }
+    let k = tables::tasks::load(tables, shape, t);
+    let o = k.outcome;
+    put_outcome(answer, head, o, slots, t);
+    t
+}
+
+// The answer to a refused configuration.
+pub fn refuse_configuration(number: u8, answer: &mut [u8])
+    requires { ⌜ 21 ≤ length (now answer) ⌝ }
+    ensures { λ _. ⌜ now (answer .exit) ≡ written (session.refusedConfiguration number) (now (answer .entry)) ⌝ }
+{
+    let head = Head {
+        number: number,
+        running: 0,
+        reissues: 0,
+    };
+    put_kind(answer, head, 0);
+}

@@ -1,0 +1,170 @@
+// The clock: ticks, tocks and timers, in place in the lent memory.
+// Promises: each operation is the ledger's own change, for every ledger that the memory shows.
+// Rests on tables (what the memory shows) and timers (records of ten bytes in a slice), and on the ledger's definitions.
+use tables::shape::Shape;
+ghost use mathlib.Core.Path.{_≡_};
+ghost use mathlib.Core.Bool.{cond, not};
+ghost use mathlib.Core.List.{List};
+ghost use Prim.Native.Nat.{ℕ, suc, _+_, _-_, _<_, _≤_};
+ghost use lib.Dec.{ltb};
+ghost use lib.ListN.{length, getD};
+ghost use Rattle.ledger.specs.Config.{Config};
+ghost use Rattle.ledger.specs.Time as time;
+ghost use Rattle.ledger.specs.Time.{TockValue, tocks};
+ghost use Rattle.ledger.specs.Ledger.{Ledger, setClock};
+ghost use Rattle.ledger.specs.Services.{startTimer};
+ghost use Rattle.ledger.specs.Refusals.{haveTimer};
+ghost use Rattle.timers.specs.Timers.{dueIn};
+ghost use Rattle.timers.specs.Drained.{nextDue, takeDue};
+ghost use Rattle.tables.specs.Decode.{countOf, leftOf};
+ghost use Rattle.tables.specs.Layout.{Fits};
+ghost use Rattle.tables.specs.Shows.{Shows, Does, Tells};
+ghost use Rattle.clock.specs.Held.{Holds, heldIn};
+ghost use Rattle.clock.specs.Does.{DoesTimers, TellsTimers, purged};
+ghost use Rattle.clock.specs.Ticks.{AfterTick};
+ghost use Rattle.clock.specs.Tocks.{Advanced};
+
+// A count, the most that there can be where the byte says more.
+fn counted(most: usize, x: u8) -> usize
+    ensures { λ r. ⌜ (r ≤ most) × (r ≡ countOf most x) ⌝ }
+{
+    if x as usize <= most {
+        return x as usize;
+    }
+    most
+}
+
+// The number of timers.
+pub fn count(timers: &[u8], shape: Shape) -> usize
+    requires { ⌜ Holds shape (length (now timers)) ⌝ }
+    ensures { λ r. ⌜ (r ≤ shape .timers) × (r ≡ countOf (shape .timers) (getD (now (timers .entry)) 0 0)) × TellsTimers shape (now (timers .entry)) (λ c L. length (L .timers)) r ⌝ }
+{
+    counted(shape.timers, timers[0])
+}
+
+// Whether a task has a timer on a semaphore.
+pub fn has(timers: &[u8], shape: Shape, task: u8, semaphore: u8) -> bool
+    requires { ⌜ Holds shape (length (now timers)) ⌝ }
+    ensures { λ r. ⌜ TellsTimers shape (now (timers .entry)) (λ c L. haveTimer L task semaphore) r ⌝ }
+{
+    let n = count(timers, shape);
+    timers::has(&timers[1..], n, task, semaphore)
+}
+
+// A small number as a byte.
+fn byte(n: usize) -> u8
+    requires { ⌜ n ≤ 255 ⌝ }
+    ensures { λ r. ⌜ r ≡ n ⌝ }
+{
+    n as u8
+}
+
+// Starts a timer, where a record is left for it.
+pub fn start(timers: &mut [u8], shape: Shape, task: u8, semaphore: u8, left: u32, period: u32)
+    requires { ⌜ Holds shape (length (now timers)) ⌝ }
+    ensures { λ _. ⌜ ((c : Config) (L : Ledger) (d z : List ℕ) (v : TockValue) → tocks v ≡ left → time.period v ≡ period → length (L .timers) < c .R → Shows c shape L d z (now (timers .entry)) → Shows c shape (startTimer task semaphore v L) d z (now (timers .exit))) ⌝ }
+{
+    let n = count(timers, shape);
+    if n >= shape.timers {
+        return;
+    }
+    timers::insert(&mut timers[1..], n, task, semaphore, left, period);
+    timers[0] = byte(n + 1);
+}
+
+// Takes out all timers of a task, or only those on a semaphore.
+pub fn purge(timers: &mut [u8], shape: Shape, task: u8, all: bool, semaphore: u8)
+    requires { ⌜ Holds shape (length (now timers)) ⌝ }
+    ensures { λ _. ⌜ DoesTimers shape (now (timers .entry)) (now (timers .exit)) (λ c L. purged task all semaphore L) ⌝ }
+{
+    let n = count(timers, shape);
+    let left = timers::purge(&mut timers[1..], n, task, all, semaphore);
+    timers[0] = byte(left);
+}
+
+// Takes the first due timer out, and puts it in again if it is cyclic. Gives the semaphore that it signals.
+pub fn take_due(timers: &mut [u8], shape: Shape) -> u8
+    requires { ⌜ Holds shape (length (now timers)) × (0 < dueIn (heldIn shape (now timers))) ⌝ }
+    ensures { λ r. ⌜ (dueIn (heldIn shape (now (timers .exit))) ≡ dueIn (heldIn shape (now (timers .entry))) - 1) × TellsTimers shape (now (timers .entry)) (λ c L. nextDue L .semaphore) r × DoesTimers shape (now (timers .entry)) (now (timers .exit)) (λ c L. takeDue L) ⌝ }
+{
+    let n = count(timers, shape);
+    let due = timers::take_due(&mut timers[1..], n);
+    timers[0] = byte(due.count);
+    due.semaphore
+}
+
+// A tock passes for every timer. Gives the number of those that are then due.
+fn pass(timers: &mut [u8], shape: Shape) -> usize
+    requires { ⌜ Holds shape (length (now timers)) ⌝ }
+    ensures { λ r. ⌜ (r ≤ shape .timers) × (r ≡ dueIn (heldIn shape (now (timers .exit)))) × DoesTimers shape (now (timers .entry)) (now (timers .exit)) (λ c L. setClock (suc (L .N)) (L .ticks) L) ⌝ }
+{
+    let n = count(timers, shape);
+    timers::pass(&mut timers[1..], n)
+}
+
+// The ticks left in the tock, and whether with the last tick one passed.
+pub struct Ticked {
+    pub left: usize,
+    pub tock: bool,
+}
+
+// One tick, with so many left of the ticks per tock.
+fn one_tick(left: usize, ticks: usize) -> Ticked
+    requires { ⌜ (1 ≤ left) × (left ≤ ticks) ⌝ }
+    ensures { λ r. ⌜ AfterTick ticks left r ⌝ }
+{
+    if left > 1 {
+        return Ticked {
+            left: left - 1,
+            tock: false,
+        };
+    }
+    Ticked {
+        left: ticks,
+        tock: true,
+    }
+}
+
+// Ticks left, all of a tock where the byte says none or more.
+fn left_of(ticks: usize, x: u8) -> usize
+    requires { ⌜ 1 ≤ ticks ⌝ }
+    ensures { λ r. ⌜ (1 ≤ r) × (r ≤ ticks) × (r ≡ leftOf ticks x) ⌝ }
+{
+    if x == 0 {
+        return ticks;
+    }
+    if x as usize <= ticks {
+        return x as usize;
+    }
+    ticks
+}
+
+// The ticks left in the tock.
+fn ticks_left(tables: &[u8], shape: Shape) -> usize
+    requires { ⌜ Fits shape (length (now tables)) ⌝ }
+    ensures { λ r. ⌜ (1 ≤ r) × (r ≤ shape .ticks) × (r ≡ leftOf (shape .ticks) (getD (now (tables .entry)) 0 0)) ⌝ }
+{
+    left_of(shape.ticks, tables[0])
+}
+
+// One tick in the tables. Gives whether a tock passed.
+fn tick(tables: &mut [u8], shape: Shape) -> bool
+    requires { ⌜ Fits shape (length (now tables)) ⌝ }
+    ensures { λ r. ⌜ Tells shape (now (tables .entry)) (λ c L. not (ltb (suc (L .ticks)) (c .K))) r × Does shape (now (tables .entry)) (now (tables .exit)) (λ c L. setClock (L .N) (cond r 0 (suc (L .ticks))) L) ⌝ }
+{
+    let left = ticks_left(tables, shape);
+    let after = one_tick(left, shape.ticks);
+    tables[0] = byte(after.left);
+    after.tock
+}
+
+// One tick. Gives how often a caller has to take a due timer and signal its semaphore.
+pub fn advance(tables: &mut [u8], timers: &mut [u8], shape: Shape) -> usize
+    requires { ⌜ Fits shape (length (now tables)) × Holds shape (length (now timers)) ⌝ }
+    ensures { λ r. ⌜ Advanced shape (now (tables .entry)) (now (timers .entry)) (now (tables .exit)) (now (timers .exit)) r ⌝ }
+{
+    if tick(tables, shape) {
+        return pass(timers, shape);
+    }
+    0
+}

@@ -1,0 +1,129 @@
+-- Where the messages lie in the tables, and what the tables show once their region and their number are new.
+use mathlib.Core.Path.{_≡_, refl, sym, ap, ap₂, _∙_}
+use mathlib.Core.Bool.{Bool, true}
+use mathlib.Core.List.{List}
+use Prim.Native.Nat.{ℕ, _+_, _-_, _*_, _<_, _≤_}
+use native.Mathlib.Omega.{arith}
+use lib.ListN.{length, getD, set, length-set}
+use lib.Seq.{getD-set-same, getD-set-other}
+use borrow.Author.Tests.{le-leb}
+use borrow.Rule.Slice.PartMut.{putMid}
+use Rattle.rows.specs.Splice.{cut, splice}
+use Rattle.rows.specs.Laws.{length-cut, length-splice, lent-back, splice-whole}
+use Rattle.messages.specs.Pending.{Pending, pendingIn, mailboxOf, completeIn}
+use Rattle.tables.specs.declared.shape.Shape.{Shape}
+use Rattle.tables.specs.Layout.{Laid, Fits, fitting, bound, region, Regions, named, regions, but, written, byte-written, region-at, region-length}
+use Rattle.tables.specs.Decode.{countOf}
+use Rattle.tables.specs.Shows.{Shows, pendingOf}
+use Rattle.tables.specs.Items.{withMessages, mailbox-is, mailbox-shown}
+use Rattle.tables.specs.Stored.{shows-as}
+use Rattle.ledger.specs.Config.{Config}
+use Rattle.ledger.specs.Ledger.{Ledger, Message, mailbox, setMailbox}
+
+-- the messages' region, and the byte that counts them, lie within n bytes
+pub record Lies (s : Shape) (n : ℕ) : Type 0 where
+  pub counted : 1 < n
+  pub start : s .messageat ≤ s .bodyat
+  pub within : s .bodyat ≤ n
+  pub room : s .bodyat - s .messageat ≡ s .messages * 4
+  pub most : s .messages ≤ 64
+  pub few : s .tasks ≤ 126
+
+pub lies : {s : Shape} {n : ℕ} → Fits s n → Lies s n
+lies (fitting l r) = record { counted = omega arith; start = omega arith; within = omega arith; room = omega arith; most = l .messages; few = l .few }
+
+-- the bytes of the messages, and the messages that are pending
+abbrev pub bytes : Shape → List ℕ → List ℕ
+bytes s d = cut d (s .messageat) (s .bodyat)
+
+abbrev pub mail : Shape → List ℕ → List Pending
+mail s d = pendingIn (countOf (s .messages) (getD d 1 0)) (bytes s d)
+
+pub bytes-are : (s : Shape) (d : List ℕ) → regions s d .messages ≡ bytes s d
+unfolding regions named region bound
+bytes-are s d = refl
+
+pub bytes-length : {s : Shape} (d : List ℕ) → Fits s (length d) → length (bytes s d) ≡ s .messages * 4
+bytes-length {s} d f = let l = lies f in length-cut d (s .messageat) (s .bodyat) (l .within) ∙ l .room
+
+-- a test of them, by the count that was read
+pub sound-told : (s : Shape) (d : List ℕ) (n : ℕ) (r : Bool) → n ≡ countOf (s .messages) (getD d 1 0) → r ≡ completeIn (s .tasks) (s .messages) (pendingIn n (bytes s d))
+    → r ≡ completeIn (s .tasks) (s .messages) (pendingIn (countOf (s .messages) (getD d 1 0)) (regions s d .messages))
+sound-told s d n r e q = q ∙ rw (e, bytes-are s d)
+
+module _ (c : Config) (s : Shape) (L : Ledger) (d z w : List ℕ) (h : Shows c s L d z w) where
+  counter : getD (regions s d .clock) 1 0 ≡ getD d 1 0
+  unfolding regions named bound
+  counter = region-at s d 0 1 (omega arith)
+
+  -- they are those that the ledger's mailboxes hold
+  pub mail-is : mail s d ≡ pendingOf c (regions s d)
+  unfolding pendingOf
+  mail-is =
+      ap₂ (λ (g x : ℕ). pendingIn (countOf g x) (bytes s d)) (h .of .messages) (sym counter)
+      ∙ ap (pendingIn (countOf (c .G) (getD (regions s d .clock) 1 0))) (sym (bytes-are s d))
+
+-- the region came back as other bytes, and the byte that counts them is new
+abbrev pub renewed : Shape → (d ys : List ℕ) → ℕ → List ℕ
+renewed s d ys v = set (putMid (s .messageat) (s .bodyat - s .messageat) d ys) 1 v
+
+module _ (s : Shape) (l : Laid s) (d : List ℕ) (space : s .end ≤ length d) (ys : List ℕ) (n : length ys ≡ length (bytes s d)) where
+  abbrev back : List ℕ
+  back = putMid (s .messageat) (s .bodyat - s .messageat) d ys
+
+  own : length (bytes s d) ≡ s .bodyat - s .messageat
+  own = length-cut d (s .messageat) (s .bodyat) (omega arith)
+
+  back-is : back ≡ splice d (s .messageat + 0) ys
+  back-is = lent-back d (s .messageat) (s .bodyat) 0 ys ys (omega arith) (omega arith) (omega (arith, own)) (sym (splice-whole (bytes s d) ys n))
+
+  back-length : length back ≡ length d
+  back-length = ap length back-is ∙ length-splice d (s .messageat + 0) ys (omega (arith, own))
+
+  back-regions : regions s back ≡ withMessages (regions s d .clock) ys (regions s d)
+  unfolding regions named but bound withMessages
+  back-regions =
+      ap (regions s) back-is ∙ written s l d space 6 0 ys (omega (arith, own))
+      ∙ ap (λ (x : List ℕ). named (but (region s d) 6 x)) (splice-whole (region s d 6) ys (n ∙ ap length (sym (bytes-are s d))))
+
+  module _ (v : ℕ) where
+    pub renewed-length : length (renewed s d ys v) ≡ length d
+    renewed-length = length-set back 1 v ∙ back-length
+
+    pub renewed-regions : regions s (renewed s d ys v) ≡ withMessages (set (regions s d .clock) 1 v) ys (regions s d)
+    unfolding regions named but bound withMessages
+    renewed-regions =
+        byte-written s l back (omega (arith, back-length)) 0 1 v (omega arith)
+        ∙ ap (λ (p : Regions). withMessages (set (p .clock) 1 v) (p .messages) p) back-regions
+
+-- what is then shown: one mailbox is new, the others are as they were
+module _ (c : Config) (s : Shape) (L : Ledger) (d z w : List ℕ) (h : Shows c s L d z w) (t : ℕ) (lo : 1 ≤ t) (hi : t ≤ s .tasks) where
+  pub mailbox-in : mailbox L t ≡ mailboxOf t (mail s d)
+  mailbox-in = mailbox-is c L (regions s d) z w (h .shown) t lo (omega (arith, h .of .tasks)) ∙ ap (mailboxOf t) (sym (mail-is c s L d z w h))
+
+  module _ (ys : List ℕ) (n : length ys ≡ length (bytes s d)) (v : ℕ) (few : v ≤ s .messages) where
+    abbrev clock : List ℕ
+    clock = set (regions s d .clock) 1 v
+
+    clock-length : length (regions s d .clock) ≡ 2
+    unfolding regions named bound
+    clock-length = region-length s (h .of .laid) d (h .room) 0
+
+    mail-new : pendingOf c (withMessages clock ys (regions s d)) ≡ pendingIn v ys
+    unfolding pendingOf withMessages
+    mail-new =
+        let e : getD clock 1 0 ≡ v = getD-set-same (regions s d .clock) 1 v 0 (omega (arith, clock-length)) in
+        let m : v ≤ c .G = omega (arith, h .of .messages) in
+        ap (λ (x : ℕ). pendingIn (countOf (c .G) x) ys) e ∙ rw (le-leb v (c .G) m)
+
+    pub mail-renewed : (x : List Message) → mailboxOf t (pendingIn v ys) ≡ x → ((u : ℕ) → (t ≡ u → ⊥) → mailboxOf u (pendingIn v ys) ≡ mailboxOf u (mail s d))
+        → completeIn (s .tasks) (s .messages) (pendingIn v ys) ≡ true → Shows c s (setMailbox t x L) (renewed s d ys v) z w
+    mail-renewed x new others all =
+        let p : Regions = regions s d in
+        shows-as c s L d z w (renewed s d ys v) z (withMessages clock ys p) h (renewed-length s (h .of .laid) d (h .room) ys n v) refl
+        (renewed-regions s (h .of .laid) d (h .room) ys n v)
+        (setMailbox t x L)
+        (mailbox-shown c L p z w (h .shown) clock ys t x (getD-set-other (p .clock) 1 0 v 0 (λ e. omega arith)) lo
+        (sym new ∙ ap (mailboxOf t) (sym mail-new))
+        (λ j ne. ap (mailboxOf j) (sym (mail-is c s L d z w h)) ∙ sym (others j (λ e. ne (sym e))) ∙ ap (mailboxOf j) (sym mail-new))
+        (ap (completeIn (c .T) (c .G)) mail-new ∙ ap₂ (λ (a b : ℕ). completeIn a b (pendingIn v ys)) (sym (h .of .tasks)) (sym (h .of .messages)) ∙ all))

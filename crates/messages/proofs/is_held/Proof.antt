@@ -1,0 +1,17 @@
+-- By the test of the receiver: where it passes, the test of the number is left.
+use mathlib.Core.Path.{sym, _∙_}
+use borrow.Author.Needs.{needs}
+use Rattle.messages.proofs.is_held.Statement.{statement}
+use Rattle.messages.proofs.is_held.Tie as tie
+
+is-within-requires : tie.Need-is-within-requires
+is-within-requires c κs = search needs
+
+returns : tie.Need-returns
+returns c = rw (sym (c .before .before .is-within .ensures) ∙ c .before .if1 .taken)
+
+returns-2 : tie.Need-returns-2
+returns-2 c = rw (sym (c .before .is-within .ensures) ∙ c .if1 .left) (c .if1 .left)
+
+pub is-held-spec : {M : Type 1} → statement M
+is-held-spec = tie.close (tie.spec is-within-requires returns returns-2)

@@ -1,0 +1,106 @@
+-- The pigeonhole: where n records are complete, each message 1 to n lies in some mailbox.
+-- Distinct numbers from 1 to n, none of which is x, are fewer than n: each leaves one number less for the others.
+use mathlib.Core.Path.{_≡_, refl, sym, ap, _∙_}
+use mathlib.Core.Bool.{Bool, true, false, cond, not, _&&_, and-true}
+use mathlib.Core.List.{List, [], _∷_, map}
+use Prim.Native.Nat.{ℕ, zero, suc, _<_, _≤_}
+use native.Mathlib.Omega.{arith}
+use lib.Dec.{leb, eqb}
+use lib.ListN.{length, length-map}
+use borrow.Author.Tests.{ne-eqb, eqb-true, eqb-false, le-leb, leb-true, not-true}
+use Rattle.ledger.specs.Lists.{within, any, all}
+use Rattle.messages.specs.Lists.{and-left, and-right, or-left, or-right, any-map}
+use Rattle.messages.specs.Pending.{Pending, numberOf, pendingIn, mailboxesOf, numbered, inRange, distinct, completeIn}
+use Rattle.messages.specs.Complete.{complete-range, complete-distinct, held-is}
+use Rattle.messages.specs.Records.{pending-length}
+
+-- how many of 1 to n pass
+abbrev count : (ℕ → Bool) → ℕ → ℕ
+count p zero = 0
+count p (suc n) = cond (p (suc n)) (suc (count p n)) (count p n)
+
+count-le : (p : ℕ → Bool) (n : ℕ) → count p n ≤ n
+count-le p zero = omega arith
+count-le p (suc n) = go (p (suc n)) (count-le p n)
+  where
+    go : (b : Bool) → count p n ≤ n → cond b (suc (count p n)) (count p n) ≤ suc n
+    go true h = omega arith
+    go false h = omega arith
+
+abbrev other : ℕ → (ℕ → Bool) → ℕ → Bool
+other y p x = p x && not (eqb x y)
+
+-- a number above n does not count
+count-above : (p : ℕ → Bool) (y n : ℕ) → n < y → count (other y p) n ≡ count p n
+count-above p y zero h = refl
+count-above p y (suc n) h = rw (ne-eqb (suc n) y (λ e. omega arith), and-true (p (suc n)), count-above p y n (omega arith))
+
+step : (b : Bool) (k : ℕ) → cond b (suc (suc k)) (suc k) ≡ suc (cond b (suc k) k)
+step true k = refl
+step false k = refl
+
+-- one number less
+count-less : (p : ℕ → Bool) (y n : ℕ) → 1 ≤ y → y ≤ n → p y ≡ true → count p n ≡ suc (count (other y p) n)
+count-less p y zero l h e = absurd (omega arith)
+count-less p y (suc n) l h e = go (eqb (suc n) y) refl (λ k. count-less p y n l k e)
+  where
+    go : (b : Bool) → eqb (suc n) y ≡ b → (y ≤ n → count p n ≡ suc (count (other y p) n)) → count p (suc n) ≡ suc (count (other y p) (suc n))
+    go true q ih =
+        let s = eqb-true (suc n) y q in
+        rw (ap p s ∙ e, q) (ap suc (sym (count-above p y n (omega arith))))
+    go false q ih =
+        let s = eqb-false (suc n) y q in
+        rw (q, and-true (p (suc n)), ih (omega arith)) (step (p (suc n)) (count (other y p) n))
+
+-- numbers that pass a test are still there without those that do not occur
+all-other : (p : ℕ → Bool) (y : ℕ) (xs : List ℕ) → all p xs ≡ true → any (λ x. eqb x y) xs ≡ false → all (other y p) xs ≡ true
+unfolding all any
+all-other p y [] a n = refl
+all-other p y (x ∷ xs) a n =
+    rw (and-left (p x) (all p xs) a, or-left (eqb x y) (any (λ x. eqb x y) xs) n)
+    (all-other p y xs (and-right (p x) (all p xs) a) (or-right (eqb x y) (any (λ x. eqb x y) xs) n))
+
+fewer : (n : ℕ) (p : ℕ → Bool) → ((x : ℕ) → p x ≡ true → (1 ≤ x) × (x ≤ n)) → (xs : List ℕ) → distinct xs ≡ true → all p xs ≡ true → length xs ≤ count p n
+unfolding distinct all
+fewer n p r [] e a = omega arith
+fewer n p r (x ∷ xs) e a =
+    let h : p x ≡ true = and-left (p x) (all p xs) a in
+    let m : any (λ y. eqb y x) xs ≡ false = not-true (any (λ y. eqb y x) xs) (and-left (not (any (λ y. eqb y x) xs)) (distinct xs) e) in
+    let d : distinct xs ≡ true = and-right (not (any (λ y. eqb y x) xs)) (distinct xs) e in
+    let o : all (other x p) xs ≡ true = all-other p x xs (and-right (p x) (all p xs) a) m in
+    let i : length xs ≤ count (other x p) n = fewer n (other x p) (λ z q. r z (and-left (p z) (not (eqb z x)) q)) xs d o in
+    omega (arith, i, count-less p x n (r x h .0) (r x h .1) h)
+
+module _ (n : ℕ) (xs : List ℕ) (d : distinct xs ≡ true) (a : all (within 1 n) xs ≡ true) (e : length xs ≡ n) where
+  occurs : (x : ℕ) → 1 ≤ x → x ≤ n → any (λ y. eqb y x) xs ≡ true
+  occurs x l h = go (any (λ y. eqb y x) xs) refl
+    where
+      bounds : (x : ℕ) → within 1 n x ≡ true → (1 ≤ x) × (x ≤ n)
+      bounds x w = (leb-true 1 x (and-left (leb 1 x) (leb x n) w), leb-true x n (and-right (leb 1 x) (leb x n) w))
+
+      go : (b : Bool) → any (λ y. eqb y x) xs ≡ b → b ≡ true
+      go true q = refl
+      go false q =
+          let w : within 1 n x ≡ true = rw (le-leb 1 x l, le-leb x n h) in
+          let f : length xs ≤ count (other x (within 1 n)) n =
+          fewer n (other x (within 1 n)) (λ z r. bounds z (and-left (within 1 n z) (not (eqb z x)) r)) xs d (all-other (within 1 n) x xs a q) in
+          absurd (omega (arith, f, count-le (within 1 n) n, count-less (within 1 n) x n l h w))
+
+-- ---- on what is pending
+
+all-numbers : (tasks n : ℕ) (l : List Pending) → all (inRange tasks n) l ≡ true → all (within 1 n) (map numberOf l) ≡ true
+unfolding all
+all-numbers tasks n [] a = refl
+all-numbers tasks n (p ∷ ps) a =
+    let r : inRange tasks n p ≡ true = and-left (inRange tasks n p) (all (inRange tasks n) ps) a in
+    rw (and-right (within 1 tasks (p .to)) (within 1 n (numberOf p)) r) (all-numbers tasks n ps (and-right (inRange tasks n p) (all (inRange tasks n) ps) a))
+
+module _ (tasks n x : ℕ) (low : 1 ≤ x) (high : x ≤ n) where
+  pub full : (l : List Pending) → completeIn tasks n l ≡ true → length l ≡ n → any (any (numbered x)) (mailboxesOf tasks l) ≡ true
+  full l c e =
+      let a : all (inRange tasks n) l ≡ true = complete-range tasks n l c in
+      held-is tasks n x l a ∙ sym (any-map numberOf (λ y. eqb y x) l)
+      ∙ occurs n (map numberOf l) (complete-distinct tasks n l c) (all-numbers tasks n l a) (length-map l numberOf ∙ e) x low high
+
+  pub full-in : (d : List ℕ) → completeIn tasks n (pendingIn n d) ≡ true → any (any (numbered x)) (mailboxesOf tasks (pendingIn n d)) ≡ true
+  full-in d c = full (pendingIn n d) c (pending-length n d)

@@ -1,0 +1,11 @@
+-- What the bytes mean, and what the contracts promise of it.
+pub mod Pending
+pub mod Changes
+-- Laws: of lists, of mailboxes, of records, of a complete table.
+pub mod Lists
+pub mod Mailboxes
+pub mod Records
+pub mod Complete
+pub mod Full
+-- The loop that tests for a complete table.
+pub mod Checks

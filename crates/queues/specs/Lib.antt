@@ -1,0 +1,4 @@
+pub mod Rings
+pub mod Holding
+pub mod Taking
+pub mod Slots

@@ -1,0 +1,127 @@
+// The queues in the lent memory: a ring each, its place and count in two bytes, its entries in the region of the bodies.
+// Promises: putting and taking an entry is the ledger's own change, for every ledger that the memory shows.
+// Rests on tables for the memory, and on rings for the entries.
+use tables::shape::Shape;
+use tables::tasks::Outcome;
+ghost use mathlib.Core.Path.{_≡_};
+ghost use mathlib.Core.List.{List, _∷_};
+ghost use Prim.Native.Nat.{ℕ, _+_, _-_, _*_, _<_, _≤_};
+ghost use lib.ListN.{length, set};
+ghost use Rattle.tables.specs.Decode.{headOf, countOf};
+ghost use Rattle.tables.specs.Layout.{Fits};
+ghost use Rattle.tables.specs.Shows.{Shows};
+ghost use Rattle.ledger.specs.Config.{Config};
+ghost use Rattle.ledger.specs.Ledger.{Ledger, queue, held};
+ghost use Rattle.ledger.specs.Services.{putEntry, takeEntry};
+ghost use Rattle.queues.specs.Rings.{RingFits, ringOf, headIn, countIn};
+
+// A queue's width and depth, and where its entries lie in the tables: of the configuration.
+pub struct Ring {
+    pub width: usize,
+    pub depth: usize,
+    pub base: usize,
+}
+
+fn wide(x: u8) -> usize
+    ensures { λ r. ⌜ r ≡ x ⌝ }
+{
+    x as usize
+}
+
+fn head_of(depth: usize, x: usize) -> usize
+    ensures { λ r. ⌜ r ≡ headOf depth x ⌝ }
+{
+    if x < depth {
+        return x;
+    }
+    0
+}
+
+fn count_of(most: usize, x: usize) -> usize
+    ensures { λ r. ⌜ r ≡ countOf most x ⌝ }
+{
+    if x <= most {
+        return x;
+    }
+    most
+}
+
+// The place of the oldest entry.
+fn head(tables: &[u8], shape: Shape, ring: Ring, q: usize) -> usize
+    requires { ⌜ Fits shape (length (now tables)) × (1 ≤ q) × (q ≤ shape .queues) ⌝ }
+    ensures { λ r. ⌜ r ≡ headIn shape ring (now (tables .entry)) (q - 1) ⌝ }
+{
+    let at = shape.ringat + (q - 1) * 2;
+    head_of(ring.depth, wide(tables[at]))
+}
+
+// How many entries a queue holds.
+pub fn count(tables: &[u8], shape: Shape, ring: Ring, q: usize) -> usize
+    requires { ⌜ Fits shape (length (now tables)) × (1 ≤ q) × (q ≤ shape .queues) ⌝ }
+    ensures { λ r. ⌜ r ≡ countIn shape ring (now (tables .entry)) (q - 1) ⌝ }
+{
+    let at = shape.ringat + (q - 1) * 2 + 1;
+    count_of(ring.depth, wide(tables[at]))
+}
+
+// Puts an entry behind those that the queue holds. The caller has seen that it is not full.
+pub fn put(tables: &mut [u8], shape: Shape, ring: Ring, q: usize, entry: &[u8])
+    requires { ⌜ Fits shape (length (now tables)) × RingFits shape ring × (1 ≤ q) × (q ≤ shape .queues) × (length (now entry) ≡ ring .width) ⌝ }
+    ensures { λ _. ⌜ ((c : Config) (L : Ledger) (z w : List ℕ) → ring ≡ ringOf c shape q → length (held (queue L q)) < ring .depth → Shows c shape L (now (tables .entry)) z w → Shows c shape (putEntry q (now (entry .entry)) L) (now (tables .exit)) z w) ⌝ }
+{
+    let depth = ring.depth;
+    let first = head(tables, shape, ring, q);
+    let many = count(tables, shape, ring, q);
+    if many >= depth {
+        return;
+    }
+    let base = ring.base;
+    let end = base + depth * ring.width;
+    rings::put(
+        &mut tables[base..end],
+        first,
+        many,
+        ring.width,
+        depth,
+        entry,
+    );
+    let at = shape.ringat + (q - 1) * 2 + 1;
+    tables[at] = (many + 1) as u8;
+}
+
+fn step_on(tables: &mut [u8], shape: Shape, q: usize, next: u8, many: u8)
+    requires { ⌜ Fits shape (length (now tables)) × (1 ≤ q) × (q ≤ shape .queues) ⌝ }
+    ensures { λ _. ⌜ now (tables .exit) ≡ set (set (now (tables .entry)) (shape .ringat + (q - 1) * 2) next) (shape .ringat + (q - 1) * 2 + 1) many ⌝ }
+{
+    let at = shape.ringat + (q - 1) * 2;
+    tables[at] = next;
+    tables[at + 1] = many;
+}
+
+// Takes the oldest entry into the slot of task t. The caller has seen that there is one.
+pub fn take(tables: &mut [u8], slots: &mut [u8], shape: Shape, ring: Ring, q: usize, t: usize)
+    requires { ⌜ Fits shape (length (now tables)) × RingFits shape ring × (1 ≤ q) × (q ≤ shape .queues) × (1 ≤ t) × (t ≤ shape .tasks) × (16 * shape .tasks ≤ length (now slots)) ⌝ }
+    ensures { λ _. ⌜ ((c : Config) (L : Ledger) (w : List ℕ) (e : List ℕ) (es : List (List ℕ)) → ring ≡ ringOf c shape q → held (queue L q) ≡ e ∷ es → Shows c shape L (now (tables .entry)) (now (slots .entry)) w → Shows c shape (takeEntry c t q e L) (now (tables .exit)) (now (slots .exit)) w) ⌝ }
+{
+    let depth = ring.depth;
+    let width = ring.width;
+    let first = head(tables, shape, ring, q);
+    let many = count(tables, shape, ring, q);
+    if many == 0 {
+        return;
+    }
+    let base = ring.base;
+    let end = base + depth * width;
+    let a = (t - 1) * 16;
+    let e = a + 16;
+    let next = rings::take_out(
+        &tables[base..end],
+        first,
+        many,
+        width,
+        depth,
+        &mut slots[a..e],
+    );
+    step_on(tables, shape, q, next as u8, (many - 1) as u8);
+    tables::tasks::store_outcome(tables, shape, t, Outcome::Entry(width as u8));
+}

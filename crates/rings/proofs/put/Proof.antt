@@ -1,0 +1,38 @@
+use mathlib.Core.Path.{_≡_, refl, sym, ap, _∙_}
+use mathlib.Core.List.{List, map}
+use Prim.Native.Nat.{ℕ, _+_, _*_, _-_, _≤_, _<_}
+use native.Mathlib.Omega.{arith}
+use lib.ListN.{length, drop, take}
+use denote.Ref.{now}
+use Rattle.rings.specs.Laws.{wrapped-fits, put-done}
+use borrow.Author.Needs.{needs}
+use Rattle.rings.proofs.put.Statement.{statement}
+use Rattle.rings.proofs.put.Tie as tie
+use Rattle.rings.proofs.put.Reads as reads
+use Rattle.rings.proofs.put.Lts as lts
+use Rattle.rings.proofs.wrap.Reads as wrap-reads
+use Rattle.rows.proofs.copy_in.Reads as copy-in-reads
+
+add-wrap : tie.Need-add-wrap
+add-wrap c = search needs
+
+wrap-requires : tie.Need-wrap-requires
+wrap-requires c κs = search needs
+
+mul-at : tie.Need-mul-at
+mul-at c = let z = c .before .before .before in omega (arith, wrapped-fits (z .args .w) (z .args .depth) (z .args .head) (z .args .count) (c .wrap .result) (z .pre .0) (z .pre .1) (c .wrap .ensures))
+
+copy-in-requires : tie.Need-copy-in-requires
+copy-in-requires c κs = let z = c .before .before .before .before in omega (arith, wrapped-fits (z .args .w) (z .args .depth) (z .args .head) (z .args .count) (c .before .wrap .result) (z .pre .0) (z .pre .1) (c .before .wrap .ensures))
+
+same-length : tie.Need-same-length
+same-length c = search needs
+
+returns : tie.Need-returns
+returns c =
+    let z = c .before .before .before .before .before .before .before in
+    let a = z .args in
+    put-done (a .w) (a .depth) (a .head) (a .count) (c .before .before .before .before .wrap .result) (now (a .body)) (c .before .before .copy-in .last .1 .0) (now (a .entry)) (z .pre .0) (z .pre .1) (z .pre .3) (z .pre .4) (c .before .before .before .before .wrap .ensures) (c .before .before .copy-in .ensures)
+
+pub put-spec : {M : Type 1} → statement M
+put-spec = tie.close (tie.spec add-wrap wrap-requires mul-at copy-in-requires same-length returns)

@@ -1,0 +1,5 @@
+pub mod Splice
+pub mod Laws
+pub mod Rows
+pub mod First
+pub mod Tab

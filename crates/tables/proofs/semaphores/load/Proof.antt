@@ -1,0 +1,32 @@
+-- `load` decodes one byte, which lies within the tables; who is waiting is one of the tasks.
+use Rattle.tables.specs.Layout.{semaphore-in}
+use denote.Ref.{now}
+use native.Mathlib.Omega.{arith}
+use Prim.Native.Nat.{_+_, _-_}
+use lib.ListN.{getD}
+use Rattle.tables.specs.Back.{semaphore-waiter}
+use borrow.Author.Needs.{needs}
+use Rattle.tables.proofs.semaphores.load.Statement.{statement}
+use Rattle.tables.proofs.semaphores.load.Tie as tie
+
+sub-at : tie.Need-sub-at
+sub-at c = search needs
+
+add-at : tie.Need-add-at
+add-at c = let s = c .before .before in omega (arith, semaphore-in (s .pre .0) (s .args .b) (s .pre .1) (s .pre .2))
+
+shared-slice-read-semaphore-of : tie.Need-shared-slice-read-semaphore-of
+shared-slice-read-semaphore-of c = let s = c .before .before .before in semaphore-in (s .pre .0) (s .args .b) (s .pre .1) (s .pre .2)
+
+semaphore-of-requires : tie.Need-semaphore-of-requires
+semaphore-of-requires c κs = search needs
+
+returns : tie.Need-returns
+returns c =
+    let s = c .before .before .before .before in
+    let h = s .args .shape in
+    (c .semaphore-of .ensures, rw (c .semaphore-of .ensures) (semaphore-waiter (h .tasks) (getD (now (s .args .tables)) (h .semaphoreat + (s .args .b - 1)) 0)))
+
+pub load-spec : {M : Type 1} → statement M
+load-spec =
+    tie.close (tie.spec sub-at add-at shared-slice-read-semaphore-of semaphore-of-requires returns)

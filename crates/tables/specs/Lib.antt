@@ -1,0 +1,10 @@
+pub mod Layout
+pub mod Decode
+pub mod Back
+pub mod Shows
+pub mod Items
+pub mod Stored
+pub mod Running
+pub mod Again
+pub mod Waiting
+pub mod Withdrawn

@@ -1,0 +1,145 @@
+-- Which ledgers the memory shows, and what it is for a function over the memory to do what the ledger does.
+use mathlib.Core.Path.{_≡_, sym, ap, _∙_}
+use mathlib.Core.Bool.{true}
+use mathlib.Core.List.{List, map}
+use Prim.Native.Nat.{ℕ, suc, _+_, _-_, _*_, _≤_}
+use lib.ListN.{length, getD, take, drop}
+use Rattle.rows.specs.Splice.{cut}
+use Rattle.rows.specs.Rows.{rowAt}
+use Rattle.rows.specs.Tab.{tab}
+use Rattle.rings.specs.Ring.{holds}
+use Rattle.messages.specs.Pending.{Pending, pendingIn, mailboxesOf, completeIn}
+use Rattle.timers.specs.Timers.{timersIn}
+use Rattle.tables.specs.declared.shape.Shape.{Shape}
+use Rattle.tables.specs.declared.tasks.Blocks.{Blocks}
+use Rattle.tables.specs.declared.tasks.Outcome.{Outcome}
+use Rattle.tables.specs.declared.tasks.Request.{Request}
+use Rattle.tables.specs.declared.tasks.Task.{Task}
+use Rattle.tables.specs.Layout.{Laid, Fits, Regions, regions, blocks-at, record-at}
+use Rattle.tables.specs.Decode.{outcomeOf, requestOf, semaphoreOf, headOf, countOf, leftOf, viewSemaphore, viewTask, recordOf}
+use Rattle.ledger.specs.Lists.{sum}
+use Rattle.ledger.specs.Config as config
+use Rattle.ledger.specs.Config.{Config}
+use Rattle.ledger.specs.Ledger as ledger
+use Rattle.ledger.specs.Ledger.{Ledger, Message, queue, held}
+use Rattle.ledger.specs.Services.{shape}
+use Rattle.ledger.specs.Session.{TimerLeft, timerLeft}
+
+-- ---- the items that the regions, the slots and the timers' block are
+
+unfoldable pub taskAt : Config → Regions → (slots : List ℕ) → ℕ → ledger.Task
+taskAt c p z i = viewTask c (recordOf (c .Q) (getD (p .blocks) i 0) (rowAt 6 i (p .records))) (rowAt 16 i (p .waiting)) (rowAt 16 i z)
+
+unfoldable pub tasksIn : Config → Regions → (slots : List ℕ) → List ledger.Task
+tasksIn c p z = tab (c .T) (taskAt c p z)
+
+-- S named ones, one a task, two a queue
+unfoldable pub semaphoreCount : Config → ℕ
+semaphoreCount c = c .S + c .T + 2 * c .Q
+
+unfoldable pub semaphoreAt : Config → Regions → ℕ → ledger.Semaphore
+semaphoreAt c p i = viewSemaphore (semaphoreOf (c .T) (getD (p .semaphores) i 0))
+
+unfoldable pub semaphoresIn : Config → Regions → List ledger.Semaphore
+semaphoresIn c p = tab (semaphoreCount c) (semaphoreAt c p)
+
+-- where the entries of the queue in row i begin: behind those of the queues before it
+unfoldable pub bytesOf : config.Shape → ℕ
+bytesOf k = k .width * k .depth
+
+unfoldable pub begins : Config → ℕ → ℕ
+begins c i = sum (map bytesOf (take i (c .shapes)))
+
+unfoldable pub heldAt : Config → Regions → ℕ → List (List ℕ)
+heldAt c p i =
+    let k = shape c (suc i) in
+    holds (k .width) (k .depth) (headOf (k .depth) (getD (p .rings) (i * 2) 0)) (countOf (k .depth) (getD (p .rings) (i * 2 + 1) 0))
+    (cut (p .bodies) (begins c i) (begins c i + k .depth * k .width))
+
+unfoldable pub queuesIn : Config → Regions → List (List (List ℕ))
+queuesIn c p = tab (c .Q) (heldAt c p)
+
+-- the second byte of the clock's region counts the messages, the G records at most
+unfoldable pub pendingOf : Config → Regions → List Pending
+pendingOf c p = pendingIn (countOf (c .G) (getD (p .clock) 1 0)) (p .messages)
+
+unfoldable pub mailboxesIn : Config → Regions → List (List Message)
+mailboxesIn c p = mailboxesOf (c .T) (pendingOf c p)
+
+-- the first byte of the timers' block counts the timers, the R records at most
+unfoldable pub timersOf : Config → (timers : List ℕ) → List TimerLeft
+timersOf c w = timersIn (countOf (c .R) (getD w 0 0)) (drop 1 w)
+
+-- the first byte of the clock's region is the ticks left in the tock
+unfoldable pub ticksIn : Config → Regions → ℕ
+ticksIn c p = c .K - leftOf (c .K) (getD (p .clock) 0 0)
+
+-- ---- the ledger L is shown: every item that demand 3 compares. Its history and N are what the memory can't show.
+-- No message lies twice in the memory, and each is 1 to G and for a task 1 to T
+pub record Shown (c : Config) (L : Ledger) (p : Regions) (z w : List ℕ) : Type 0 where
+  pub ticks : L .ticks ≡ ticksIn c p
+  pub tasks : L .tasks ≡ tasksIn c p z
+  pub semaphores : L .semaphores ≡ semaphoresIn c p
+  pub mailboxes : L .mailboxes ≡ mailboxesIn c p
+  pub queues : map held (L .queues) ≡ queuesIn c p
+  pub taken : (q : ℕ) → queue L q .taken ≤ length (queue L q .put)
+  pub timers : map (timerLeft L) (L .timers) ≡ timersOf c w
+  pub messages : completeIn (c .T) (c .G) (pendingOf c p) ≡ true
+
+-- the shape is the configuration's, and the configuration one that document 01 accepts
+pub record Of (c : Config) (s : Shape) : Type 0 where
+  pub laid : Laid s
+  pub tasks : s .tasks ≡ c .T
+  pub named : s .named ≡ c .S
+  pub queues : s .queues ≡ c .Q
+  pub timers : s .timers ≡ c .R
+  pub messages : s .messages ≡ c .G
+  pub ticks : s .ticks ≡ c .K
+  pub shapes : length (c .shapes) ≡ c .Q
+  pub widths : (q : ℕ) → 1 ≤ q → q ≤ c .Q → (1 ≤ shape c q .width) × (shape c q .width ≤ 16)
+  pub depths : (q : ℕ) → 1 ≤ q → q ≤ c .Q → (1 ≤ shape c q .depth) × (shape c q .depth ≤ 255)
+  pub bodies : s .end ≡ s .bodyat + sum (map bytesOf (c .shapes))
+
+-- the tables d, the slots z and the timers' block w show the ledger L
+pub record Shows (c : Config) (s : Shape) (L : Ledger) (d z w : List ℕ) : Type 0 where
+  pub of : Of c s
+  pub room : s .end ≤ length d
+  pub slots : 16 * s .tasks ≤ length z
+  pub counted : 1 + 10 * s .timers ≤ length w
+  pub shown : Shown c L (regions s d) z w
+
+-- ---- what a function does
+
+-- the tables went from d to d' as the ledger goes by f, whatever the slots and the timers are
+abbrev pub Does : Shape → (d d' : List ℕ) → (Config → Ledger → Ledger) → Type 0
+Does s d d' f = (c : Config) (L : Ledger) (z w : List ℕ) → Shows c s L d z w → Shows c s (f c L) d' z w
+
+-- the value r is the ledger's
+abbrev pub Tells : {A : Type 0} → Shape → List ℕ → (Config → Ledger → A) → A → Type 0
+Tells s d f r = (c : Config) (L : Ledger) (z w : List ℕ) → Shows c s L d z w → r ≡ f c L
+
+-- the task record that the tables hold
+unfoldable pub recordIn : Shape → List ℕ → ℕ → Task
+recordIn s d t = recordOf (s .queues) (getD (regions s d .blocks) (t - 1) 0) (rowAt 6 (t - 1) (regions s d .records))
+
+-- the entry that waits to be put, and what lies behind it
+unfoldable pub waitingIn : Shape → List ℕ → ℕ → List ℕ
+waitingIn s d t = rowAt 16 (t - 1) (regions s d .waiting)
+
+-- a record, read in its six bytes
+module _ {s : Shape} {n : ℕ} (f : Fits s n) (d : List ℕ) (t : ℕ) (lo : 1 ≤ t) (hi : t ≤ s .tasks) where
+  pub record-read : recordIn s d t ≡ recordOf (s .queues) (getD d (2 + (t - 1)) 0) (cut d (s .recordat + (t - 1) * 6) (s .recordat + (t - 1) * 6 + 6))
+  unfolding recordIn
+  record-read = rw (blocks-at f d t lo hi, record-at f d t lo hi)
+
+  abbrev row : List ℕ
+  row = cut d (s .recordat + (t - 1) * 6) (s .recordat + (t - 1) * 6 + 6)
+
+  pub record-made : (b : Blocks) (o : Outcome) (q : Request) → b ≡ recordIn s d t .blocks → o ≡ outcomeOf (getD row 0 0) (getD row 1 0) (getD row 2 0) (getD row 3 0)
+      → q ≡ requestOf (s .queues) (getD row 4 0) (getD row 5 0) → record { blocks = b; outcome = o; request = q } ≡ recordIn s d t
+  unfolding recordOf
+  record-made b o q eb eo eq =
+      let e : recordIn s d t ≡ recordOf (s .queues) (getD d (2 + (t - 1)) 0) row = record-read in
+      let x : record { blocks = b; outcome = o; request = q } ≡ recordOf (s .queues) (getD d (2 + (t - 1)) 0) row =
+      λ i. record { blocks = (eb ∙ ap (λ (k : Task). k .blocks) e) i; outcome = eo i; request = eq i } in
+      x ∙ sym e

@@ -1,0 +1,85 @@
+// The semaphores, a byte each.
+use crate::shape::Shape;
+ghost use mathlib.Core.Path.{_≡_};
+ghost use mathlib.Core.List.{map};
+ghost use Prim.Native.Nat.{ℕ, _+_, _-_, _≤_};
+ghost use lib.ListN.{length, getD};
+ghost use Rattle.tables.specs.Decode.{semaphoreOf, semaphoreByte, clearedOf, viewSemaphore};
+ghost use Rattle.tables.specs.Layout.{Fits};
+ghost use Rattle.tables.specs.Back.{Waiter};
+ghost use Rattle.tables.specs.Shows.{Does};
+ghost use Rattle.ledger.specs.Ledger.{setSemaphore};
+ghost use Rattle.ledger.specs.Services.{withdrawWait};
+
+pub enum Semaphore {
+    Pending,
+    Done,
+    Waiting(u8),
+}
+
+fn semaphore_of(tasks: usize, x: u8) -> Semaphore
+    ensures { λ r. ⌜ r ≡ semaphoreOf tasks x ⌝ }
+{
+    if x == 0 {
+        return Semaphore::Pending;
+    }
+    if x as usize <= tasks {
+        return Semaphore::Waiting(x);
+    }
+    Semaphore::Done
+}
+
+fn semaphore_byte(s: Semaphore) -> u8
+    ensures { λ r. ⌜ r ≡ semaphoreByte s ⌝ }
+{
+    match s {
+        Semaphore::Pending => 0,
+        Semaphore::Done => 255,
+        Semaphore::Waiting(t) => t,
+    }
+}
+
+pub fn load(tables: &[u8], shape: Shape, b: usize) -> Semaphore
+    requires { ⌜ Fits shape (length (now tables)) × (1 ≤ b) × (b ≤ shape .semaphores) ⌝ }
+    ensures { λ r. ⌜ (r ≡ semaphoreOf (shape .tasks) (getD (now (tables .entry)) (shape .semaphoreat + (b - 1)) 0)) × Waiter (shape .tasks) r ⌝ }
+{
+    let at = shape.semaphoreat + (b - 1);
+    semaphore_of(shape.tasks, tables[at])
+}
+
+pub fn store(tables: &mut [u8], shape: Shape, b: usize, s: Semaphore)
+    requires { ⌜ Fits shape (length (now tables)) × (1 ≤ b) × (b ≤ shape .semaphores) × Waiter (shape .tasks) s ⌝ }
+    ensures { λ _. ⌜ Does shape (now (tables .entry)) (now (tables .exit)) (λ c L. setSemaphore b (viewSemaphore s) L) ⌝ }
+{
+    let at = shape.semaphoreat + (b - 1);
+    tables[at] = semaphore_byte(s);
+}
+
+fn cleared(x: u8, t: u8) -> u8
+    ensures { λ r. ⌜ r ≡ clearedOf t x ⌝ }
+{
+    if x == t {
+        return 0;
+    }
+    x
+}
+
+fn clear_all(part: &mut [u8], t: u8)
+    ensures { λ _. ⌜ now (part .exit) ≡ map (clearedOf t) (now (part .entry)) ⌝ }
+{
+    let mut i = 0;
+    while i < part.len() {
+        part[i] = cleared(part[i], t);
+        i += 1;
+    }
+}
+
+// The semaphore that is WAITING with a task becomes PENDING.
+pub fn withdraw(tables: &mut [u8], shape: Shape, t: u8)
+    requires { ⌜ Fits shape (length (now tables)) × (1 ≤ t) × (t ≤ shape .tasks) ⌝ }
+    ensures { λ _. ⌜ Does shape (now (tables .entry)) (now (tables .exit)) (λ c L. withdrawWait t L) ⌝ }
+{
+    let at = shape.semaphoreat;
+    let end = shape.waitingat;
+    clear_all(&mut tables[at..end], t);
+}

@@ -1,0 +1,63 @@
+-- `first_due` is a search: no timer before place k is due. Since one of n is, it is found.
+use mathlib.Core.Path.{_≡_, sym}
+use Prim.Native.Nat.{_+_, _-_, _≤_}
+use native.Mathlib.Nat.{zero-add}
+use native.Mathlib.Omega.{arith}
+use lib.ListN.{drop}
+use denote.Ref.{now}
+use Rattle.rows.specs.First.{firstOf}
+use Rattle.timers.specs.Timers.{timersIn, isDue}
+use Rattle.timers.specs.Laws.{search-here, search-on, search-end, due-in}
+use Rattle.timers.proofs.first_due.Statement.{statement}
+use Rattle.timers.proofs.first_due.Tie as tie
+
+abbrev Inv-loop : tie.InvT-loop
+Inv-loop b n k₀ k = (k ≤ n) × (firstOf isDue (timersIn n b) ≡ k + firstOf isDue (drop k (timersIn n b)))
+
+abbrev μ-loop : tie.MeasureT-loop
+μ-loop b n k₀ k = n - k
+
+loop-holds : tie.Need-loop-holds Inv-loop μ-loop
+loop-holds c = (omega arith, sym (zero-add _))
+
+is-due-requires : tie.Need-is-due-requires Inv-loop μ-loop
+is-due-requires c κs = omega arith
+
+returns : tie.Need-returns Inv-loop μ-loop
+returns c =
+    let z = c .before .before .before .before .before in
+    let l = c .before .before .before .loop in
+    (omega arith, search-here isDue (z .args .n) (l .k) (now (z .args .b)) (l .inv .1) (c .before .is-due .result) (omega arith) (c .before .is-due .ensures) (c .if1 .taken))
+
+add-k : tie.Need-add-k Inv-loop μ-loop
+add-k c = omega arith
+
+loop-less : tie.Need-loop-less Inv-loop μ-loop
+loop-less c = omega arith
+
+loop-again : tie.Need-loop-again Inv-loop μ-loop
+loop-again c =
+    let z = c .before .before .before .before .before in
+    let l = c .before .before .before .loop in
+    (omega arith, search-on isDue (z .args .n) (l .k) (now (z .args .b)) (l .inv .1) (c .before .is-due .result) (omega arith) (c .before .is-due .ensures) (c .if1 .left))
+
+returns-2 : tie.Need-returns-2 Inv-loop μ-loop
+returns-2 c =
+    let z = c .before .before .before in
+    let l = c .before .loop in
+    let e = search-end isDue (z .args .n) (l .k) (now (z .args .b)) (l .inv .1) (omega arith) (omega arith) in
+    (omega (arith, due-in (z .args .n) (now (z .args .b)) (z .pre .1)), e)
+
+pub first-due-spec : {M : Type 1} → statement M
+first-due-spec =
+    tie.close
+    (tie.spec
+    Inv-loop
+    μ-loop
+    loop-holds
+    is-due-requires
+    returns
+    add-k
+    loop-less
+    loop-again
+    returns-2)
