@@ -8,3 +8,4 @@ pub mod Running
 pub mod Again
 pub mod Waiting
 pub mod Withdrawn
+pub mod Some

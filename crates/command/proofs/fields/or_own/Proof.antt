@@ -1,0 +1,21 @@
+-- `or_own` goes by the definition's test, and a semaphore's number fits a byte.
+use native.Mathlib.Omega.{arith}
+use borrow.Author.Tests.{eq-eqb, ne-eqb}
+use Rattle.command.specs.Numbers.{owned}
+use Rattle.command.proofs.fields.or_own.Statement.{statement}
+use Rattle.command.proofs.fields.or_own.Tie as tie
+
+add-result : tie.Need-add-result
+add-result c = omega (arith, owned (c .before .before .pre))
+
+cast-result : tie.Need-cast-result
+cast-result c = omega (arith, owned (c .before .before .pre))
+
+returns : tie.Need-returns
+returns c = rw (eq-eqb _ _ (c .before .if1 .taken))
+
+returns-2 : tie.Need-returns-2
+returns-2 c = rw (ne-eqb _ _ (c .if1 .left))
+
+pub or-own-spec : {M : Type 1} → statement M
+or-own-spec = tie.close (tie.spec add-result cast-result returns returns-2)

@@ -1,0 +1,93 @@
+-- The block holds the pair of the queue, and the pairs before it, whose room is what they take.
+use native.Mathlib.Omega.{arith}
+use denote.Ref.{now}
+use Rattle.configuration.specs.Ring.{ring-inside, ring-base, ring-is}
+use borrow.Author.Needs.{needs}
+use Rattle.configuration.proofs.block.ring_of.Statement.{statement}
+use Rattle.configuration.proofs.block.ring_of.Tie as tie
+
+sub-before : tie.Need-sub-before
+sub-before c = search needs
+
+add-at : tie.Need-add-at
+add-at c =
+    let s = c .before .before in
+    let a = s .args in
+    omega (arith, ring-inside (now (a .config)) (a .shape) (s .pre .0) (s .pre .1) (a .q) (s .pre .2) (s .pre .3))
+
+mul-here : tie.Need-mul-here
+mul-here c = search needs
+
+add-here : tie.Need-add-here
+add-here c =
+    let s = c .before .before in
+    let a = s .args in
+    omega (arith, ring-inside (now (a .config)) (a .shape) (s .pre .0) (s .pre .1) (a .q) (s .pre .2) (s .pre .3))
+
+sub-room : tie.Need-sub-room
+sub-room c = search needs
+
+part-room-start : tie.Need-part-room-start
+part-room-start c = search needs
+
+part-room-end : tie.Need-part-room-end
+part-room-end c =
+    let s = c .before .before in
+    let a = s .args in
+    omega (arith, ring-inside (now (a .config)) (a .shape) (s .pre .0) (s .pre .1) (a .q) (s .pre .2) (s .pre .3))
+
+room-requires : tie.Need-room-requires
+room-requires c κs = search needs
+
+add-base : tie.Need-add-base
+add-base c =
+    let s = c .before .before .before .before .before in
+    let a = s .args in
+    omega (arith, c .before .room .ensures, ring-base (now (a .config)) (a .shape) (s .pre .0) (s .pre .1) (a .q) (s .pre .2) (s .pre .3))
+
+shared-slice-read-wide : tie.Need-shared-slice-read-wide
+shared-slice-read-wide c =
+    let s = c .before .before .before .before .before .before in
+    let a = s .args in
+    omega (arith, ring-inside (now (a .config)) (a .shape) (s .pre .0) (s .pre .1) (a .q) (s .pre .2) (s .pre .3))
+
+wide-requires : tie.Need-wide-requires
+wide-requires c κs = search needs
+
+add-wide : tie.Need-add-wide
+add-wide c = search needs
+
+shared-slice-read-wide-2 : tie.Need-shared-slice-read-wide-2
+shared-slice-read-wide-2 c =
+    let s = c .before .before .before .before .before .before .before .before in
+    let a = s .args in
+    omega (arith, ring-inside (now (a .config)) (a .shape) (s .pre .0) (s .pre .1) (a .q) (s .pre .2) (s .pre .3))
+
+wide-requires-2 : tie.Need-wide-requires-2
+wide-requires-2 c κs = search needs
+
+returns : tie.Need-returns
+returns c =
+    let s = c .before .before .before .before .before .before .before .before .before in
+    let a = s .args in
+    ring-is (now (a .config)) (a .shape) (s .pre .0) (s .pre .1) (a .q) (s .pre .2) (s .pre .3) _ _ _ (c .before .before .wide .ensures) (c .wide2 .ensures) (c .before .before .before .before .before .room .ensures)
+
+pub ring-of-spec : {M : Type 1} → statement M
+ring-of-spec =
+    tie.close
+    (tie.spec
+    sub-before
+    add-at
+    mul-here
+    add-here
+    sub-room
+    part-room-start
+    part-room-end
+    room-requires
+    add-base
+    shared-slice-read-wide
+    wide-requires
+    add-wide
+    shared-slice-read-wide-2
+    wide-requires-2
+    returns)

@@ -1,0 +1,70 @@
+-- What an accepted frame says.
+use mathlib.Core.Path.{_≡_, refl, sym, ap, _∙_}
+use mathlib.Core.Bool.{true, not, _&&_}
+use mathlib.Core.List.{List, [], _∷_, _++_}
+use Prim.Native.Nat.{ℕ, _+_, _-_, _*_, _<_, _≤_}
+use native.Mathlib.Omega.{arith}
+use lib.Dec.{leb, ltb, eqb}
+use lib.ListN.{length, getD, take, drop, length-take, length-drop, List·getD-append}
+use lib.Seq.{take-at}
+use borrow.Author.Tests.{eqb-true, not-false}
+use Rattle.ledger.specs.Lists.{_⇒_, byte, word, all}
+use Rattle.ledger.specs.Config.{configIn, goodHead, goodRest, configRefusal}
+use Rattle.ledger.specs.Theorems.Checks.{and-left, and-right, passes}
+use Rattle.tables.specs.Shows.{Of}
+use Rattle.configuration.specs.Block.{front, configured, goodQueues, rule, rest-halves}
+use Rattle.configuration.specs.Head.{Head}
+use Rattle.configuration.specs.Layout.{shapeOf, rule-head, of-shape}
+use Rattle.configuration.specs.Lent.{shapes-length}
+
+pub record Accepted (f : List ℕ) : Type 0 where
+  pub whole : length f ≡ 8 + byte 0 f + 2 * byte 2 f
+  pub states : all (λ s. leb s 1) (configIn f .states) ≡ true
+  pub rule : rule (configIn f) ≡ true
+
+pub accepted : (f : List ℕ) → configRefusal f ≡ 0 → Accepted f
+unfolding configRefusal configIn rule
+accepted f h =
+    let c = configIn f in
+    let p = passes (ltb (length f) 8 ⇒ 2 ∷ not (goodHead c) ⇒ 3 ∷ not (eqb (length f) (8 + c .T + 2 * c .Q)) ⇒ 2 ∷ not (goodRest c) ⇒ 3 ∷ []) refl h in
+    let r : (all (λ s. leb s 1) (c .states) && goodQueues c) ≡ true = sym (rest-halves c) ∙ not-false _ (p .1 .1 .1 .0) in
+    record {
+      whole = eqb-true (length f) _ (not-false _ (p .1 .1 .0));
+      states = and-left _ (goodQueues c) r;
+      rule = rw (not-false (goodHead c) (p .1 .0)) (and-right (all (λ s. leb s 1) (c .states)) _ r);
+    }
+
+module _ (f : List ℕ) (a : Accepted f) where
+  pub accepted-head : Head (byte 0 f) (byte 1 f) (byte 2 f) (byte 3 f) (byte 4 f) (byte 5 f) (word 6 f)
+  unfolding configIn
+  accepted-head = rule-head (configIn f) (a .rule)
+
+  pub accepted-length : (8 ≤ length f) × (length f ≤ 198)
+  accepted-length = let h = accepted-head in (omega (arith, a .whole), omega (arith, a .whole))
+
+  pub accepted-states : length (configIn f .states) ≡ configIn f .T
+  unfolding configIn
+  accepted-states = simp (length-take, length-drop) (omega (arith, a .whole))
+
+  accepted-shapes : length (configIn f .shapes) ≡ configIn f .Q
+  unfolding configIn
+  accepted-shapes = shapes-length (drop (8 + byte 0 f) f) (byte 2 f) (simp length-drop (omega (arith, a .whole)))
+
+  -- the shape of its tables
+  pub accepted-of : Of (configIn f) (shapeOf (configIn f))
+  accepted-of = of-shape (configIn f) (a .rule) accepted-shapes
+
+  -- a block that has it at its front
+  module _ (g r : List ℕ) (e : g ≡ f ++ r) where
+    same-byte : (i : ℕ) → i < 8 → byte i g ≡ byte i f
+    same-byte i h = ap (λ (x : List ℕ). getD x i 0) e ∙ List·getD-append f r 0 i (omega (arith, accepted-length .0))
+
+    same-front : front g ≡ f
+    unfolding front
+    same-front =
+        let n : length f ≡ 8 + byte 0 g + 2 * byte 2 g = omega (arith, a .whole, same-byte 0 (omega arith), same-byte 2 (omega arith)) in
+        ap (take (8 + byte 0 g + 2 * byte 2 g)) e ∙ take-at f r (8 + byte 0 g + 2 * byte 2 g) n
+
+    pub configured-in : configured g ≡ configIn f
+    unfolding configured
+    configured-in = ap configIn same-front

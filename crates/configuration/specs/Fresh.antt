@@ -1,0 +1,177 @@
+-- Which bytes show the fresh ledger.
+use mathlib.Core.Path.{_≡_, refl, sym, ap, _∙_, subst}
+use mathlib.Core.Bool.{Bool, true, false, cond, _&&_}
+use mathlib.Core.List.{List, [], _∷_, map}
+use Prim.Native.Nat.{ℕ, zero, suc, _+_, _-_, _*_, _<_, _≤_}
+use native.Mathlib.Omega.{arith}
+use lib.Dec.{eqb, leb}
+use lib.ListN.{length, getD, replicate, getD-replicate}
+use lib.Seq.{ext-getD}
+use borrow.Author.Tests.{ne-eqb, le-leb, leb-true}
+use Rattle.rows.specs.Rows.{rowAt, getD-row, length-row}
+use Rattle.rows.specs.Tab.{tab, tab-ext, tab-of, map-tab}
+use Rattle.messages.specs.Pending.{pendingIn, mailboxesOf, completeIn}
+use Rattle.messages.specs.Mailboxes.{mailboxes-none}
+use Rattle.messages.specs.Complete.{complete-none}
+use Rattle.timers.specs.Timers.{timersIn}
+use Rattle.ledger.specs.Lists.{all}
+use Rattle.ledger.specs.Config.{Config}
+use Rattle.ledger.specs.Ledger as ledger
+use Rattle.ledger.specs.Ledger.{Queue, queue, held, emptyQueue, freshTask, fresh}
+use Rattle.ledger.specs.Services.{shape}
+use Rattle.ledger.specs.Theorems.Checks.{and-right}
+use Rattle.ledger.specs.Theorems.Fresh.{fresh-queue}
+use Rattle.tables.specs.declared.shape.Shape.{Shape}
+use Rattle.tables.specs.Layout.{Regions, regions, region, named, bound, region-at}
+use Rattle.tables.specs.Decode.{semaphoreOf, viewBlocks, viewOutcome, viewRequest, viewSemaphore, viewTask, recordOf}
+use Rattle.tables.specs.Shows.{taskAt, tasksIn, semaphoreCount, semaphoreAt, semaphoresIn, heldAt, queuesIn, pendingOf, mailboxesIn, timersOf, ticksIn, Shown, Of, Shows}
+
+-- the kind of the outcome: begin for a runnable task, plain for an idle one
+abbrev pub kindOf : ℕ → ℕ
+kindOf state = cond (eqb state 0) 1 0
+
+-- all ticks left, no message, the tasks by their initial states, no request, every semaphore PENDING, every ring empty.
+-- All other bytes are free
+pub record FreshTables (s : Shape) (k : ℕ) (states d : List ℕ) : Type 0 where
+  pub ticks : getD d 0 0 ≡ k
+  pub messages : getD d 1 0 ≡ 0
+  pub blocks : (i : ℕ) → i < s .tasks → getD d (2 + i) 0 ≡ getD states i 0
+  pub kinds : (i : ℕ) → i < s .tasks → getD d (s .recordat + i * 6) 0 ≡ kindOf (getD states i 0)
+  pub requests : (i j : ℕ) → i < s .tasks → 1 ≤ j → j < 6 → getD d (s .recordat + (i * 6 + j)) 0 ≡ 0
+  pub semaphores : (i : ℕ) → i < s .semaphores → getD d (s .semaphoreat + i) 0 ≡ 0
+  pub rings : (i : ℕ) → i < 2 * s .queues → getD d (s .ringat + i) 0 ≡ 0
+
+-- ---- one task
+
+fresh-record : (c : Config) (Q st b : ℕ) (r e : List ℕ) → st ≤ 1 → b ≡ st → getD r 0 0 ≡ kindOf st → getD r 4 0 ≡ 0 → getD r 5 0 ≡ 0
+    → freshTask st ≡ viewTask c (recordOf Q b r) e (replicate 16 0)
+unfolding freshTask viewTask recordOf viewBlocks viewOutcome viewRequest
+fresh-record c Q zero b r e h eb ek e4 e5 = rw (eb, ek, e4, e5)
+fresh-record c Q (suc zero) b r e h eb ek e4 e5 = rw (eb, ek, e4, e5)
+fresh-record c Q (suc (suc n)) b r e h eb ek e4 e5 = absurd (omega arith)
+
+-- ---- lists of equals
+
+module _ {A : Type 0} where
+  tab-same : (n : ℕ) (v : A) (f : ℕ → A) → ((j : ℕ) → j < n → v ≡ f j) → replicate n v ≡ tab n f
+  unfolding tab
+  tab-same zero v f h = refl
+  tab-same (suc n) v f h = λ i. h 0 (omega arith) i ∷ tab-same n v (λ j. f (suc j)) (λ j l. h (suc j) (omega arith)) i
+
+  map-same : {B : Type 0} (g : A → B) (n : ℕ) (v : A) → map g (replicate n v) ≡ replicate n (g v)
+  map-same {B} g zero v = refl
+  map-same {B} g (suc n) v = ap (λ (l : List B). g v ∷ l) (map-same g n v)
+
+state-low : (l : List ℕ) (i : ℕ) → all (λ s. leb s 1) l ≡ true → getD l i 0 ≤ 1
+unfolding all
+state-low [] i h = omega arith
+state-low (x ∷ xs) zero h = go (leb x 1) refl h
+  where
+    go : (b : Bool) → leb x 1 ≡ b → (b && all (λ s. leb s 1) xs) ≡ true → x ≤ 1
+    go true e k = leb-true x 1 e
+    go false e k = absurd (let y : _≡_ {A = ℕ} 0 1 = cc in omega arith)
+state-low (x ∷ xs) (suc i) h = state-low xs i (and-right (leb x 1) (all (λ s. leb s 1) xs) h)
+
+module _ (c : Config) (s : Shape) (o : Of c s) (d z w : List ℕ)
+    (tasks : length (c .states) ≡ c .T) (low : all (λ s. leb s 1) (c .states) ≡ true)
+    (b : FreshTables s (c .K) (c .states) d)
+    (slots : 16 * c .T ≤ length z) (zeros : (i : ℕ) → i < 16 * c .T → getD z i 0 ≡ 0)
+    (none : getD w 0 0 ≡ 0) where
+  abbrev p : Regions
+  p = regions s d
+
+  -- a byte of a region is one of the tables
+  in-clock : (i : ℕ) → i < 2 → getD (p .clock) i 0 ≡ getD d i 0
+  unfolding regions named bound
+  in-clock i h = region-at s d 0 i (omega arith) ∙ ap (λ (x : ℕ). getD d x 0) (let e : 0 + i ≡ i = omega arith in e)
+
+  in-blocks : (i : ℕ) → i < c .T → getD (p .blocks) i 0 ≡ getD (c .states) i 0
+  unfolding regions named bound
+  in-blocks i h = let l = o .laid in region-at s d 1 i (omega arith) ∙ b .blocks i (omega arith)
+
+  in-record : (i j : ℕ) → i < c .T → j < 6 → getD (rowAt 6 i (p .records)) j 0 ≡ getD d (s .recordat + (i * 6 + j)) 0
+  unfolding regions named bound
+  in-record i j h k = let l = o .laid in getD-row 6 i j (region s d 2) k ∙ region-at s d 2 (i * 6 + j) (omega arith)
+
+  in-semaphores : (i : ℕ) → i < s .semaphores → getD (p .semaphores) i 0 ≡ 0
+  unfolding regions named bound
+  in-semaphores i h = let l = o .laid in region-at s d 3 i (omega arith) ∙ b .semaphores i h
+
+  in-rings : (i : ℕ) → i < 2 * s .queues → getD (p .rings) i 0 ≡ 0
+  unfolding regions named bound
+  in-rings i h = let l = o .laid in region-at s d 5 i (omega arith) ∙ b .rings i h
+
+  in-slot : (i : ℕ) → i < c .T → rowAt 16 i z ≡ replicate 16 0
+  in-slot i h =
+      let n : length (rowAt 16 i z) ≡ 16 = length-row 16 i z (omega arith) in
+      ext-getD 0 (rowAt 16 i z) (replicate 16 0) n (λ j k.
+      let m : j < 16 = omega arith in
+      getD-row 16 i j z m ∙ zeros (i * 16 + j) (omega arith) ∙ sym (getD-replicate 16 j 0 0 m))
+
+  task-fresh : (i : ℕ) → i < c .T → freshTask (getD (c .states) i 0) ≡ taskAt c p z i
+  unfolding taskAt
+  task-fresh i h =
+      let l = o .laid in
+      let e : s .recordat + (i * 6 + 0) ≡ s .recordat + i * 6 = omega arith in
+      fresh-record c (c .Q) (getD (c .states) i 0) (getD (p .blocks) i 0) (rowAt 6 i (p .records)) (rowAt 16 i (p .waiting)) (state-low (c .states) i low) (in-blocks i h)
+      (in-record i 0 h (omega arith) ∙ ap (λ (x : ℕ). getD d x 0) e ∙ b .kinds i (omega arith))
+      (in-record i 4 h (omega arith) ∙ b .requests i 4 (omega arith) (omega arith) (omega arith))
+      (in-record i 5 h (omega arith) ∙ b .requests i 5 (omega arith) (omega arith) (omega arith))
+      ∙ ap (viewTask c (recordOf (c .Q) (getD (p .blocks) i 0) (rowAt 6 i (p .records))) (rowAt 16 i (p .waiting))) (sym (in-slot i h))
+
+  tasks-fresh : map freshTask (c .states) ≡ tasksIn c p z
+  unfolding tasksIn
+  tasks-fresh =
+      ap (map freshTask) (tab-of (c .states) (c .T) 0 tasks) ∙ map-tab freshTask (c .T) (λ i. getD (c .states) i 0)
+      ∙ tab-ext (c .T) (λ i. freshTask (getD (c .states) i 0)) (taskAt c p z) task-fresh
+
+  semaphores-fresh : replicate (c .S + c .T + 2 * c .Q) ledger.PENDING ≡ semaphoresIn c p
+  unfolding semaphoresIn semaphoreCount semaphoreAt viewSemaphore
+  semaphores-fresh =
+      let l = o .laid in
+      tab-same (c .S + c .T + 2 * c .Q) ledger.PENDING (λ i. viewSemaphore (semaphoreOf (c .T) (getD (p .semaphores) i 0))) (λ j h. rw (in-semaphores j (omega arith)))
+
+  pending-fresh : pendingOf c p ≡ []
+  unfolding pendingOf pendingIn
+  pending-fresh = rw (in-clock 1 (omega arith) ∙ b .messages, le-leb 0 (c .G) (omega arith))
+
+  mailboxes-fresh : replicate (c .T) [] ≡ mailboxesIn c p
+  unfolding mailboxesIn
+  mailboxes-fresh = sym (mailboxes-none (c .T)) ∙ ap (mailboxesOf (c .T)) (sym pending-fresh)
+
+  queues-fresh : map held (replicate (c .Q) emptyQueue) ≡ queuesIn c p
+  unfolding queuesIn heldAt held
+  queues-fresh =
+      map-same held (c .Q) emptyQueue
+      ∙ tab-same (c .Q) [] (heldAt c p) (λ j h. sym (rw (in-rings (j * 2 + 1) (omega (arith, o .queues)), le-leb 0 (shape c (suc j) .depth) (omega arith))))
+
+  ticks-fresh : 0 ≡ ticksIn c p
+  unfolding ticksIn
+  ticks-fresh =
+      let l = o .laid in
+      let e : getD (p .clock) 0 0 ≡ c .K = in-clock 0 (omega arith) ∙ b .ticks in
+      rw (e, ne-eqb (c .K) 0 (λ q. omega arith), le-leb (c .K) (c .K) (omega arith)) (omega arith)
+
+  taken-fresh : (q : ℕ) → queue (fresh c) q .taken ≤ length (queue (fresh c) q .put)
+  taken-fresh q = subst (λ (k : Queue). k .taken ≤ length (k .put)) (sym (fresh-queue c q)) (omega arith)
+
+  timers-fresh : [] ≡ timersOf c w
+  unfolding timersOf timersIn
+  timers-fresh = sym (rw (none, le-leb 0 (c .R) (omega arith)))
+
+  fresh-shown : Shown c (fresh c) p z w
+  unfolding fresh
+  fresh-shown =
+      record {
+        ticks = ticks-fresh;
+        tasks = tasks-fresh;
+        semaphores = semaphores-fresh;
+        mailboxes = mailboxes-fresh;
+        queues = queues-fresh;
+        taken = taken-fresh;
+        timers = timers-fresh;
+        messages = ap (completeIn (c .T) (c .G)) pending-fresh ∙ complete-none (c .T) (c .G);
+      }
+
+  pub fresh-shows : s .end ≤ length d → 1 + 10 * c .R ≤ length w → Shows c s (fresh c) d z w
+  fresh-shows room counted = record { of = o; room = room; slots = omega (arith, o .tasks); counted = omega (arith, o .timers); shown = fresh-shown }

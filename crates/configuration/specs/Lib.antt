@@ -1,0 +1,12 @@
+pub mod Block
+pub mod Head
+pub mod States
+pub mod Room
+pub mod Refusal
+pub mod Layout
+pub mod Lent
+pub mod Ring
+pub mod Fresh
+pub mod Accepted
+pub mod Written
+pub mod Started

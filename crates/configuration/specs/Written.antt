@@ -1,0 +1,170 @@
+-- The fresh tables, written: every byte after the fill, the ticks, the copied states and the outcomes.
+use mathlib.Core.Path.{_≡_, refl, sym, ap, _∙_}
+use mathlib.Core.List.{List, _++_, append-assoc}
+use Prim.Native.Nat.{ℕ, _+_, _-_, _*_, _<_, _≤_}
+use native.Mathlib.Omega.{arith}
+use lib.ListN.{length, getD, take, drop, set, replicate, length-append, length-take, length-replicate, getD-replicate, List·getD-append}
+use lib.Seq.{drop-drop, ext-getD, length-take-le, getD-take, getD-drop, getD-append-add, getD-set-same, getD-set-other}
+use borrow.Rule.Slice.PartMut.{putMid}
+use borrow.Author.Count.{below-more}
+use Rattle.rows.specs.Splice.{cut, splice}
+use Rattle.rows.specs.Laws.{length-cut, length-splice}
+use Rattle.tables.specs.declared.shape.Shape.{Shape}
+use Rattle.tables.specs.Layout.{Laid, Fits, fitting, laid, room}
+use Rattle.configuration.specs.Fresh.{kindOf, FreshTables}
+
+-- ---- a byte of a splice
+
+module _ (d s : List ℕ) (at : ℕ) (room : at + length s ≤ length d) where
+  pub splice-in : (i : ℕ) → i < length s → getD (splice d at s) (at + i) 0 ≡ getD s i 0
+  splice-in i h =
+      let n : length (take at d) ≡ at = length-take-le at d (omega arith) in
+      ap (λ (l : List ℕ). getD l (at + i) 0) (append-assoc (take at d) s (drop (at + length s) d))
+      ∙ ap (λ (x : ℕ). getD (take at d ++ (s ++ drop (at + length s) d)) (x + i) 0) (sym n)
+      ∙ getD-append-add (take at d) (s ++ drop (at + length s) d) i 0 ∙ List·getD-append s (drop (at + length s) d) 0 i h
+
+  pub splice-below : (i : ℕ) → i < at → getD (splice d at s) i 0 ≡ getD d i 0
+  splice-below i h =
+      List·getD-append (take at d ++ s) (drop (at + length s) d) 0 i (simp (length-append, length-take) (omega arith))
+      ∙ List·getD-append (take at d) s 0 i (simp length-take (omega arith)) ∙ getD-take at d i 0 h
+
+  pub splice-above : (i : ℕ) → at + length s ≤ i → getD (splice d at s) i 0 ≡ getD d i 0
+  splice-above i h =
+      let n : length (take at d ++ s) ≡ at + length s = simp (length-append, length-take) (omega arith) in
+      let k : ℕ = i - (at + length s) in
+      let e : i ≡ at + length s + k = omega arith in
+      ap (λ (x : ℕ). getD (splice d at s) x 0) e ∙ ap (λ (x : ℕ). getD (splice d at s) (x + k) 0) (sym n)
+      ∙ getD-append-add (take at d ++ s) (drop (at + length s) d) k 0 ∙ getD-drop (at + length s) d k 0 ∙ ap (λ (x : ℕ). getD d x 0) (sym e)
+
+-- a part that was lent and came back is a splice
+pub lent-part : (d : List ℕ) (a e : ℕ) (ys : List ℕ) → a ≤ e → e ≤ length d → length ys ≡ e - a → putMid a (e - a) d ys ≡ splice d a ys
+lent-part d a e ys h k l =
+    let t : drop (e - a) (drop a d) ≡ drop (a + length ys) d = rw l (drop-drop (e - a) a d) in
+    ap (λ (z : List ℕ). take a d ++ (ys ++ z)) t ∙ sym (append-assoc (take a d) ys (drop (a + length ys) d))
+
+-- ---- the loops' turns and ends
+
+pub fill-turn : (d : List ℕ) (i v : ℕ) → i < length d → ((k : ℕ) → k < i → getD d k 0 ≡ v) → (k : ℕ) → k < i + 1 → getD (set d i v) k 0 ≡ v
+fill-turn d i v h old = below-more (λ k. getD (set d i v) k 0 ≡ v) i (λ k l. getD-set-other d i k v 0 (λ e. omega arith) ∙ old k l) (getD-set-same d i v 0 h)
+
+pub fill-end : (d : List ℕ) (n i v : ℕ) → length d ≡ n → n ≤ i → ((k : ℕ) → k < i → getD d k 0 ≡ v) → d ≡ replicate n v
+fill-end d n i v e h old =
+    ext-getD 0 d (replicate n v) (e ∙ sym (length-replicate n v)) (λ k l. let m : k < n = omega arith in old k (omega arith) ∙ sym (getD-replicate n k v 0 m))
+
+-- the first n rows of six bytes tell how their tasks begin; the other bytes of the rows are as they were
+pub record Begun (states r r' : List ℕ) (n : ℕ) : Type 0 where
+  pub kinds : (i : ℕ) → i < n → getD r' (i * 6) 0 ≡ kindOf (getD states i 0)
+  pub others : (i j : ℕ) → 1 ≤ j → j < 6 → getD r' (i * 6 + j) 0 ≡ getD r (i * 6 + j) 0
+
+pub begun-none : (states r : List ℕ) → Begun states r r 0
+begun-none states r = record { kinds = λ i h. absurd (omega arith); others = λ i j a b. refl }
+
+pub begun-turn : (states r d : List ℕ) (n v : ℕ) → n * 6 < length d → v ≡ kindOf (getD states n 0) → Begun states r d n → Begun states r (set d (n * 6) v) (n + 1)
+begun-turn states r d n v h e b =
+    record {
+      kinds = below-more (λ i. getD (set d (n * 6) v) (i * 6) 0 ≡ kindOf (getD states i 0)) n (λ i l. getD-set-other d (n * 6) (i * 6) v 0 (λ q. omega arith) ∙ b .kinds i l) (getD-set-same d (n * 6) v 0 h ∙ e);
+      others = λ i j x y. getD-set-other d (n * 6) (i * 6 + j) v 0 (λ q. omega arith) ∙ b .others i j x y;
+    }
+
+-- ---- the four writes: the fill, the states, the outcomes, the ticks
+module _ (s : Shape) (l : Laid s) (states d : List ℕ) (room : s .end ≤ length d) (n : length states ≡ s .tasks)
+    (ys : List ℕ) (ey : ys ≡ replicate (s .messageat) 0) where
+  abbrev d₁ : List ℕ
+  d₁ = putMid 0 (s .messageat - 0) d ys
+
+  length-ys : length ys ≡ s .messageat - 0
+  length-ys = ap length ey ∙ length-replicate (s .messageat) 0 ∙ omega arith
+
+  d₁-is : d₁ ≡ splice d 0 ys
+  d₁-is = lent-part d 0 (s .messageat) ys (omega arith) (omega arith) length-ys
+
+  length-d₁ : length d₁ ≡ length d
+  length-d₁ = ap length d₁-is ∙ length-splice d 0 ys (omega (arith, length-ys))
+
+  blank : (i : ℕ) → i < s .messageat → getD d₁ i 0 ≡ 0
+  blank i b =
+      let e : 0 + i ≡ i = omega arith in
+      ap (λ (x : List ℕ). getD x i 0) d₁-is ∙ ap (λ (x : ℕ). getD (splice d 0 ys) x 0) (sym e)
+      ∙ splice-in d ys 0 (omega (arith, length-ys)) i (omega (arith, length-ys)) ∙ ap (λ (x : List ℕ). getD x i 0) ey ∙ getD-replicate (s .messageat) i 0 0 b
+
+  length-two : (d₂ : List ℕ) → d₂ ≡ splice d₁ 2 states → length d₂ ≡ length d
+  length-two d₂ e₂ = ap length e₂ ∙ length-splice d₁ 2 states (omega (arith, length-d₁)) ∙ length-d₁
+
+  module _ (d₂ : List ℕ) (e₂ : d₂ ≡ splice d₁ 2 states) (r : List ℕ) (lr : length r ≡ s .semaphoreat - s .recordat)
+      (b : Begun states (cut d₂ (s .recordat) (s .semaphoreat)) r (length states)) (k : ℕ) where
+    abbrev d₃ : List ℕ
+    d₃ = putMid (s .recordat) (s .semaphoreat - s .recordat) d₂ r
+
+    length-d₂ : length d₂ ≡ length d
+    length-d₂ = length-two d₂ e₂
+
+    d₃-is : d₃ ≡ splice d₂ (s .recordat) r
+    d₃-is = lent-part d₂ (s .recordat) (s .semaphoreat) r (omega arith) (omega (arith, length-d₂)) lr
+
+    length-d₃ : length d₃ ≡ length d
+    length-d₃ = ap length d₃-is ∙ length-splice d₂ (s .recordat) r (omega (arith, length-d₂)) ∙ length-d₂
+
+    abbrev d₄ : List ℕ
+    d₄ = set d₃ 0 k
+
+    first : getD d₄ 0 0 ≡ k
+    first = getD-set-same d₃ 0 k 0 (omega (arith, length-d₃))
+
+    rest : (i : ℕ) → 1 ≤ i → getD d₄ i 0 ≡ getD (splice d₂ (s .recordat) r) i 0
+    rest i h = getD-set-other d₃ 0 i k 0 (λ q. omega arith) ∙ ap (λ (x : List ℕ). getD x i 0) d₃-is
+
+    before : (i : ℕ) → 1 ≤ i → i < s .recordat → getD d₄ i 0 ≡ getD d₂ i 0
+    before i a h = rest i a ∙ splice-below d₂ r (s .recordat) (omega (arith, length-d₂)) i h
+
+    within : (i : ℕ) → i < 6 * s .tasks → getD d₄ (s .recordat + i) 0 ≡ getD r i 0
+    within i h = rest (s .recordat + i) (omega arith) ∙ splice-in d₂ r (s .recordat) (omega (arith, length-d₂)) i (omega arith)
+
+    was-state : (i : ℕ) → i < s .tasks → getD d₂ (2 + i) 0 ≡ getD states i 0
+    was-state i h = ap (λ (x : List ℕ). getD x (2 + i) 0) e₂ ∙ splice-in d₁ states 2 (omega (arith, length-d₁)) i (omega arith)
+
+    was-below : (i : ℕ) → i < 2 → getD d₂ i 0 ≡ 0
+    was-below i h = ap (λ (x : List ℕ). getD x i 0) e₂ ∙ splice-below d₁ states 2 (omega (arith, length-d₁)) i h ∙ blank i (omega arith)
+
+    was-above : (i : ℕ) → s .recordat ≤ i → i < s .messageat → getD d₂ i 0 ≡ 0
+    was-above i h m = ap (λ (x : List ℕ). getD x i 0) e₂ ∙ splice-above d₁ states 2 (omega (arith, length-d₁)) i (omega arith) ∙ blank i m
+
+    behind : (i : ℕ) → s .semaphoreat ≤ i → i < s .messageat → getD d₄ i 0 ≡ 0
+    behind i h m = rest i (omega arith) ∙ splice-above d₂ r (s .recordat) (omega (arith, length-d₂)) i (omega arith) ∙ was-above i (omega arith) m
+
+    no-request : (i j : ℕ) → i < s .tasks → 1 ≤ j → j < 6 → getD d₄ (s .recordat + (i * 6 + j)) 0 ≡ 0
+    no-request i j h x y =
+        within (i * 6 + j) (omega arith) ∙ b .others i j x y
+        ∙ getD-take (s .semaphoreat - s .recordat) (drop (s .recordat) d₂) (i * 6 + j) 0 (omega arith) ∙ getD-drop (s .recordat) d₂ (i * 6 + j) 0
+        ∙ was-above (s .recordat + (i * 6 + j)) (omega arith) (omega arith)
+
+    written-tables : FreshTables s k states d₄
+    written-tables =
+        record {
+          ticks = first;
+          messages = before 1 (omega arith) (omega arith) ∙ was-below 1 (omega arith);
+          blocks = λ i h. before (2 + i) (omega arith) (omega arith) ∙ was-state i h;
+          kinds = λ i h. within (i * 6) (omega arith) ∙ b .kinds i (omega arith);
+          requests = no-request;
+          semaphores = λ i h. behind (s .semaphoreat + i) (omega arith) (omega arith);
+          rings = λ i h. behind (s .ringat + i) (omega arith) (omega arith);
+        }
+
+-- ---- where they lie
+module _ {s : Shape} {n : ℕ} where
+  pub front-in : Fits s n → (2 + s .tasks ≤ n) × (s .messageat ≤ n)
+  front-in (fitting l r) = (omega arith, omega arith)
+
+  pub records-in : Fits s n → (s .semaphoreat ≡ s .recordat + 6 * s .tasks) × (s .semaphoreat ≤ n)
+  records-in (fitting l r) = (l .states, omega arith)
+
+-- the same, as the code leaves it
+pub written : (s : Shape) (states d : List ℕ) → Fits s (length d) → length states ≡ s .tasks
+    → (ys : List ℕ) → ys ≡ replicate (length (cut d 0 (s .messageat))) 0
+    → (d₂ : List ℕ) → d₂ ≡ splice (putMid 0 (s .messageat - 0) d ys) 2 states
+    → (r : List ℕ) → length r ≡ length (cut d₂ (s .recordat) (s .semaphoreat)) → Begun states (cut d₂ (s .recordat) (s .semaphoreat)) r (length states)
+    → (k : ℕ) → FreshTables s k states (set (putMid (s .recordat) (s .semaphoreat - s .recordat) d₂ r) 0 k)
+written s states d f n ys ey d₂ e₂ r lr b k =
+    let l : Laid s = laid f in
+    let m : length (cut d 0 (s .messageat)) ≡ s .messageat = length-cut d 0 (s .messageat) (omega (arith, room f)) ∙ omega arith in
+    let y : ys ≡ replicate (s .messageat) 0 = ey ∙ ap (λ (x : ℕ). replicate x 0) m in
+    written-tables s l states d (room f) n ys y d₂ e₂ r (lr ∙ length-cut d₂ (s .recordat) (s .semaphoreat) (omega (arith, length-two s l states d (room f) n ys y d₂ e₂, room f))) b k

@@ -1,0 +1,91 @@
+// What the lent configuration block says. It holds the accepted frame at its front; the bytes behind are free.
+use crate::Lent;
+use crate::frame::good_head;
+use crate::frame::room;
+use crate::frame::wide;
+use queues::Ring;
+use tables::shape::Shape;
+ghost use mathlib.Core.Path.{_≡_};
+ghost use Prim.Native.Nat.{_≤_};
+ghost use lib.ListN.{length};
+ghost use Rattle.tables.specs.Shows.{Of};
+ghost use Rattle.queues.specs.Rings.{ringOf};
+ghost use Rattle.configuration.specs.Block.{configured};
+ghost use Rattle.configuration.specs.Layout.{laidOut, Lends};
+
+// The regions of the tables, one behind the other.
+pub fn lay(t: u8, s: u8, q: u8, r: u8, g: u8, k: u8, room: usize) -> Shape
+    requires { ⌜ room ≤ 4096 ⌝ }
+    ensures { λ x. ⌜ x ≡ laidOut t s q r g k room ⌝ }
+{
+    let tasks = wide(t);
+    let named = wide(s);
+    let queues = wide(q);
+    let messages = wide(g);
+    let semaphores = named + tasks + 2 * queues;
+    let recordat = 2 + tasks;
+    let semaphoreat = recordat + 6 * tasks;
+    let waitingat = semaphoreat + semaphores;
+    let ringat = waitingat + 16 * tasks;
+    let messageat = ringat + 2 * queues;
+    let bodyat = messageat + 4 * messages;
+    Shape {
+        tasks: tasks,
+        named: named,
+        semaphores: semaphores,
+        queues: queues,
+        timers: wide(r),
+        messages: messages,
+        ticks: wide(k),
+        recordat: recordat,
+        semaphoreat: semaphoreat,
+        waitingat: waitingat,
+        ringat: ringat,
+        messageat: messageat,
+        bodyat: bodyat,
+        end: bodyat + room,
+    }
+}
+
+// The structure rule of number 11, and the shape of a block that keeps it.
+pub fn lent(config: &[u8]) -> Lent
+    requires { ⌜ 198 ≤ length (now config) ⌝ }
+    ensures { λ r. ⌜ Lends (configured (now (config .entry))) r ⌝ }
+{
+    if !good_head(config) {
+        return Lent::Bad;
+    }
+    let queues = wide(config[2]);
+    let at = 8 + wide(config[0]);
+    let end = at + 2 * queues;
+    let sum = room(&config[at..end], queues);
+    if sum > 4096 {
+        return Lent::Bad;
+    }
+    let shape = lay(
+        config[0],
+        config[1],
+        config[2],
+        config[3],
+        config[4],
+        config[5],
+        sum,
+    );
+    Lent::Good(shape)
+}
+
+// The ring of queue q. Its entries lie behind those of the queues before it.
+pub fn ring_of(config: &[u8], shape: Shape, q: usize) -> Ring
+    requires { ⌜ (198 ≤ length (now config)) × Of (configured (now config)) shape × (1 ≤ q) × (q ≤ shape .queues) ⌝ }
+    ensures { λ r. ⌜ r ≡ ringOf (configured (now (config .entry))) shape q ⌝ }
+{
+    let before = q - 1;
+    let at = 8 + shape.tasks;
+    let here = at + 2 * before;
+    let base = shape.bodyat + room(&config[at..here], before);
+    Ring {
+        width: wide(config[here]),
+        depth: wide(config[here + 1]),
+        base: base,
+    }
+}

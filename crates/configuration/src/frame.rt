@@ -1,0 +1,142 @@
+// A configuration frame, accepted or refused; its tests serve the lent block too.
+ghost use mathlib.Core.Path.{_≡_};
+ghost use Prim.Native.Nat.{_+_, _*_, _≤_};
+ghost use lib.Dec.{leb};
+ghost use lib.ListN.{length};
+ghost use Rattle.ledger.specs.Lists.{all};
+ghost use Rattle.ledger.specs.Config.{goodHead, configRefusal};
+ghost use Rattle.configuration.specs.Block.{read};
+ghost use Rattle.configuration.specs.Head.{headRule};
+ghost use Rattle.configuration.specs.Room.{roomOf, roomIn};
+
+pub fn wide(x: u8) -> usize
+    ensures { λ r. ⌜ r ≡ x ⌝ }
+{
+    x as usize
+}
+
+fn word(high: u8, low: u8) -> u16
+    ensures { λ r. ⌜ r ≡ 256 * high + low ⌝ }
+{
+    256 * (high as u16) + low as u16
+}
+
+// The rule for the first eight bytes.
+fn head_rule(t: u8, s: u8, q: u8, r: u8, g: u8, k: u8, ms: u16) -> bool
+    ensures { λ x. ⌜ x ≡ headRule t s q r g k ms ⌝ }
+{
+    if t == 0 {
+        return false;
+    }
+    if t > 126 {
+        return false;
+    }
+    if q > 32 {
+        return false;
+    }
+    if r > 64 {
+        return false;
+    }
+    if g > 64 {
+        return false;
+    }
+    if k == 0 {
+        return false;
+    }
+    if ms == 0 {
+        return false;
+    }
+    if wide(s) + wide(t) + 2 * wide(q) > 255 {
+        return false;
+    }
+    true
+}
+
+pub fn good_head(bytes: &[u8]) -> bool
+    requires { ⌜ 8 ≤ length (now bytes) ⌝ }
+    ensures { λ r. ⌜ r ≡ goodHead (read (now (bytes .entry))) ⌝ }
+{
+    let ms = word(bytes[6], bytes[7]);
+    head_rule(
+        bytes[0],
+        bytes[1],
+        bytes[2],
+        bytes[3],
+        bytes[4],
+        bytes[5],
+        ms,
+    )
+}
+
+// Initial states 0 or 1.
+fn good_states(states: &[u8]) -> bool
+    ensures { λ r. ⌜ r ≡ all (λ s. leb s 1) (now (states .entry)) ⌝ }
+{
+    let mut i = 0;
+    while i < states.len() {
+        if states[i] > 1 {
+            return false;
+        }
+        i += 1;
+    }
+    true
+}
+
+// The bytes of one queue, or 4,097 for a width or a depth that is none.
+fn room_of(width: u8, depth: u8) -> usize
+    ensures { λ r. ⌜ r ≡ roomOf width depth ⌝ }
+{
+    if width == 0 {
+        return 4097;
+    }
+    if width > 16 {
+        return 4097;
+    }
+    if depth == 0 {
+        return 4097;
+    }
+    wide(width) * wide(depth)
+}
+
+// The bytes of all queues, or 4,097 if one of them is none or there are more than 4,096.
+pub fn room(shapes: &[u8], queues: usize) -> usize
+    requires { ⌜ length (now shapes) ≡ 2 * queues ⌝ }
+    ensures { λ r. ⌜ r ≡ roomIn 0 (now (shapes .entry)) ⌝ }
+{
+    let mut sum: usize = 0;
+    let mut k: usize = 0;
+    while k < queues {
+        let i = 2 * k;
+        sum += room_of(shapes[i], shapes[i + 1]);
+        if sum > 4096 {
+            return 4097;
+        }
+        k += 1;
+    }
+    sum
+}
+
+// 0 accepts.
+pub fn refusal(frame: &[u8]) -> u8
+    ensures { λ r. ⌜ r ≡ configRefusal (now (frame .entry)) ⌝ }
+{
+    if frame.len() < 8 {
+        return 2;
+    }
+    if !good_head(frame) {
+        return 3;
+    }
+    let queues = wide(frame[2]);
+    let at = 8 + wide(frame[0]);
+    let end = at + 2 * queues;
+    if frame.len() != end {
+        return 2;
+    }
+    if !good_states(&frame[8..at]) {
+        return 3;
+    }
+    if room(&frame[at..end], queues) > 4096 {
+        return 3;
+    }
+    0
+}

@@ -1,0 +1,85 @@
+// The fresh memory of an accepted configuration.
+use crate::block::lay;
+use tables::shape::Shape;
+ghost use mathlib.Core.Path.{_≡_};
+ghost use Prim.Native.Nat.{_*_, _≤_};
+ghost use lib.ListN.{length, replicate};
+ghost use Rattle.ledger.specs.Config.{configRefusal};
+ghost use Rattle.tables.specs.Layout.{Fits};
+ghost use Rattle.configuration.specs.Fresh.{kindOf, FreshTables};
+ghost use Rattle.configuration.specs.Written.{Begun};
+ghost use Rattle.configuration.specs.Started.{Started};
+
+fn fill(part: &mut [u8], v: u8)
+    ensures { λ _. ⌜ now (part .exit) ≡ replicate (length (now (part .entry))) v ⌝ }
+{
+    let mut i = 0;
+    while i < part.len() {
+        part[i] = v;
+        i += 1;
+    }
+}
+
+// The kind of a fresh task's outcome: begin if it is runnable, plain if it is idle.
+fn kind_of(state: u8) -> u8
+    ensures { λ r. ⌜ r ≡ kindOf state ⌝ }
+{
+    if state == 0 {
+        return 1;
+    }
+    0
+}
+
+// The outcomes of the tasks' records.
+fn begin(states: &[u8], records: &mut [u8])
+    requires { ⌜ length (now records) ≡ 6 * length (now states) ⌝ }
+    ensures { λ _. ⌜ Begun (now (states .entry)) (now (records .entry)) (now (records .exit)) (length (now (states .entry))) ⌝ }
+{
+    let mut i = 0;
+    while i < states.len() {
+        records[i * 6] = kind_of(states[i]);
+        i += 1;
+    }
+}
+
+// The tables up to the messages. The bytes behind stay.
+fn fresh_tables(states: &[u8], ticks: u8, tables: &mut [u8], shape: Shape)
+    requires { ⌜ Fits shape (length (now tables)) × (length (now states) ≡ shape .tasks) ⌝ }
+    ensures { λ _. ⌜ FreshTables shape ticks (now (states .entry)) (now (tables .exit)) ⌝ }
+{
+    let end = shape.messageat;
+    fill(&mut tables[0..end], 0);
+    rows::copy_in(states, tables, 2);
+    let at = shape.recordat;
+    let behind = shape.semaphoreat;
+    begin(states, &mut tables[at..behind]);
+    tables[0] = ticks;
+}
+
+// Writes an accepted frame into the front of the block, and the fresh tables. The bytes that they do not need stay.
+pub fn start(
+    frame: &[u8],
+    config: &mut [u8],
+    tables: &mut [u8],
+    slots: &mut [u8],
+    timers: &mut [u8],
+)
+    requires { ⌜ (configRefusal (now frame) ≡ 0) × (198 ≤ length (now config)) × (7571 ≤ length (now tables)) × (2016 ≤ length (now slots)) × (641 ≤ length (now timers)) ⌝ }
+    ensures { λ _. ⌜ Started (now (frame .entry)) (now (config .exit)) (now (tables .exit)) (now (slots .exit)) (now (timers .exit)) ⌝ }
+{
+    rows::copy_in(frame, config, 0);
+    let shape = lay(
+        frame[0],
+        frame[1],
+        frame[2],
+        frame[3],
+        frame[4],
+        frame[5],
+        0,
+    );
+    let at = 8 + shape.tasks;
+    fresh_tables(&frame[8..at], frame[5], tables, shape);
+    let end = 16 * shape.tasks;
+    fill(&mut slots[0..end], 0);
+    timers[0] = 0;
+}

@@ -1,0 +1,110 @@
+-- A frame's step over the memory: what it promises, and how its calls come to it.
+use mathlib.Core.Path.{_≡_, refl, sym, ap, _∙_, subst}
+use mathlib.Core.Bool.{Bool, true, false, cond}
+use mathlib.Core.List.{List}
+use Prim.Native.Nat.{ℕ, _+_, _*_, _≤_}
+use native.Mathlib.Omega.{arith}
+use lib.Dec.{eqb}
+use lib.ListN.{drop}
+use borrow.Author.Tests.{eq-eqb, ne-eqb}
+use Rattle.tables.specs.declared.shape.Shape.{Shape}
+use Rattle.tables.specs.Shows.{Shows}
+use Rattle.configuration.specs.Block.{configured}
+use Rattle.command.specs.declared.Command.{Command}
+use Rattle.command.specs.declared.Command.the-variants.{Refused, Wait, Signal, Pend, Send, Sendw, Receive, Dequeue, Enqueue, Resume, Suspend, Terminate, Execute, Delay, Timer, Purge, Tick, Exit}
+use Rattle.command.specs.declared.Asked.{Asked}
+use Rattle.command.specs.Did.{numberOf, did}
+use Rattle.command.specs.Reads.{Reads}
+use Rattle.command.specs.Free.{Free}
+use Rattle.answer.specs.Written.{written}
+use Rattle.services.specs.Arms.{moved}
+use Rattle.ledger.specs.Config.{Config}
+use Rattle.ledger.specs.Ledger.{Ledger, running, setTask, setOutcome}
+use Rattle.ledger.specs.Refusals.{inAMailbox, refusal}
+use Rattle.ledger.specs.Session as session
+use Rattle.ledger.specs.Session.{accept}
+use Rattle.executive.specs.Carried.{prepared, served, did-is}
+
+-- settled from the ledger M on, in n reissues
+pub record Acted (c : Config) (s : Shape) (M : Ledger) (d z w : List ℕ) (n : ℕ) : Type 0 where
+  pub reissues : n ≡ session.settle (2 * c .T) c M .reissues
+  pub shows : Shows c s (session.settle (2 * c .T) c M .ledger) d z w
+
+-- the number, the memory and the answer are the ledger's; a refused frame changes the answer alone
+pub record Steps (c : Config) (s : Shape) (f d z w a d' z' w' a' : List ℕ) (r : ℕ) : Type 0 where
+  pub tells : (L : Ledger) → Shows c s L d z w → (r ≡ refusal c L f) × Shows c s (session.step c f L .ledger) d' z' w' × (a' ≡ written (session.step c f L .answered) a)
+  pub unchanged : (r ≡ 0 → ⊥) → (d' ≡ d) × (z' ≡ z) × (w' ≡ w)
+
+-- the two ways of a step
+refused-step : (c : Config) (f : List ℕ) (L : Ledger) → (refusal c L f ≡ 0 → ⊥) → session.step c f L ≡ record { ledger = L; answered = session.answer (refusal c L f) 0 L }
+unfolding session.step
+refused-step c f L n = rw (ne-eqb (refusal c L f) 0 n)
+
+accepted-step : (c : Config) (f : List ℕ) (L : Ledger) → refusal c L f ≡ 0
+    → let m = session.settle (2 * c .T) c (accept c f L) in session.step c f L ≡ record { ledger = m .ledger; answered = session.answer 0 (m .reissues) (m .ledger) }
+unfolding session.step
+accepted-step c f L e = rw (eq-eqb (refusal c L f) 0 e)
+
+module _ (g f d z w a : List ℕ) (s : Shape) (q : Asked) (reads : Reads g f d w s q) (n : ℕ) (en : n ≡ numberOf (q .command)) where
+  abbrev c : Config
+  c = configured g
+
+  number-is : (L : Ledger) → Shows c s L d z w → n ≡ refusal c L f
+  number-is L h = en ∙ reads .tells L z h .1
+
+  pub step-refused : (a' : List ℕ) → (n ≡ 0 → ⊥) → ((L : Ledger) → Shows c s L d z w → a' ≡ written (session.answer n 0 L) a) → Steps c s f d z w a d z w a' n
+  step-refused a' ne e =
+      record {
+        tells = λ L h.
+            let r = number-is L h in
+            let x = refused-step c f L (λ k. ne (r ∙ k)) in
+            (r, moved (sym (ap (λ y. y .ledger) x)) h, e L h ∙ ap (λ (k : ℕ). written (session.answer k 0 L) a) r ∙ ap (λ y. written (y .answered) a) (sym x));
+        unchanged = λ k. (refl, refl, refl);
+      }
+
+  pub step-accepted : (d' z' w' a' : List ℕ) (m : ℕ) → n ≡ 0
+      → ((L : Ledger) → Free (q .command) c L → Shows c s L d z w → Acted c s (did (q .command) c (q .running) (drop 5 f) L) d' z' w' m)
+      → ((M : Ledger) → Shows c s M d' z' w' → a' ≡ written (session.answer 0 m M) a) → Steps c s f d z w a d' z' w' a' 0
+  step-accepted d' z' w' a' m e act told =
+      record {
+        tells = λ L h.
+            let r : 0 ≡ refusal c L f = sym e ∙ number-is L h in
+            let t = reads .tells L z h in
+            let k : did (q .command) c (q .running) (drop 5 f) L ≡ accept c f L = ap (λ (x : ℕ). did (q .command) c x (drop 5 f) L) (t .0) ∙ sym (t .2 (sym r)) in
+            let y = act L (reads .free L z h) h in
+            let x = accepted-step c f L (sym r) in
+            let M : Ledger = session.settle (2 * c .T) c (accept c f L) .ledger in
+            let u : Shows c s M d' z' w' = moved (ap (λ (X : Ledger). session.settle (2 * c .T) c X .ledger) k) (y .shows) in
+            let v : m ≡ session.settle (2 * c .T) c (accept c f L) .reissues = y .reissues ∙ ap (λ (X : Ledger). session.settle (2 * c .T) c X .reissues) k in
+            (r, moved (sym (ap (λ y. y .ledger) x)) u, told M u ∙ ap (λ (j : ℕ). written (session.answer 0 j M) a) v ∙ ap (λ y. written (y .answered) a) (sym x));
+        unchanged = λ k. absurd (k refl);
+      }
+
+-- what act's calls come to
+pub acted : (c : Config) (s : Shape) (r : Command) (self : ℕ) (e : List ℕ) (L : Ledger) (d z w : List ℕ) (n : ℕ)
+    → (n ≡ session.settle (2 * c .T) c (served r c self e (prepared r self L)) .reissues) × Shows c s (session.settle (2 * c .T) c (served r c self e (prepared r self L)) .ledger) d z w
+    → Acted c s (did r c self e L) d z w n
+acted c s r self e L d z w n h =
+    subst (λ (X : Ledger). Acted c s X d z w n) (sym (did-is r c self e L)) (record { reissues = h .0; shows = h .1 })
+
+-- a plain outcome leaves the messages and the timers
+pub free-prepared : (r : Command) (c : Config) (self : ℕ) (L : Ledger) → Free r c L → Free r c (prepared r self L)
+unfolding prepared setOutcome setTask inAMailbox
+free-prepared (Refused n) c self L h = h
+free-prepared (Wait b) c self L h = h
+free-prepared (Signal b) c self L h = h
+free-prepared (Pend b) c self L h = h
+free-prepared (Send a b x) c self L h = h
+free-prepared (Sendw a b x) c self L h = h
+free-prepared (Receive a) c self L h = h
+free-prepared (Dequeue q) c self L h = h
+free-prepared (Enqueue q) c self L h = h
+free-prepared (Resume a) c self L h = h
+free-prepared (Suspend a) c self L h = h
+free-prepared (Terminate a) c self L h = h
+free-prepared (Execute a) c self L h = h
+free-prepared (Delay a b n p) c self L h = h
+free-prepared (Timer a b n p) c self L h = h
+free-prepared (Purge a b all) c self L h = h
+free-prepared Tick c self L h = h
+free-prepared (Exit b) c self L h = h

@@ -1,0 +1,71 @@
+-- Turns of settling: after n of them the rest of the ledger's settling is what is left of its fuel.
+use mathlib.Core.Path.{_≡_, refl, sym, ap, _∙_, subst}
+use mathlib.Core.Bool.{Bool, true, false, cond}
+use mathlib.Core.List.{List}
+use Prim.Native.Nat.{ℕ, zero, suc, _+_, _-_, _*_, _<_, _≤_}
+use native.Mathlib.Nat.{zero-add, add-zero}
+use native.Mathlib.Numerals.{add-one}
+use native.Mathlib.Omega.{arith}
+use Rattle.ledger.specs.Config.{Config}
+use Rattle.ledger.specs.Ledger.{Ledger}
+use Rattle.ledger.specs.Session.{Settled, openRequest, isOpen, reissue, settle}
+
+-- a turn, or none
+unfoldable pub turned : Bool → Config → Ledger → Ledger
+turned true c L = reissue c L
+turned false c L = L
+
+unfoldable pub turns : ℕ → Config → Ledger → Ledger
+turns zero c L = L
+turns (suc n) c L = reissue c (turns n c L)
+
+abbrev pub bump : ℕ → Settled → Settled
+bump n s = record { ledger = s .ledger; reissues = n + s .reissues }
+
+abbrev pub Rest : Config → Ledger → ℕ → Type 0
+Rest c L n = (k : ℕ) → settle (n + k) c L ≡ bump n (settle k c (turns n c L))
+
+pub turns-one : (c : Config) (L : Ledger) (n : ℕ) → reissue c (turns n c L) ≡ turns (n + 1) c L
+unfolding turns
+turns-one c L n = rw (add-one n)
+
+module _ (c : Config) (L : Ledger) where
+  pub rest-start : Rest c L 0
+  unfolding turns
+  rest-start k =
+      ap (λ (j : ℕ). settle j c L) (zero-add k)
+      ∙ λ i. record { ledger = settle k c L .ledger; reissues = sym (zero-add (settle k c L .reissues)) i }
+
+  module _ (n : ℕ) (r : Rest c L n) where
+    settle-open : (k : ℕ) (M : Ledger) → true ≡ isOpen (openRequest M) → settle (suc k) c M ≡ record { ledger = settle k c (reissue c M) .ledger; reissues = suc (settle k c (reissue c M) .reissues) }
+    unfolding settle
+    settle-open k M e = rw (sym e, settle)
+
+    settle-closed : (k : ℕ) (M : Ledger) → false ≡ isOpen (openRequest M) → settle k c M ≡ record { ledger = M; reissues = 0 }
+    unfolding settle
+    settle-closed zero M e = refl
+    settle-closed (suc k) M e = rw (sym e, settle)
+
+    pub rest-next : true ≡ isOpen (openRequest (turns n c L)) → Rest c L (n + 1)
+    rest-next e k =
+        let M : Ledger = turns n c L in
+        let N : Ledger = reissue c M in
+        let tn : N ≡ turns (n + 1) c L = turns-one c L n in
+        let p : n + 1 + k ≡ n + suc k = omega arith in
+        let q : n + suc (settle k c N .reissues) ≡ n + 1 + settle k c N .reissues = omega arith in
+        ap (λ (j : ℕ). settle j c L) p ∙ r (suc k) ∙ ap (bump n) (settle-open k M e)
+        ∙ (λ i. record { ledger = settle k c N .ledger; reissues = q i })
+        ∙ ap (λ (x : Ledger). bump (n + 1) (settle k c x)) tn
+
+    pub rest-stop : (m : ℕ) → n ≤ m → false ≡ isOpen (openRequest (turns n c L)) → settle m c L ≡ record { ledger = turns n c L; reissues = n }
+    rest-stop m l e =
+        let p : m ≡ n + (m - n) = omega arith in
+        ap (λ (j : ℕ). settle j c L) p ∙ r (m - n) ∙ ap (bump n) (settle-closed (m - n) (turns n c L) e)
+        ∙ (λ i. record { ledger = turns n c L; reissues = add-zero n i })
+
+    pub rest-out : (m : ℕ) → n ≤ m → m ≤ n → settle m c L ≡ record { ledger = turns n c L; reissues = n }
+    unfolding settle
+    rest-out m l g =
+        let p : m ≡ n + 0 = omega arith in
+        ap (λ (j : ℕ). settle j c L) p ∙ r 0
+        ∙ (λ i. record { ledger = turns n c L; reissues = add-zero n i })

@@ -1,0 +1,434 @@
+//! docs/MEMORY.md: its sizes and regions are those of the Rattle sources and of the largest configuration, and its example
+//! is what the other executive holds.
+
+use plain_executive::configuration::{Configuration, QueueSize};
+use plain_executive::executive::Executive;
+use plain_executive::items::{Items, OutcomeItem, RequestItem};
+use plain_executive::line;
+use plain_executive::semaphore::Semaphore;
+use plain_executive::tasks::{Block, Letter};
+use std::cell::RefCell;
+use std::collections::HashMap;
+use std::fs;
+use std::path::{Path, PathBuf};
+
+const BLOCKS: [&str; 5] = ["config", "tables", "slots", "timers", "answer"];
+
+fn repository() -> PathBuf {
+    Path::new(env!("CARGO_MANIFEST_DIR")).join("..")
+}
+
+fn text(path: impl AsRef<Path>) -> String {
+    let path = repository().join(path);
+    fs::read_to_string(&path).unwrap_or_else(|error| panic!("{}: {error}", path.display()))
+}
+
+// ---- the page
+
+/// The rows of the table whose first heading cells are these, without the heading.
+fn table(headings: &[&str]) -> Vec<Vec<String>> {
+    let page = text("docs/MEMORY.md");
+    let cells = |line: &str| -> Vec<String> {
+        line.trim().trim_matches('|').split('|').map(|cell| cell.trim().to_string()).collect()
+    };
+    let mut lines =
+        page.lines().skip_while(|line| !(line.starts_with('|') && cells(line).starts_with(&owned(headings))));
+    let heading = lines.next().unwrap_or_else(|| panic!("docs/MEMORY.md has no table {headings:?}"));
+    let rows: Vec<_> = lines.skip(1).take_while(|line| line.starts_with('|')).map(cells).collect();
+    assert!(rows.iter().all(|row| row.len() == cells(heading).len()), "a row of {headings:?} has other columns");
+    rows
+}
+
+fn owned(words: &[&str]) -> Vec<String> {
+    words.iter().map(|word| word.to_string()).collect()
+}
+
+/// Of each block its bytes, and what a configuration needs.
+fn sizes() -> Vec<(String, usize, String)> {
+    let rows = table(&["Block", "Bytes", "Needed for a configuration"]);
+    let sizes: Vec<_> = rows
+        .iter()
+        .map(|row| (row[0].trim_matches('`').to_string(), row[1].parse().unwrap(), row[2].clone()))
+        .collect();
+    assert_eq!(sizes.iter().map(|size| size.0.as_str()).collect::<Vec<_>>(), BLOCKS);
+    sizes
+}
+
+/// A sum of terms such as 6T, 2 or W.
+fn evaluate(sum: &str, value: impl Fn(&str) -> usize) -> usize {
+    let term = |term: &str| {
+        let digits = term.chars().take_while(char::is_ascii_digit).count();
+        let (factor, name) = term.split_at(digits);
+        let name = name.trim().trim_start_matches("* ");
+        let factor = if factor.is_empty() { 1 } else { factor.parse().unwrap() };
+        factor * if name.is_empty() { 1 } else { value(name) }
+    };
+    sum.replace(['(', ')'], "").split('+').map(|part| term(part.trim())).sum()
+}
+
+#[derive(Clone, Copy, Debug)]
+struct Numbers {
+    tasks: usize,
+    named: usize,
+    queues: usize,
+    timers: usize,
+    messages: usize,
+    queue_bytes: usize,
+}
+
+impl Numbers {
+    fn of(configuration: &Configuration) -> Numbers {
+        let bytes = |queue: &QueueSize| usize::from(queue.width) * usize::from(queue.depth);
+        Numbers {
+            tasks: configuration.tasks.into(),
+            named: configuration.named_semaphores.into(),
+            queues: configuration.queues.len(),
+            timers: configuration.timers.into(),
+            messages: configuration.messages.into(),
+            queue_bytes: configuration.queues.iter().map(bytes).sum(),
+        }
+    }
+
+    /// By the letters of the page.
+    fn letter(&self, name: &str) -> usize {
+        match name {
+            "T" => self.tasks,
+            "S" => self.named,
+            "Q" => self.queues,
+            "R" => self.timers,
+            "G" => self.messages,
+            "W" => self.queue_bytes,
+            _ => panic!("MEMORY.md: no number {name}"),
+        }
+    }
+}
+
+// ---- configurations
+
+/// T 126, S 65, Q 32, R 64, G 64, and 32 queues of 128 bytes.
+fn largest_frame() -> Vec<u8> {
+    let mut frame = vec![126, 65, 32, 64, 64, 255, 255, 255];
+    frame.extend([0; 126]);
+    frame.extend([16, 8].repeat(32));
+    frame
+}
+
+fn some_configurations() -> Vec<Configuration> {
+    let session = line::read(b"020101010101007D00000101").unwrap();
+    let plain = line::read(b"010000000001000100").unwrap();
+    let queues = line::read(b"030502020901000A000100030410FF").unwrap();
+    [session, plain, queues, largest_frame()]
+        .iter()
+        .map(|frame| Configuration::read(frame).expect("accepted"))
+        .collect()
+}
+
+#[test]
+fn the_sizes_are_what_the_largest_configuration_needs() {
+    let largest = Configuration::read(&largest_frame()).expect("accepted");
+    for (block, bytes, needed) in sizes() {
+        assert_eq!(evaluate(&needed, |name| Numbers::of(&largest).letter(name)), bytes, "{block}");
+    }
+    assert_eq!(largest_frame().len(), sizes()[0].1);
+    let total: usize = sizes().iter().map(|size| size.1).sum();
+    assert!(text("docs/MEMORY.md").contains(&format!(" {},{:03} bytes", total / 1000, total % 1000)), "{total}");
+}
+
+#[test]
+fn no_accepted_configuration_needs_more() {
+    for tasks in 1..=126 {
+        for queues in (0..=32).take_while(|queues| tasks + 2 * queues <= 255) {
+            let most = Numbers {
+                tasks,
+                named: 255 - tasks - 2 * queues,
+                queues,
+                timers: 64,
+                messages: 64,
+                queue_bytes: (queues * 16 * 255).min(4096),
+            };
+            for (block, bytes, needed) in sizes() {
+                assert!(evaluate(&needed, |name| most.letter(name)) <= bytes, "{block}: {most:?}");
+            }
+        }
+    }
+}
+
+// ---- the sources
+
+fn sources() -> Vec<PathBuf> {
+    let mut found = Vec::new();
+    for crate_folder in fs::read_dir(repository().join("crates")).expect("crates") {
+        let Ok(files) = fs::read_dir(crate_folder.unwrap().path().join("src")) else { continue };
+        found.extend(files.map(|file| file.unwrap().path()).filter(|path| path.extension().is_some_and(|e| e == "rt")));
+    }
+    assert!(found.len() > 10, "Rattle sources: {found:?}");
+    found
+}
+
+/// The numbers that stand right before or right behind a text.
+fn numbers_beside(source: &str, before: &str, behind: &str) -> Vec<usize> {
+    let left = source.match_indices(before).filter(|_| !before.is_empty()).map(|(at, _)| {
+        let rest = &source[..at];
+        &rest[rest.trim_end_matches(|c: char| c.is_ascii_digit()).len()..]
+    });
+    let right = source.match_indices(behind).filter(|_| !behind.is_empty()).map(|(at, found)| {
+        let rest = &source[at + found.len()..];
+        &rest[..rest.len() - rest.trim_start_matches(|c: char| c.is_ascii_digit()).len()]
+    });
+    left.chain(right).filter_map(|digits| digits.parse().ok()).collect()
+}
+
+#[test]
+fn the_sizes_are_those_of_the_sources() {
+    for (block, bytes, _) in sizes() {
+        let mut seen = 0;
+        for path in sources() {
+            let source = text(&path);
+            let asked = numbers_beside(&source, &format!(" ≤ length (now {block})"), &format!("{block}.len() < "));
+            seen += asked.len();
+            assert!(asked.iter().all(|size| *size == bytes), "{block} {bytes}: {} has {asked:?}", path.display());
+        }
+        assert!(seen > 0, "no source asks for a size of {block}");
+    }
+}
+
+/// Both sides of each line such as `pub records : s .recordat ≡ 2 + s .tasks` in a record of the specifications.
+fn sides(file: &str, record: &str, sign: &str) -> Vec<(String, String)> {
+    let source = text(file);
+    let from = source.find(&format!("pub record {record} ")).unwrap_or_else(|| panic!("{file} has no {record}"));
+    let fields = source[from..].split("\n\n").next().unwrap();
+    let both = |line: &str| {
+        let (left, right) = line.split_once(" : ")?.1.split_once(sign)?;
+        Some((left.replace("s .", ""), right.replace("s .", "")))
+    };
+    fields.lines().filter(|line| line.starts_with("  pub ")).filter_map(both).collect()
+}
+
+fn fields(numbers: Numbers) -> HashMap<String, usize> {
+    let fields = [
+        ("tasks", numbers.tasks),
+        ("named", numbers.named),
+        ("queues", numbers.queues),
+        ("timers", numbers.timers),
+        ("messages", numbers.messages),
+    ];
+    fields.into_iter().map(|(name, value)| (name.to_string(), value)).collect()
+}
+
+#[test]
+fn slots_and_timers_are_those_of_the_tables() {
+    let needed = sides("crates/tables/specs/Shows.antt", "Shows", " ≤ ");
+    for (block, name) in [(2, "length z"), (3, "length w")] {
+        let (sum, _) = needed.iter().find(|(_, right)| right == name).unwrap_or_else(|| panic!("no line with {name}"));
+        for numbers in some_configurations().iter().map(Numbers::of) {
+            let of_the_page = evaluate(&sizes()[block].2, |name| numbers.letter(name));
+            assert_eq!(evaluate(sum, |name| fields(numbers)[name]), of_the_page, "{numbers:?}");
+        }
+    }
+}
+
+#[test]
+fn the_regions_are_those_of_the_layout() {
+    let laid = sides("crates/tables/specs/Layout.antt", "Laid", " ≡ ");
+    let starts = ["recordat", "semaphoreat", "waitingat", "ringat", "messageat", "bodyat"];
+    let regions = table(&["Region", "Bytes"]);
+    let named: Vec<_> = regions.iter().map(|row| row[0].as_str()).collect();
+    assert_eq!(named, ["ticks", "count", "blocks", "records", "semaphores", "waiting", "rings", "messages", "entries"]);
+
+    for configuration in some_configurations() {
+        let numbers = Numbers::of(&configuration);
+        let mut fields = fields(numbers);
+        for (field, sum) in &laid {
+            let value = evaluate(sum, |name| fields[name]);
+            fields.insert(field.clone(), value);
+        }
+        let mut at = 0;
+        for (row, region) in regions.iter().enumerate() {
+            if row >= 3 {
+                assert_eq!(fields[starts[row - 3]], at, "{}: {numbers:?}", region[0]);
+            }
+            at += evaluate(&region[1], |name| numbers.letter(name));
+        }
+        assert_eq!(at, evaluate(&sizes()[1].2, |name| numbers.letter(name)), "{numbers:?}");
+    }
+}
+
+// ---- the example
+
+/// A block of the example; None is a free byte. It notes which bytes have been read.
+struct Bytes {
+    name: &'static str,
+    bytes: Vec<Option<u8>>,
+    read: RefCell<Vec<bool>>,
+}
+
+impl Bytes {
+    fn at(&self, index: usize) -> u8 {
+        self.read.borrow_mut()[index] = true;
+        self.bytes[index].unwrap_or_else(|| panic!("byte {index} of {} is shown as free", self.name))
+    }
+
+    fn number(&self, index: usize) -> usize {
+        self.at(index).into()
+    }
+
+    fn some(&self, from: usize, count: usize) -> Vec<u8> {
+        (from..from + count).map(|index| self.at(index)).collect()
+    }
+
+    fn all_others_are_free(&self) {
+        for (index, read) in self.read.borrow().iter().enumerate() {
+            assert!(*read || self.bytes[index].is_none(), "byte {index} of {} is free", self.name);
+        }
+    }
+}
+
+fn cell_bytes(cell: &str) -> Vec<Option<u8>> {
+    let mut bytes = Vec::new();
+    let mut words = cell.split(' ').peekable();
+    while let Some(word) = words.next() {
+        let (count, word) = match words.next_if_eq(&"×") {
+            Some(_) => (word.parse().expect("a count"), words.next().expect("a byte")),
+            None => (1, word),
+        };
+        let byte = (word != "--").then(|| u8::from_str_radix(word, 16).unwrap_or_else(|_| panic!("{word} is no byte")));
+        bytes.extend(vec![byte; count]);
+    }
+    bytes
+}
+
+fn example(column: usize) -> HashMap<&'static str, Bytes> {
+    let mut found: HashMap<&'static str, Vec<Option<u8>>> = HashMap::new();
+    let mut block = "";
+    for row in table(&["Block", "Bytes", "Holds"]) {
+        block = BLOCKS.iter().find(|name| row[0] == format!("`{name}`")).unwrap_or(&block);
+        let (from, to) = row[1].split_once('-').unwrap_or((&row[1], &row[1]));
+        let bytes = found.entry(block).or_default();
+        assert_eq!(bytes.len(), from.parse().unwrap(), "{block}: {row:?} does not follow");
+        bytes.extend(cell_bytes(&row[column]));
+        assert_eq!(bytes.len(), to.parse::<usize>().unwrap() + 1, "{block}: {row:?} has other bytes");
+    }
+    assert_eq!(found.len(), BLOCKS.len());
+    let whole =
+        |(name, bytes): (_, Vec<_>)| (name, Bytes { name, read: RefCell::new(vec![false; bytes.len()]), bytes });
+    found.into_iter().map(whole).collect()
+}
+
+/// What the bytes mean by the page is what the executive holds, and each is one that the program writes.
+fn assert_shown(memory: &HashMap<&str, Bytes>, configuration: &Configuration, items: &Items) {
+    let numbers = Numbers::of(configuration);
+    let starts: HashMap<String, usize> = table(&["Region", "Bytes"])
+        .iter()
+        .scan(0, |at, row| {
+            let from = *at;
+            *at += evaluate(&row[1], |name| numbers.letter(name));
+            Some((row[0].clone(), from))
+        })
+        .collect();
+    let (tables, slots, timers) = (&memory["tables"], &memory["slots"], &memory["timers"]);
+    let limited = |value: usize, most: usize| {
+        assert!(value <= most, "{value} is above {most}");
+        value
+    };
+
+    let left = tables.at(starts["ticks"]);
+    assert!(left >= 1 && left <= configuration.ticks_per_tock, "{left} ticks left");
+    assert_eq!(configuration.ticks_per_tock - left, items.ticks);
+
+    for (index, task) in items.tasks.iter().enumerate() {
+        let blocks = tables.at(starts["blocks"] + index);
+        for (bit, block) in
+            [Block::Idle, Block::Suspended, Block::EventWait, Block::MessageWait].into_iter().enumerate()
+        {
+            assert_eq!(blocks >> bit & 1 == 1, task.blocks.has(block), "task {}", index + 1);
+        }
+        let slot = slots.some(16 * index, 16);
+        assert_eq!(slot, task.slot);
+        let record = starts["records"] + 6 * index;
+        let outcome = match tables.at(record) {
+            1 => OutcomeItem::Begin,
+            2 => OutcomeItem::Message(letter(tables, record + 1)),
+            3 => OutcomeItem::Entry(slot[..limited(tables.number(record + 1), 16)].to_vec()),
+            4 => OutcomeItem::Refused(tables.at(record + 1)),
+            5 => OutcomeItem::Semaphore(tables.at(record + 1)),
+            _ => OutcomeItem::Plain,
+        };
+        assert_eq!(outcome, task.outcome, "task {}", index + 1);
+        let waiting = starts["waiting"] + 16 * index;
+        let request = match tables.at(record + 4) {
+            1 => RequestItem::Receive(tables.at(record + 5)),
+            2 => RequestItem::Dequeue(tables.at(record + 5)),
+            3 => {
+                let queue = tables.at(record + 5);
+                RequestItem::Enqueue(queue, tables.some(waiting, configuration.width(queue)))
+            }
+            _ => RequestItem::None,
+        };
+        assert_eq!(request, task.request, "task {}", index + 1);
+    }
+
+    for (index, semaphore) in items.semaphores.iter().enumerate() {
+        let shown = match tables.at(starts["semaphores"] + index) {
+            0 => Semaphore::Pending,
+            task if usize::from(task) <= numbers.tasks => Semaphore::Waiting(task),
+            _ => Semaphore::Done,
+        };
+        assert_eq!(shown, *semaphore, "semaphore {}", index + 1);
+    }
+
+    let mut mailboxes = vec![Vec::new(); numbers.tasks];
+    for index in 0..limited(tables.number(starts["count"]), numbers.messages) {
+        let record = starts["messages"] + 4 * index;
+        mailboxes[tables.number(record) - 1].push(letter(tables, record + 1));
+    }
+    assert_eq!(mailboxes, items.mailboxes);
+
+    let mut places = starts["entries"];
+    for (index, size) in configuration.queues.iter().enumerate() {
+        let (width, depth) = (usize::from(size.width), usize::from(size.depth));
+        let ring = starts["rings"] + 2 * index;
+        let oldest = limited(tables.number(ring), depth - 1);
+        let held = limited(tables.number(ring + 1), depth);
+        let entry = |turn: usize| tables.some(places + (oldest + turn) % depth * width, width);
+        assert_eq!((0..held).map(entry).collect::<Vec<_>>(), items.queues[index], "queue {}", index + 1);
+        places += width * depth;
+    }
+
+    let number = limited(timers.number(0), numbers.timers);
+    assert_eq!(number, items.timers.len());
+    for (index, timer) in items.timers.iter().enumerate() {
+        let record = timers.some(1 + 10 * index, 10);
+        let four = |at: usize| u32::from_be_bytes(record[at..at + 4].try_into().unwrap());
+        assert_eq!((record[0], record[1]), (timer.task, timer.semaphore));
+        assert_eq!((u64::from(four(2)), four(6)), (timer.tocks_left, timer.period));
+    }
+}
+
+fn letter(tables: &Bytes, at: usize) -> Letter {
+    Letter { message: tables.at(at), sender: tables.at(at + 1), semaphore: tables.at(at + 2) }
+}
+
+#[test]
+fn the_example_is_what_the_other_executive_holds() {
+    let page = text("docs/MEMORY.md");
+    let heading = page.lines().find(|line| line.starts_with("| Block | Bytes | Holds |")).expect("the example");
+    let frames: Vec<Vec<u8>> =
+        heading.split('`').skip(1).step_by(2).map(|digits| line::read(digits.as_bytes()).expect("digits")).collect();
+    assert_eq!(frames.len(), 3);
+
+    let mut executive = Executive::configure(&frames[0]).expect("accepted");
+    for (index, frame) in frames.iter().enumerate() {
+        let answer = if index == 0 { executive.answer(0, 0) } else { executive.frame(frame) };
+        let memory = example(3 + index);
+        assert_eq!(memory["config"].some(0, frames[0].len()), frames[0]);
+        assert_shown(&memory, executive.configuration(), &executive.items());
+        let length = memory["answer"].number(0);
+        assert_eq!(memory["answer"].some(1, length), answer.bytes());
+        let needed =
+            |block: usize| evaluate(&sizes()[block].2, |name| Numbers::of(executive.configuration()).letter(name));
+        for (block, name) in BLOCKS.iter().enumerate().take(4) {
+            assert_eq!(memory[name].bytes.len(), needed(block), "{name}");
+        }
+        memory.values().for_each(Bytes::all_others_are_free);
+    }
+}
