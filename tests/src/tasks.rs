@@ -16,6 +16,10 @@ pub enum Block {
 pub struct Blocks(u8);
 
 impl Blocks {
+    pub fn of(blocks: impl IntoIterator<Item = Block>) -> Self {
+        Blocks(blocks.into_iter().fold(0, |set, block| set | block as u8))
+    }
+
     pub fn has(self, block: Block) -> bool {
         self.0 & block as u8 != 0
     }

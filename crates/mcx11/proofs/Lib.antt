@@ -1,2 +1,4 @@
 pub mod Signed
 pub mod Results
+pub mod Whole
+pub mod Total

@@ -1,1 +1,14 @@
 pub mod Results
+pub mod Contract
+pub mod Feeding
+pub mod Calls
+pub mod Numbers
+pub mod Displayed
+pub mod Follows
+pub mod Whole
+pub mod Some
+pub mod Agree
+pub mod Glued
+pub mod Pended
+pub mod Encode
+pub mod Exists

@@ -71,19 +71,19 @@ fewer n p r (x ∷ xs) e a =
     let i : length xs ≤ count (other x p) n = fewer n (other x p) (λ z q. r z (and-left (p z) (not (eqb z x)) q)) xs d o in
     omega (arith, i, count-less p x n (r x h .0) (r x h .1) h)
 
+within-bounds : (n x : ℕ) → within 1 n x ≡ true → (1 ≤ x) × (x ≤ n)
+within-bounds n x w = (leb-true 1 x (and-left (leb 1 x) (leb x n) w), leb-true x n (and-right (leb 1 x) (leb x n) w))
+
 module _ (n : ℕ) (xs : List ℕ) (d : distinct xs ≡ true) (a : all (within 1 n) xs ≡ true) (e : length xs ≡ n) where
   occurs : (x : ℕ) → 1 ≤ x → x ≤ n → any (λ y. eqb y x) xs ≡ true
   occurs x l h = go (any (λ y. eqb y x) xs) refl
     where
-      bounds : (x : ℕ) → within 1 n x ≡ true → (1 ≤ x) × (x ≤ n)
-      bounds x w = (leb-true 1 x (and-left (leb 1 x) (leb x n) w), leb-true x n (and-right (leb 1 x) (leb x n) w))
-
       go : (b : Bool) → any (λ y. eqb y x) xs ≡ b → b ≡ true
       go true q = refl
       go false q =
           let w : within 1 n x ≡ true = rw (le-leb 1 x l, le-leb x n h) in
           let f : length xs ≤ count (other x (within 1 n)) n =
-          fewer n (other x (within 1 n)) (λ z r. bounds z (and-left (within 1 n z) (not (eqb z x)) r)) xs d (all-other (within 1 n) x xs a q) in
+          fewer n (other x (within 1 n)) (λ z r. within-bounds n z (and-left (within 1 n z) (not (eqb z x)) r)) xs d (all-other (within 1 n) x xs a q) in
           absurd (omega (arith, f, count-le (within 1 n) n, count-less (within 1 n) x n l h w))
 
 -- ---- on what is pending
@@ -94,6 +94,13 @@ all-numbers tasks n [] a = refl
 all-numbers tasks n (p ∷ ps) a =
     let r : inRange tasks n p ≡ true = and-left (inRange tasks n p) (all (inRange tasks n) ps) a in
     rw (and-right (within 1 tasks (p .to)) (within 1 n (numberOf p)) r) (all-numbers tasks n ps (and-right (inRange tasks n p) (all (inRange tasks n) ps) a))
+
+-- there are at most n
+pub at-most : (tasks n : ℕ) (l : List Pending) → completeIn tasks n l ≡ true → length l ≤ n
+at-most tasks n l c =
+    let f : length (map numberOf l) ≤ count (within 1 n) n =
+    fewer n (within 1 n) (within-bounds n) (map numberOf l) (complete-distinct tasks n l c) (all-numbers tasks n l (complete-range tasks n l c)) in
+    omega (arith, f, count-le (within 1 n) n, length-map l numberOf)
 
 module _ (tasks n x : ℕ) (low : 1 ≤ x) (high : x ≤ n) where
   pub full : (l : List Pending) → completeIn tasks n l ≡ true → length l ≡ n → any (any (numbered x)) (mailboxesOf tasks l) ≡ true

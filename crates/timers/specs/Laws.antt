@@ -94,7 +94,7 @@ rowOf t s l p = t ∷ s ∷ (bytes4 l ++ bytes4 p)
 pub row-made : (t s l p : ℕ) (r₁ r₂ : List ℕ) → r₁ ≡ splice (t ∷ s ∷ 0 ∷ 0 ∷ 0 ∷ 0 ∷ 0 ∷ 0 ∷ 0 ∷ 0 ∷ []) 2 (bytes4 l) → r₂ ≡ splice r₁ 6 (bytes4 p) → r₂ ≡ rowOf t s l p
 row-made t s l p r₁ r₂ e f = f ∙ ap (λ (z : List ℕ). splice z 6 (bytes4 p)) e
 
-row-timer : (t s l p : ℕ) → l < 2 ^ 32 → p < 2 ^ 32 → timerOf (rowOf t s l p) ≡ timer t s l p
+pub row-timer : (t s l p : ℕ) → l < 2 ^ 32 → p < 2 ^ 32 → timerOf (rowOf t s l p) ≡ timer t s l p
 unfolding timerOf
 row-timer t s l p hl hp = ap (λ (z : ℕ). timer t s z (be4 (bytes4 p) 0)) (four-back l hl) ∙ ap (timer t s l) (four-back p hp)
 

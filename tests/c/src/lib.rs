@@ -1,6 +1,8 @@
 //! The exported C functions, wrapped. A result from 0 up is what was computed; a negative one is a number of the paper with a
 //! minus sign.
 
+pub mod lent;
+
 use plain_executive::numbers::Number;
 
 extern "C" {

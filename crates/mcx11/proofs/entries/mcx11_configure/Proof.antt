@@ -1,0 +1,115 @@
+-- The sizes, then the frame's number; 0 begins.
+use native.Mathlib.Omega.{arith}
+use mathlib.Core.Path.{_≡_, refl, sym, _∙_}
+use borrow.Author.Tests.{not-true, not-false}
+use denote.Ref.{now}
+use Rattle.mcx11.specs.Contract.{fullSize}
+use Rattle.mcx11.specs.Feeding.{full-rooms, configure-short, configure-refused, configure-accepted}
+use borrow.Author.Needs.{needs}
+use Rattle.mcx11.proofs.entries.mcx11_configure.Statement.{statement}
+use Rattle.mcx11.proofs.entries.mcx11_configure.Tie as tie
+
+full-size-requires : tie.Need-full-size-requires
+full-size-requires c κs = search needs
+
+returns : tie.Need-returns
+unfolding fullSize
+returns c =
+    let a = c .before .before .before .before .before .before .before .before .args in
+    configure-short (now (a .frame)) (now (a .config)) (now (a .tables)) (now (a .slots)) (now (a .timers)) (now (a .answer)) (sym (c .before .full-size .ensures) ∙ not-true _ (c .if1 .taken))
+
+refusal-requires : tie.Need-refusal-requires
+refusal-requires c κs = search needs
+
+refuse-configuration-requires : tie.Need-refuse-configuration-requires
+unfolding fullSize
+refuse-configuration-requires c κs =
+    let a = c .before .before .before .before .before .before .before .before .before .before .before .args in
+    full-rooms (now (a .config)) (now (a .tables)) (now (a .slots)) (now (a .timers)) (now (a .answer)) (sym (c .before .before .before .before .full-size .ensures) ∙ not-false _ (c .before .before .before .if1 .left)) .4
+
+same-length : tie.Need-same-length
+same-length c = search needs
+
+returns-2 : tie.Need-returns-2
+unfolding fullSize
+returns-2 c =
+    let a = c .before .before .before .before .before .before .before .before .before .before .before .before .before .before .args in
+    configure-refused
+    (now (a .frame))
+    (now (a .config))
+    (now (a .tables))
+    (now (a .slots))
+    (now (a .timers))
+    (now (a .answer))
+    _
+    _
+    record { config = refl; tables = refl; slots = refl; timers = refl; answer = c .before .before .refuse-configuration .kept .1 .0 }
+    (sym (c .before .before .before .before .before .before .before .full-size .ensures) ∙ not-false _ (c .before .before .before .before .before .before .if1 .left))
+    (c .before .before .before .before .before .refusal .ensures)
+    (c .before .before .before .before .if2 .taken)
+    (c .before .before .refuse-configuration .ensures)
+
+begin-requires : tie.Need-begin-requires
+unfolding fullSize
+begin-requires c κs =
+    let a = c .before .before .before .before .before .before .before .before .before .before .before .before .before .before .before .args in
+    let n = full-rooms (now (a .config)) (now (a .tables)) (now (a .slots)) (now (a .timers)) (now (a .answer)) (sym (c .before .before .before .before .before .before .before .before .full-size .ensures) ∙ not-false _ (c .before .before .before .before .before .before .before .if1 .left)) in
+    (sym (c .before .before .before .before .before .before .refusal .ensures) ∙ c .before .before .before .before .before .if2 .left, n .0, n .1, n .2, n .3, n .4)
+
+same-length-2 : tie.Need-same-length-2
+same-length-2 c = search needs
+
+same-length-3 : tie.Need-same-length-3
+same-length-3 c = search needs
+
+same-length-4 : tie.Need-same-length-4
+same-length-4 c = search needs
+
+same-length-5 : tie.Need-same-length-5
+same-length-5 c = search needs
+
+same-length-6 : tie.Need-same-length-6
+same-length-6 c = search needs
+
+returns-3 : tie.Need-returns-3
+unfolding fullSize
+returns-3 c =
+    let a = c .before .before .before .before .before .before .before .before .before .before .before .before .before .before .before .before .before .before .before .before .before .before .before .before .before .before .args in
+    let k = c .before .before .before .before .before .before .before .before .before .before .begin .kept in
+    let full = sym (c .before .before .before .before .before .before .before .before .before .before .before .before .before .before .before .before .before .before .before .full-size .ensures) ∙ not-false _ (c .before .before .before .before .before .before .before .before .before .before .before .before .before .before .before .before .before .before .if1 .left) in
+    configure-accepted
+    (now (a .frame))
+    (now (a .config))
+    (now (a .tables))
+    (now (a .slots))
+    (now (a .timers))
+    (now (a .answer))
+    _
+    _
+    _
+    _
+    _
+    _
+    record { config = k .1 .0; tables = k .1 .1 .0; slots = k .1 .1 .1 .0; timers = k .1 .1 .1 .1 .0; answer = k .1 .1 .1 .1 .1 .0 }
+    full
+    (c .before .before .before .before .before .before .before .before .before .before .before .before .before .before .before .before .before .refusal .ensures)
+    (c .before .before .before .before .before .before .before .before .before .before .before .before .before .before .before .before .if2 .left)
+    (c .before .before .before .before .before .before .before .before .before .before .begin .ensures)
+
+pub mcx11-configure-spec : {M : Type 1} → statement M
+mcx11-configure-spec =
+    tie.close
+    (tie.spec
+    full-size-requires
+    returns
+    refusal-requires
+    refuse-configuration-requires
+    same-length
+    returns-2
+    begin-requires
+    same-length-2
+    same-length-3
+    same-length-4
+    same-length-5
+    same-length-6
+    returns-3)

@@ -1,0 +1,232 @@
+//! The executive's C functions over memory of one's own, and the items read out of that memory as docs/MEMORY.md says.
+
+use plain_executive::configuration::Configuration;
+use plain_executive::items::{Items, OutcomeItem, RequestItem, TaskItem, TimerItem};
+use plain_executive::numbers::Number;
+use plain_executive::semaphore::Semaphore;
+use plain_executive::tasks::{Block, Blocks, Letter};
+
+extern "C" {
+    fn mcx11_configure(
+        frame: *const u8,
+        bytes: usize,
+        config: *mut u8,
+        config_bytes: usize,
+        tables: *mut u8,
+        tables_bytes: usize,
+        slots: *mut u8,
+        slots_bytes: usize,
+        timers: *mut u8,
+        timers_bytes: usize,
+        answer: *mut u8,
+        answer_bytes: usize,
+    ) -> u8;
+    fn mcx11_frame(
+        frame: *const u8,
+        bytes: usize,
+        config: *const u8,
+        config_bytes: usize,
+        tables: *mut u8,
+        tables_bytes: usize,
+        slots: *mut u8,
+        slots_bytes: usize,
+        timers: *mut u8,
+        timers_bytes: usize,
+        answer: *mut u8,
+        answer_bytes: usize,
+    ) -> u8;
+}
+
+/// The least sizes of the five blocks.
+pub const SIZES: [usize; 5] = [198, 7571, 2016, 641, 21];
+
+/// The five blocks that a host lends.
+#[derive(Clone, Debug, PartialEq, Eq)]
+pub struct Lent {
+    pub config: Vec<u8>,
+    pub tables: Vec<u8>,
+    pub slots: Vec<u8>,
+    pub timers: Vec<u8>,
+    pub answer: Vec<u8>,
+}
+
+impl Lent {
+    /// Blocks of these sizes, each byte as told.
+    pub fn new(sizes: [usize; 5], mut byte: impl FnMut() -> u8) -> Self {
+        let [config, tables, slots, timers, answer] = sizes.map(|size| (0..size).map(|_| byte()).collect());
+        Lent { config, tables, slots, timers, answer }
+    }
+
+    pub fn configure(&mut self, frame: &[u8]) -> Number {
+        unsafe {
+            mcx11_configure(
+                frame.as_ptr(),
+                frame.len(),
+                self.config.as_mut_ptr(),
+                self.config.len(),
+                self.tables.as_mut_ptr(),
+                self.tables.len(),
+                self.slots.as_mut_ptr(),
+                self.slots.len(),
+                self.timers.as_mut_ptr(),
+                self.timers.len(),
+                self.answer.as_mut_ptr(),
+                self.answer.len(),
+            )
+        }
+    }
+
+    pub fn frame(&mut self, frame: &[u8]) -> Number {
+        unsafe {
+            mcx11_frame(
+                frame.as_ptr(),
+                frame.len(),
+                self.config.as_ptr(),
+                self.config.len(),
+                self.tables.as_mut_ptr(),
+                self.tables.len(),
+                self.slots.as_mut_ptr(),
+                self.slots.len(),
+                self.timers.as_mut_ptr(),
+                self.timers.len(),
+                self.answer.as_mut_ptr(),
+                self.answer.len(),
+            )
+        }
+    }
+
+    /// The answer to the last call.
+    pub fn answered(&self) -> &[u8] {
+        &self.answer[1..=usize::from(self.answer[0])]
+    }
+
+    /// All that is compared, of memory that calls left.
+    pub fn items(&self, configuration: &Configuration) -> Items {
+        Reader::new(self, configuration).items()
+    }
+}
+
+/// The regions of the tables: where each begins.
+struct Reader<'lent> {
+    lent: &'lent Lent,
+    configuration: &'lent Configuration,
+    records: usize,
+    semaphores: usize,
+    waiting: usize,
+    rings: usize,
+    messages: usize,
+    entries: usize,
+}
+
+impl<'lent> Reader<'lent> {
+    fn new(lent: &'lent Lent, configuration: &'lent Configuration) -> Self {
+        let tasks = usize::from(configuration.tasks);
+        let queues = configuration.queues.len();
+        let records = 2 + tasks;
+        let semaphores = records + 6 * tasks;
+        let waiting = semaphores + usize::from(configuration.semaphores());
+        let rings = waiting + 16 * tasks;
+        let messages = rings + 2 * queues;
+        let entries = messages + 4 * usize::from(configuration.messages);
+        Reader { lent, configuration, records, semaphores, waiting, rings, messages, entries }
+    }
+
+    fn items(&self) -> Items {
+        let tasks = usize::from(self.configuration.tasks);
+        Items {
+            ticks: self.configuration.ticks_per_tock - self.at(0),
+            tasks: (0..tasks).map(|index| self.task(index)).collect(),
+            semaphores: (0..usize::from(self.configuration.semaphores())).map(|index| self.semaphore(index)).collect(),
+            mailboxes: self.mailboxes(tasks),
+            queues: self.queues(),
+            timers: (0..usize::from(self.lent.timers[0])).map(|index| self.timer(index)).collect(),
+        }
+    }
+
+    fn at(&self, index: usize) -> u8 {
+        self.lent.tables[index]
+    }
+
+    fn bytes(&self, from: usize, count: usize) -> Vec<u8> {
+        self.lent.tables[from..from + count].to_vec()
+    }
+
+    fn letter(&self, from: usize) -> Letter {
+        Letter { message: self.at(from), sender: self.at(from + 1), semaphore: self.at(from + 2) }
+    }
+
+    fn task(&self, index: usize) -> TaskItem {
+        let record = self.records + 6 * index;
+        let slot: [u8; 16] = self.lent.slots[16 * index..16 * index + 16].try_into().expect("16 bytes");
+        TaskItem {
+            blocks: self.blocks(index),
+            outcome: self.outcome(record, &slot),
+            slot,
+            request: self.request(record + 4, self.waiting + 16 * index),
+        }
+    }
+
+    fn blocks(&self, index: usize) -> Blocks {
+        let all = [Block::Idle, Block::Suspended, Block::EventWait, Block::MessageWait];
+        let held = all.into_iter().enumerate().filter(|(bit, _)| self.at(2 + index) >> bit & 1 == 1);
+        Blocks::of(held.map(|(_, block)| block))
+    }
+
+    fn outcome(&self, record: usize, slot: &[u8; 16]) -> OutcomeItem {
+        match self.at(record) {
+            1 => OutcomeItem::Begin,
+            2 => OutcomeItem::Message(self.letter(record + 1)),
+            3 => OutcomeItem::Entry(slot[..usize::from(self.at(record + 1))].to_vec()),
+            4 => OutcomeItem::Refused(self.at(record + 1)),
+            5 => OutcomeItem::Semaphore(self.at(record + 1)),
+            _ => OutcomeItem::Plain,
+        }
+    }
+
+    fn request(&self, record: usize, waiting: usize) -> RequestItem {
+        let named = self.at(record + 1);
+        match self.at(record) {
+            1 => RequestItem::Receive(named),
+            2 => RequestItem::Dequeue(named),
+            3 => RequestItem::Enqueue(named, self.bytes(waiting, self.configuration.width(named))),
+            _ => RequestItem::None,
+        }
+    }
+
+    fn semaphore(&self, index: usize) -> Semaphore {
+        match self.at(self.semaphores + index) {
+            0 => Semaphore::Pending,
+            task if task <= self.configuration.tasks => Semaphore::Waiting(task),
+            _ => Semaphore::Done,
+        }
+    }
+
+    fn mailboxes(&self, tasks: usize) -> Vec<Vec<Letter>> {
+        let mut mailboxes = vec![Vec::new(); tasks];
+        for index in 0..usize::from(self.at(1)) {
+            let record = self.messages + 4 * index;
+            mailboxes[usize::from(self.at(record)) - 1].push(self.letter(record + 1));
+        }
+        mailboxes
+    }
+
+    fn queues(&self) -> Vec<Vec<Vec<u8>>> {
+        let mut places = self.entries;
+        let mut queues = Vec::new();
+        for (index, size) in self.configuration.queues.iter().enumerate() {
+            let (width, depth) = (usize::from(size.width), usize::from(size.depth));
+            let ring = self.rings + 2 * index;
+            let oldest = usize::from(self.at(ring));
+            let entry = |turn: usize| self.bytes(places + (oldest + turn) % depth * width, width);
+            queues.push((0..usize::from(self.at(ring + 1))).map(entry).collect());
+            places += width * depth;
+        }
+        queues
+    }
+
+    fn timer(&self, index: usize) -> TimerItem {
+        let record = &self.lent.timers[1 + 10 * index..11 + 10 * index];
+        let four = |at: usize| u32::from_be_bytes(record[at..at + 4].try_into().expect("4 bytes"));
+        TimerItem { task: record[0], semaphore: record[1], tocks_left: u64::from(four(2)), period: four(6) }
+    }
+}
