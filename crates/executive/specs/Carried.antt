@@ -103,11 +103,11 @@ pub paced : (a b n p : ℕ) (v : TockValue) (L : Ledger) → tocks v ≡ n → p
 unfolding startTimer started
 paced a b n p v L en ep = λ i. insertTimer (record { task = a; semaphore = b; due = L .N + en i; period = ep i }) L
 
-never : false ≡ true → ⊥
-never e = let z : _≡_ {A = ℕ} 0 1 = cc in omega arith
+pub never : {P : Type 0} → false ≡ true → P
+never e = let z : _≡_ {A = ℕ} 0 1 = cc in absurd (omega arith)
 
 pub asked-by : {self : ℕ} (r : Command) → serves r ≡ true → Asker r self → 1 ≤ self
-asked-by (Refused n) e h = absurd (never e)
+asked-by (Refused n) e h = never e
 asked-by (Wait b) e h = h
 asked-by (Signal b) e h = h
 asked-by (Pend b) e h = h
@@ -123,8 +123,8 @@ asked-by (Execute a) e h = h
 asked-by (Delay a b n p) e h = h
 asked-by (Timer a b n p) e h = h
 asked-by (Purge a b all) e h = h
-asked-by Tick e h = absurd (never e)
-asked-by (Exit b) e h = absurd (never e)
+asked-by Tick e h = never e
+asked-by (Exit b) e h = never e
 
 -- ---- the part of the frame that starts at its sixth byte
 pub frame-long : (c : Config) (s : Shape) (q : ℕ) (r : Ring) (f : List ℕ) → 1 ≤ q → r ≡ ringOf c s q → RingFits s r → length (drop 5 f) ≡ shape c q .width → 5 ≤ length f

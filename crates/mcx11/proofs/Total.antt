@@ -8,6 +8,7 @@ use Rattle.ledger.specs.Config.{configRefusal}
 use Rattle.ledger.specs.Theorems.Parts.{Every}
 use Rattle.ledger.specs.Theorems.Sound.{Bytes}
 use Rattle.mcx11.specs.Contract.{Memory, fullSize, Configures, Frames}
+use Rattle.mcx11.specs.Calls as contracts
 use Rattle.mcx11.specs.Calls.{answerOf}
 use Rattle.mcx11.specs.Whole.{Same}
 use Rattle.mcx11.specs.Exists as pure
@@ -51,14 +52,9 @@ frame-call {f} {m} {m'} {r} h =
       number = refl;
     }
 
--- the answers of a list of calls, and the calls
-pub record SomeFrameCalls (m : Memory) (fs : List (List ℕ)) (numbers : List ℕ) (m' : Memory) : Type 0 where
-  pub answers : List (List ℕ)
-  pub frames : FrameCalls m fs answers numbers m'
-
-pub calls : {m m' : Memory} {fs : List (List ℕ)} {rs : List ℕ} → pure.Calls m fs rs m' → SomeFrameCalls m fs rs m'
-calls pure.end = record { answers = []; frames = none }
-calls (pure.next {m₁ = m₁} h more) = let k = calls more in record { answers = answerOf m₁ ∷ k .answers; frames = call (frame-call h) (k .frames) }
+pub calls : {m m' : Memory} {fs answers : List (List ℕ)} {rs : List ℕ} → contracts.FrameCalls m fs answers rs m' → FrameCalls m fs answers rs m'
+calls contracts.none = none
+calls (contracts.call h more) = call (frame-call h) (calls more)
 
 -- A configuration that is accepted, then the frames: the calls, and what demand 3 says of them
 pub record Session (g : List ℕ) (fs : List (List ℕ)) (m : Memory) : Type 0 where
@@ -77,10 +73,10 @@ exists g z bs m h =
     let c = configure-call (s .configures) in
     record {
       first = s .first;
-      answers = k .answers;
+      answers = s .frames .answers;
       numbers = s .frames .numbers;
       memory = s .frames .memory;
       configures = c;
-      frames = k .frames;
-      whole = demand-3 z h c (k .frames);
+      frames = k;
+      whole = demand-3 z h c k;
     }

@@ -9,7 +9,7 @@ use borrow.Fn.World.{ArgsD, ResD}
 use borrow.Fn.Kinds.{endedOf}
 use denote.Triple.Clauses.{Lasts, atExit}
 use Rattle.ledger.specs.Config.{configRefusal}
-use Rattle.mcx11.specs.Contract.{Memory, fullSize, Configures, Frames}
+use Rattle.mcx11.specs.Contract.{Memory, memory, fullSize, Configures, Frames}
 use Rattle.mcx11.specs.Calls as calls
 use Rattle.mcx11.specs.Calls.{answerOf}
 use Rattle.mcx11.specs.Whole.{Same, every-list}
@@ -20,10 +20,6 @@ use Rattle.mcx11.proofs.entries.mcx11_frame as frame
 use Rattle.mcx11.proofs.entries.mcx11_frame.Kinds as frame-kinds
 use Rattle.mcx11.proofs.entries.mcx11_frame.Reads as frame-reads
 
--- the memory that five slices are
-abbrev lent : (config tables slots timers answer : List ℕ) → Memory
-lent c d z w a = record { config = c; tables = d; slots = z; timers = w; answer = a }
-
 -- One call of `mcx11_configure` with the bytes g, lent the memory m and leaving m', that returned r: the arguments x, the last values w of the
 -- `&mut` slices, the result n, and what a caller learns of them
 pub record ConfigureCall (g : List ℕ) (m m' : Memory) (r : ℕ) : Type 0 where
@@ -33,8 +29,8 @@ pub record ConfigureCall (g : List ℕ) (m m' : Memory) (r : ℕ) : Type 0 where
   pub w : Lasts (endedOf 6 configure-kinds.ps configure-kinds.r) κs x
   pub learnt : configure-reads.Learnt κs x n (atExit (endedOf 6 configure-kinds.ps configure-kinds.r) κs x w)
   pub bytes : now (x .0) ≡ g
-  pub before : lent (now (x .1 .0)) (now (x .1 .1 .0)) (now (x .1 .1 .1 .0)) (now (x .1 .1 .1 .1 .0)) (now (x .1 .1 .1 .1 .1 .0)) ≡ m
-  pub after : lent (w .1 .0) (w .1 .1 .0) (w .1 .1 .1 .0) (w .1 .1 .1 .1 .0) (w .1 .1 .1 .1 .1 .0) ≡ m'
+  pub before : memory (now (x .1 .0)) (now (x .1 .1 .0)) (now (x .1 .1 .1 .0)) (now (x .1 .1 .1 .1 .0)) (now (x .1 .1 .1 .1 .1 .0)) ≡ m
+  pub after : memory (w .1 .0) (w .1 .1 .0) (w .1 .1 .1 .0) (w .1 .1 .1 .1 .0) (w .1 .1 .1 .1 .1 .0) ≡ m'
   pub number : n ≡ r
 
 pub configures : {g : List ℕ} {m m' : Memory} {r : ℕ} → ConfigureCall g m m' r → Configures g m m' r
@@ -48,8 +44,8 @@ pub record FrameCall (f : List ℕ) (m m' : Memory) (r : ℕ) : Type 0 where
   pub w : Lasts (endedOf 6 frame-kinds.ps frame-kinds.r) κs x
   pub learnt : frame-reads.Learnt κs x n (atExit (endedOf 6 frame-kinds.ps frame-kinds.r) κs x w)
   pub bytes : now (x .0) ≡ f
-  pub before : lent (now (x .1 .0)) (now (x .1 .1 .0)) (now (x .1 .1 .1 .0)) (now (x .1 .1 .1 .1 .0)) (now (x .1 .1 .1 .1 .1 .0)) ≡ m
-  pub after : lent (now (x .1 .0)) (w .1 .1 .0) (w .1 .1 .1 .0) (w .1 .1 .1 .1 .0) (w .1 .1 .1 .1 .1 .0) ≡ m'
+  pub before : memory (now (x .1 .0)) (now (x .1 .1 .0)) (now (x .1 .1 .1 .0)) (now (x .1 .1 .1 .1 .0)) (now (x .1 .1 .1 .1 .1 .0)) ≡ m
+  pub after : memory (now (x .1 .0)) (w .1 .1 .0) (w .1 .1 .1 .0) (w .1 .1 .1 .1 .0) (w .1 .1 .1 .1 .1 .0) ≡ m'
   pub number : n ≡ r
 
 pub frames : {f : List ℕ} {m m' : Memory} {r : ℕ} → FrameCall f m m' r → Frames f m m' r

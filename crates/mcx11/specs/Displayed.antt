@@ -1,15 +1,25 @@
 -- What a memory that shows a ledger gives: its bytes are the ledger's items, and with full sizes and the rule of the configuration it is lent well.
-use mathlib.Core.Path.{_≡_}
-use mathlib.Core.Bool.{true, _&&_}
+use Prim.Native.Nat.{ℕ, _*_, _≤_}
+use mathlib.Core.Path.{_≡_, refl, ap, _∙_}
+use mathlib.Core.Logic.{_⊎_, inl, inr}
+use mathlib.Core.Bool.{Bool, true, false, cond, _&&_}
+use mathlib.Core.List.{List}
+use native.Mathlib.Omega.{arith}
+use lib.Dec.{eqb}
+use lib.ListN.{length}
 use Rattle.ledger.specs.Config.{Config}
-use Rattle.ledger.specs.Ledger.{Ledger}
-use Rattle.ledger.specs.Session.{Items, items}
+use Rattle.ledger.specs.Ledger.{Ledger, running}
+use Rattle.ledger.specs.Refusals.{refusal}
+use Rattle.ledger.specs.Session.{answer, settle, accept, Stepped, step, Items, items}
+use Rattle.ledger.specs.Theorems.Lowest.{TaskRuns, NullRuns, lowest-runs}
 use Rattle.ledger.specs.Theorems.Checks.{and-left, and-right}
+use Rattle.rows.specs.Tab.{tab-length}
 use Rattle.tables.specs.Layout.{regions}
 use Rattle.tables.specs.Shows.{ticksIn, tasksIn, semaphoresIn, mailboxesIn, queuesIn, timersOf}
 use Rattle.configuration.specs.Block.{configured, rule}
 use Rattle.configuration.specs.Layout.{shapeOf}
-use Rattle.mcx11.specs.Contract.{Memory, fullSize, messagesSound, lentWell, Displays, SameSizes}
+use Rattle.answer.specs.Read as read
+use Rattle.mcx11.specs.Contract.{Memory, fullSize, messagesSound, lentWell, Displays}
 
 -- the items that the memory's bytes are
 unfoldable pub itemsIn : Config → Memory → Items
@@ -39,10 +49,6 @@ items-shown c l m h =
 
 -- ---- lent well
 
-pub full-kept : {m m' : Memory} → SameSizes m m' → fullSize m' ≡ fullSize m
-unfolding fullSize
-full-kept s = rw (s .config, s .tables, s .slots, s .timers, s .answer)
-
 pub well-full : (m : Memory) → lentWell m ≡ true → fullSize m ≡ true
 unfolding lentWell
 well-full m h = and-left _ (rule (configured (m .config))) (and-left _ (messagesSound (configured (m .config)) (m .tables)) h)
@@ -59,3 +65,28 @@ well-messages m h = and-right (fullSize m && rule (configured (m .config))) _ h
 pub displays-well : (m : Memory) (l : Ledger) → fullSize m ≡ true → rule (configured (m .config)) ≡ true → Displays (configured (m .config)) l m → lentWell m ≡ true
 unfolding lentWell messagesSound Displays
 displays-well m l f r h = rw (f, r, h .shown .messages)
+
+-- ---- an answer has 4 to 20 bytes
+
+module _ (c : Config) (l : Ledger) (m : Memory) (h : Displays c l m) where
+  running-most : running l ≤ shapeOf c .tasks
+  unfolding Displays tasksIn
+  running-most = go (lowest-runs (c .T) l (ap length (h .shown .tasks) ∙ tab-length (c .T) _))
+    where
+      go : TaskRuns (c .T) l (running l) ⊎ NullRuns (c .T) l (running l) → running l ≤ shapeOf c .tasks
+      go (inl t) = omega (arith, t .number .upto, h .of .tasks)
+      go (inr t) = omega (arith, t .null)
+
+  pub answer-short : (n r : ℕ) → (4 ≤ length (answer n r l)) × (length (answer n r l) ≤ 20)
+  unfolding Displays
+  answer-short n r = read.answer-short c (shapeOf c) l (m .tables) (m .slots) (m .timers) h (running l) running-most refl n r
+
+pub step-short : (c : Config) (f : List ℕ) (l : Ledger) (m : Memory) → Displays c (step c f l .ledger) m → length (step c f l .answered) ≤ 20
+unfolding step
+step-short c f l m = go (eqb (refusal c l f) 0)
+  where
+    go : (b : Bool) → let s = settle (2 * c .T) c (accept c f l) in
+        let x : Stepped = cond b (record { ledger = s .ledger; answered = answer 0 (s .reissues) (s .ledger) }) (record { ledger = l; answered = answer (refusal c l f) 0 l }) in
+        Displays c (x .ledger) m → length (x .answered) ≤ 20
+    go true h = let s = settle (2 * c .T) c (accept c f l) in answer-short c (s .ledger) m h 0 (s .reissues) .1
+    go false h = answer-short c l m h (refusal c l f) 0 .1

@@ -1,28 +1,22 @@
 -- Demand 3 speaks of something: for every accepted configuration and every list of frames there is a list of calls that meets the contracts.
 -- The memory after each call is the encoding of the ledger there. It serves every ledger that the memory before could show, for these are alike.
-use Prim.Native.Nat.{ℕ, suc, _+_, _*_, _≤_}
+use Prim.Native.Nat.{ℕ, _+_, _*_, _≤_}
 use mathlib.Core.Path.{_≡_, refl, sym, ap, _∙_, subst}
-use mathlib.Core.Logic.{_⊎_, inl, inr}
-use mathlib.Core.Bool.{Bool, true, false, cond}
+use mathlib.Core.Bool.{Bool, true, false}
 use mathlib.Core.List.{List, [], _∷_, _++_}
 use native.Mathlib.Omega.{arith}
 use lib.Dec.{eqb}
-use lib.ListN.{length, drop, length-append, length-take, length-drop}
-use borrow.Author.Tests.{leb-true, eqb-true, eqb-false}
-use Rattle.ledger.specs.Lists.{at}
+use lib.ListN.{length, drop, length-append, length-drop}
+use borrow.Author.Tests.{eqb-true, eqb-false}
 use Rattle.ledger.specs.Config.{Config, configIn, configRefusal}
-use Rattle.ledger.specs.Ledger as ledger
-use Rattle.ledger.specs.Ledger.{Ledger, Task, task, running, fresh}
+use Rattle.ledger.specs.Ledger.{Ledger, fresh}
 use Rattle.ledger.specs.Refusals.{refusal}
-use Rattle.ledger.specs.Session.{shown, answer, settle, accept, Stepped, step, refusedConfiguration, Items, items}
-use Rattle.ledger.specs.Theorems.Checks.{and-left, and-right}
+use Rattle.ledger.specs.Session.{answer, Stepped, step, refusedConfiguration, Items, items}
 use Rattle.ledger.specs.Theorems.Parts.{Every, nil, cons}
-use Rattle.ledger.specs.Theorems.Lowest.{TaskRuns, NullRuns, lowest-runs}
 use Rattle.ledger.specs.Theorems.Refused.{refused-changes-nothing}
 use Rattle.ledger.specs.Theorems.Configured as accepted
 use Rattle.ledger.specs.Theorems.Configured.{Configured}
 use Rattle.ledger.specs.Theorems.Sound.{Sound, Bytes, sound-fresh, sound-step}
-use Rattle.ledger.specs.Theorems.Sound.Slots.{SoundSlot}
 use Rattle.ledger.specs.Theorems.Alike.{Alike, Taken, compared, same-items, alike-taken, alike-step}
 use Rattle.tables.specs.Layout.{Regions}
 use Rattle.tables.specs.Shows.{Shown, Of}
@@ -31,7 +25,12 @@ use Rattle.configuration.specs.Layout.{shapeOf, end-most}
 use Rattle.configuration.specs.Accepted.{accepted-length, accepted-of, configured-in}
 use Rattle.configuration.specs.Accepted as accepts
 use Rattle.answer.specs.Written.{written}
-use Rattle.mcx11.specs.Contract.{Memory, fullSize, messagesSound, lentWell, Displays, SameSizes, answering, Configures, Frames}
+use Rattle.answer.specs.Read.{written-length}
+use Rattle.executive.specs.Carried.{never}
+use Rattle.mcx11.specs.Contract.{Memory, fullSize, lentWell, Displays, SameSizes, answering, Configures, Frames}
+use Rattle.mcx11.specs.Sizes.{Full, full-sizes, full-kept}
+use Rattle.mcx11.specs.Displayed.{well-full, well-rule, displays-well, answer-short, step-short}
+use Rattle.mcx11.specs.Calls.{answerOf, FrameCalls, none, call}
 use Rattle.mcx11.specs.Encode.{encodedTables, encodedSlots, encodedTimers, tables-length, slots-length, timers-length, encoded-shows}
 
 -- ---- ledgers that the same memory shows are alike, and one that is alike is shown too
@@ -72,65 +71,6 @@ pub alike-displays : (c : Config) (m : Memory) {l l' : Ledger} → Alike l l' �
 unfolding Displays
 alike-displays c m a d = record { of = d .of; room = d .room; slots = d .slots; counted = d .counted; shown = alike-shown a (d .shown) }
 
--- ---- sizes
-
-record Full (m : Memory) : Type 0 where
-  config : 198 ≤ length (m .config)
-  tables : 7571 ≤ length (m .tables)
-  slots : 2016 ≤ length (m .slots)
-  timers : 641 ≤ length (m .timers)
-  answer : 21 ≤ length (m .answer)
-
-full-is : (m : Memory) → fullSize m ≡ true → Full m
-unfolding fullSize
-full-is m h =
-    record {
-      config = leb-true 198 (length (m .config)) (search (and-left, and-right) depth 9);
-      tables = leb-true 7571 (length (m .tables)) (search (and-left, and-right) depth 9);
-      slots = leb-true 2016 (length (m .slots)) (search (and-left, and-right) depth 9);
-      timers = leb-true 641 (length (m .timers)) (search (and-left, and-right) depth 9);
-      answer = leb-true 21 (length (m .answer)) (search (and-left, and-right) depth 9);
-    }
-
-full-still : {m m' : Memory} → SameSizes m m' → fullSize m' ≡ fullSize m
-unfolding fullSize
-full-still s = rw (s .config, s .tables, s .slots, s .timers, s .answer)
-
-written-length : (a old : List ℕ) → suc (length a) ≤ length old → length (written a old) ≡ length old
-unfolding written
-written-length a old h = simp (length-append, length-drop) (omega arith)
-
--- an answer has at most 20 bytes
-shown-short : (t : Task) → SoundSlot t → (o : ledger.Outcome) → t .outcome ≡ o → length (shown o) ≤ 17
-unfolding shown
-shown-short t s ledger.plain e = omega arith
-shown-short t s ledger.begin e = omega arith
-shown-short t s (ledger.message a b c) e = omega arith
-shown-short t s (ledger.entry x) e = omega (arith, ap length (s .front x e), length-take (length x) (t .slot), s .bytes)
-shown-short t s (ledger.refused n) e = omega arith
-shown-short t s (ledger.semaphore b) e = omega arith
-
-answer-short : (c : Config) (l : Ledger) → Sound c l → (n r : ℕ) → length (answer n r l) ≤ 20
-unfolding answer task at shown
-answer-short c l k n r = omega (arith, go (lowest-runs (c .T) l (k .named .tasks)))
-  where
-    go : TaskRuns (c .T) l (running l) ⊎ NullRuns (c .T) l (running l) → length (shown (task l (running l) .outcome)) ≤ 17
-    go (inl t) = shown-short (task l (running l)) (k .slots (running l) (t .number)) (task l (running l) .outcome) refl
-    go (inr t) = null (running l) (t .null)
-      where
-        null : (x : ℕ) → x ≡ 0 → length (shown (task l x .outcome)) ≤ 17
-        null x e = rw e (omega arith)
-
-step-short : (c : Config) (f : List ℕ) (l : Ledger) → Sound c (step c f l .ledger) → length (step c f l .answered) ≤ 20
-unfolding step
-step-short c f l = go (eqb (refusal c l f) 0)
-  where
-    go : (b : Bool) → let s = settle (2 * c .T) c (accept c f l) in
-        let x : Stepped = cond b (record { ledger = s .ledger; answered = answer 0 (s .reissues) (s .ledger) }) (record { ledger = l; answered = answer (refusal c l f) 0 l }) in
-        Sound c (x .ledger) → length (x .answered) ≤ 20
-    go true k = answer-short c _ k 0 _
-    go false k = answer-short c l k (refusal c l f) 0
-
 -- ---- the memory that encodes a ledger, as large as another
 
 unfoldable pub encodes : Config → Ledger → (config answer : List ℕ) → Memory → Memory
@@ -167,17 +107,6 @@ module _ (c : Config) (o : Of c (shapeOf c)) (l : Ledger) (k : Sound c l) (m : M
         answer = ea;
       }
 
--- the blocks stay as large, and the configuration stays: then what shows a ledger is lent well
-lent-on : (m m' : Memory) (l : Ledger) → lentWell m ≡ true → SameSizes m m' → m' .config ≡ m .config → Displays (configured (m' .config)) l m' → lentWell m' ≡ true
-unfolding lentWell messagesSound Displays
-lent-on m m' l w s e d =
-    let full : fullSize m' ≡ true = full-still s ∙ and-left (fullSize m) (rule (configured (m .config))) (and-left _ (messagesSound (configured (m .config)) (m .tables)) w) in
-    let keeps : rule (configured (m' .config)) ≡ true = ap (λ (x : List ℕ). rule (configured x)) e ∙ and-right (fullSize m) _ (and-left _ (messagesSound (configured (m .config)) (m .tables)) w) in
-    rw (full, keeps) (d .shown .messages)
-
-never : {A : Type 0} {b : Bool} → b ≡ true → b ≡ false → A
-never e f = let z : _≡_ {A = ℕ} 0 1 = cc in absurd (omega arith)
-
 -- ---- a frame: memory that is lent well and shows a sound ledger
 
 pub record Stands (m : Memory) : Type 0 where
@@ -203,14 +132,16 @@ module _ (f : List ℕ) (b : Bytes f) (m : Memory) (s : Stands m) where
   answered = step c f l .answered
 
   full : Full m
-  unfolding lentWell
-  full = full-is m (and-left (fullSize m) (rule c) (and-left _ (messagesSound c (m .tables)) (s .well)))
+  full = full-sizes m (well-full m (s .well))
 
   next-sound : Sound c (step c f l .ledger)
   next-sound = sound-step c (s .config) f b l (s .sound)
 
   room : length (written answered (m .answer)) ≡ length (m .answer)
-  room = written-length answered (m .answer) (omega (arith, step-short c f l next-sound, full .answer))
+  unfolding Displays
+  room =
+      let d = encodes-displays c (s .shown .of) (step c f l .ledger) next-sound m full (m .config) (m .answer) in
+      written-length answered (m .answer) (omega (arith, step-short c f l (encodes c (step c f l .ledger) (m .config) (m .answer) m) d, full .answer))
 
   -- what shows the next ledger shows that of every ledger which the memory shows
   every : (m' : Memory) → Displays c (step c f l .ledger) m' → m' .answer ≡ written answered (m .answer)
@@ -230,7 +161,7 @@ module _ (f : List ℕ) (b : Bytes f) (m : Memory) (s : Stands m) where
         frames = record {
           sizes = encodes-sizes c o (step c f l .ledger) next-sound m full (m .config) (written answered (m .answer)) refl room;
           config = refl;
-          bad = λ e. never (s .well) e;
+          bad = λ e. never (sym e ∙ s .well);
           good = λ w l' d. every m' (encodes-displays c o (step c f l .ledger) next-sound m full (m .config) (written answered (m .answer))) refl l' d;
           unchanged = λ w n. absurd (n z);
         };
@@ -247,7 +178,7 @@ module _ (f : List ℕ) (b : Bytes f) (m : Memory) (s : Stands m) where
         frames = record {
           sizes = record { config = refl; tables = refl; slots = refl; timers = refl; answer = room };
           config = refl;
-          bad = λ e. never (s .well) e;
+          bad = λ e. never (sym e ∙ s .well);
           good = λ w l' d. every m' (subst (λ (x : Ledger). Displays c x m') e (s .shown)) refl l' d;
           unchanged = λ w n. (refl, refl, refl);
         };
@@ -269,8 +200,8 @@ bad-result f m h = record {
     sizes = record { config = refl; tables = refl; slots = refl; timers = refl; answer = refl };
     config = refl;
     bad = λ e. (refl, refl);
-    good = λ e. never e h;
-    unchanged = λ e. never e h;
+    good = λ e. never (sym h ∙ e);
+    unchanged = λ e. never (sym h ∙ e);
   };
 }
 
@@ -288,8 +219,8 @@ short-start g m h = record {
   configures = record {
     sizes = record { config = refl; tables = refl; slots = refl; timers = refl; answer = refl };
     short = λ e. (refl, refl);
-    refused = λ e. never e h;
-    accepted = λ e. never e h;
+    refused = λ e. never (sym h ∙ e);
+    accepted = λ e. never (sym h ∙ e);
   };
 }
 
@@ -299,8 +230,8 @@ refused-start g m h z = record {
   memory = answering (refusedConfiguration (configRefusal g)) m;
   number = configRefusal g;
   configures = record {
-    sizes = record { config = refl; tables = refl; slots = refl; timers = refl; answer = written-length (refusedConfiguration (configRefusal g)) (m .answer) (omega (arith, full-is m h .answer)) };
-    short = λ e. never h e;
+    sizes = record { config = refl; tables = refl; slots = refl; timers = refl; answer = written-length (refusedConfiguration (configRefusal g)) (m .answer) (omega (arith, full-sizes m h .answer)) };
+    short = λ e. never (sym e ∙ h);
     refused = λ e n. (refl, refl);
     accepted = λ e n. absurd (z n);
   };
@@ -318,39 +249,41 @@ module _ (g : List ℕ) (m : Memory) (h : fullSize m ≡ true) (z : configRefusa
   block = g ++ drop (length g) (m .config)
 
   block-length : length block ≡ length (m .config)
-  block-length = simp (length-append, length-drop) (omega (arith, accepted-length g fits .1, full-is m h .config))
+  block-length = simp (length-append, length-drop) (omega (arith, accepted-length g fits .1, full-sizes m h .config))
 
   abbrev first : List ℕ
   first = written (answer 0 0 (fresh (configIn g))) (m .answer)
 
   first-length : length first ≡ length (m .answer)
-  first-length = written-length (answer 0 0 (fresh (configIn g))) (m .answer) (omega (arith, answer-short (configIn g) (fresh (configIn g)) fresh-sound 0 0, full-is m h .answer))
+  first-length =
+      let l = fresh (configIn g) in
+      let d = encodes-displays (configIn g) (accepted-of g fits) l fresh-sound m (full-sizes m h) block (m .answer) in
+      written-length (answer 0 0 l) (m .answer) (omega (arith, answer-short (configIn g) l (encodes (configIn g) l block (m .answer) m) d 0 0 .1, full-sizes m h .answer))
 
   abbrev started : Memory
   started = encodes (configIn g) (fresh (configIn g)) block first m
 
   started-sizes : SameSizes m started
-  started-sizes = encodes-sizes (configIn g) (accepted-of g fits) (fresh (configIn g)) fresh-sound m (full-is m h) block first block-length first-length
+  started-sizes = encodes-sizes (configIn g) (accepted-of g fits) (fresh (configIn g)) fresh-sound m (full-sizes m h) block first block-length first-length
 
   started-holds : configured (started .config) ≡ configIn g
   unfolding encodes
   started-holds = configured-in g fits block (drop (length g) (m .config)) refl
 
   started-shown : Displays (configIn g) (fresh (configIn g)) started
-  started-shown = encodes-displays (configIn g) (accepted-of g fits) (fresh (configIn g)) fresh-sound m (full-is m h) block first
+  started-shown = encodes-displays (configIn g) (accepted-of g fits) (fresh (configIn g)) fresh-sound m (full-sizes m h) block first
 
   started-well : lentWell started ≡ true
-  unfolding lentWell messagesSound Displays
   started-well =
-      let f : fullSize started ≡ true = full-still started-sizes ∙ h in
-      let k : rule (configIn g) ≡ true = fits .rule in
-      rw (f, started-holds, k) (started-shown .shown .messages)
+      let c = configIn g in
+      displays-well started (fresh c) (full-kept started-sizes ∙ h) (ap rule started-holds ∙ fits .rule)
+      (subst (λ (x : Config). Displays x (fresh c) started) (sym started-holds) started-shown)
 
   pub accepted-start : Configures g m started 0
   unfolding encodes
   accepted-start = record {
     sizes = started-sizes;
-    short = λ e. never h e;
+    short = λ e. never (sym e ∙ h);
     refused = λ e n. absurd (n z);
     accepted = λ e n. (refl, started-holds, started-well, started-shown, refl);
   }
@@ -382,25 +315,22 @@ frame-stands f b m m' r h s =
     let l = step c f (s .ledger) .ledger in
     let a = h .good (s .well) (s .ledger) (s .shown) in
     let t = same-config (m .config) (m' .config) (sym (h .config)) l m' (s .config, sound-step c (s .config) f b (s .ledger) (s .sound), a .1) in
-    record { ledger = l; well = lent-on m m' l (s .well) (h .sizes) (h .config) (t .2); config = t .0; sound = t .1; shown = t .2 }
+    record { ledger = l; well = displays-well m' l (full-kept (h .sizes) ∙ well-full m (s .well)) (ap (λ (x : List ℕ). rule (configured x)) (h .config) ∙ well-rule m (s .well)) (t .2); config = t .0; sound = t .1; shown = t .2 }
 
--- ---- lists of calls: each is lent the memory as the call before it left it
-
-pub data Calls : Memory → List (List ℕ) → List ℕ → Memory → Type 0 where
-  end : {m : Memory} → Calls m [] [] m
-  next : {m m₁ m' : Memory} {f : List ℕ} {fs : List (List ℕ)} {r : ℕ} {rs : List ℕ} → Frames f m m₁ r → Calls m₁ fs rs m' → Calls m (f ∷ fs) (r ∷ rs) m'
+-- ---- lists of calls
 
 pub record SomeCalls (m : Memory) (fs : List (List ℕ)) : Type 0 where
+  pub answers : List (List ℕ)
   pub numbers : List ℕ
   pub memory : Memory
-  pub calls : Calls m fs numbers memory
+  pub calls : FrameCalls m fs answers numbers memory
 
 pub calls-exist : {fs : List (List ℕ)} → Every Bytes fs → (m : Memory) → Stands m → SomeCalls m fs
-calls-exist nil m s = record { numbers = []; memory = m; calls = end }
+calls-exist nil m s = record { answers = []; numbers = []; memory = m; calls = none }
 calls-exist (cons {x = f} b bs) m s =
     let r = frame-result f b m s in
     let more = calls-exist bs (r .memory) (frame-stands f b m (r .memory) (r .number) (r .frames) s) in
-    record { numbers = r .number ∷ more .numbers; memory = more .memory; calls = next (r .frames) (more .calls) }
+    record { answers = answerOf (r .memory) ∷ more .answers; numbers = r .number ∷ more .numbers; memory = more .memory; calls = call (r .frames) (more .calls) }
 
 -- a configuration that is accepted, and then the frames
 pub record Session (g : List ℕ) (fs : List (List ℕ)) (m : Memory) : Type 0 where

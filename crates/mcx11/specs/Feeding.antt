@@ -4,9 +4,7 @@ use mathlib.Core.Path.{_≡_, refl, sym, ap, ap₂, _∙_, subst}
 use mathlib.Core.Bool.{Bool, true, false, _&&_}
 use mathlib.Core.List.{List}
 use native.Mathlib.Omega.{arith}
-use lib.Dec.{leb}
 use lib.ListN.{length, getD}
-use borrow.Author.Tests.{leb-true}
 use Rattle.ledger.specs.Config.{Config, configIn, configRefusal}
 use Rattle.ledger.specs.Ledger.{Ledger, fresh}
 use Rattle.ledger.specs.Refusals.{refusal}
@@ -24,10 +22,12 @@ use Rattle.configuration.specs.Layout.{shapeOf, of-one, end-most}
 use Rattle.configuration.specs.Layout as layout
 use Rattle.configuration.specs.Accepted.{accepted, accepted-of}
 use Rattle.configuration.specs.Started.{Started}
+use Rattle.executive.specs.Carried.{never}
 use Rattle.executive.specs.Lent.{Lends, lends}
 use Rattle.executive.specs.Stepped.{Steps}
 use Rattle.answer.specs.Written.{written}
 use Rattle.mcx11.specs.Contract.{Memory, memory, fullSize, messagesSound, lentWell, Displays, SameSizes, answering, Configures, Frames}
+use Rattle.mcx11.specs.Sizes.{full-sizes, full-kept}
 
 -- ---- a frame
 
@@ -38,9 +38,6 @@ soundIn s d = completeIn (s .tasks) (s .messages) (pendingIn (countOf (s .messag
 pub record Fed (c : Config) (s : Shape) (f d z w a d' z' w' a' : List ℕ) (r : ℕ) : Type 0 where
   pub bad : soundIn s d ≡ false → (r ≡ 11) × (d' ≡ d) × (z' ≡ z) × (w' ≡ w) × (a' ≡ a)
   pub good : soundIn s d ≡ true → Steps c s f d z w a d' z' w' a' r
-
-never : {P : Type 0} → false ≡ true → P
-never e = let z : _≡_ {A = ℕ} 0 1 = cc in absurd (omega arith)
 
 pub fed-bad : (c : Config) (s : Shape) (f d z w a : List ℕ) → soundIn s d ≡ false → Fed c s f d z w a d z w a 11
 fed-bad c s f d z w a e = record { bad = λ k. (refl, refl, refl, refl, refl); good = λ k. never (sym e ∙ k) }
@@ -93,7 +90,6 @@ module _ (f g d z w a : List ℕ) where
   same = record { config = refl; tables = refl; slots = refl; timers = refl; answer = refl }
 
   pub frame-short : fullSize m ≡ false → Frames f m m 11
-  unfolding lentWell
   frame-short e = record { sizes = same; config = refl; bad = λ k. (refl, refl); good = λ k. never (sym (size-broken m e) ∙ k); unchanged = λ k n. (refl, refl, refl) }
 
   pub frame-bad : rule (configured g) ≡ false → Frames f m m 11
@@ -117,37 +113,15 @@ module _ (f g d z w a : List ℕ) where
         unchanged = λ k n. h .good (sym x ∙ k) .unchanged n;
       }
 
-sizes : (a b c d e : Bool) → (a && b && c && d && e) ≡ true → (a ≡ true) × (b ≡ true) × (c ≡ true) × (d ≡ true) × (e ≡ true)
-sizes true true true true true h = (refl, refl, refl, refl, refl)
-sizes true true true true false h = never h
-sizes true true true false e h = never h
-sizes true true false d e h = never h
-sizes true false c d e h = never h
-sizes false b c d e h = never h
-
--- the sizes one by one
-pub full-rooms : (g d z w a : List ℕ) → fullSize (memory g d z w a) ≡ true → (198 ≤ length g) × (7571 ≤ length d) × (2016 ≤ length z) × (641 ≤ length w) × (21 ≤ length a)
-unfolding fullSize
-full-rooms g d z w a full =
-    let n = sizes (leb 198 (length g)) (leb 7571 (length d)) (leb 2016 (length z)) (leb 641 (length w)) (leb 21 (length a)) full in
-    (leb-true _ _ (n .0), leb-true _ _ (n .1), leb-true _ _ (n .2), leb-true _ _ (n .3), leb-true _ _ (n .4))
-
-full-again : {m m' : Memory} → SameSizes m m' → fullSize m ≡ true → fullSize m' ≡ true
-unfolding fullSize
-full-again s full = rw (s .config, s .tables, s .slots, s .timers, s .answer) full
-
 -- what the sizes and the configuration's rule give to those inside
 pub inside : (g d z w a : List ℕ) (s : Shape) → fullSize (memory g d z w a) ≡ true → Of (configured g) s
     → Fits s (length d) × Lends g s × (16 * s .tasks ≤ length z) × Holds s (length w) × (21 ≤ length a)
 inside g d z w a s full o =
-    let n = full-rooms g d z w a full in
-    let n2 : 7571 ≤ length d = n .1 in
-    let n3 : 2016 ≤ length z = n .2 in
-    let n4 : 641 ≤ length w = n .3 in
+    let n = full-sizes (memory g d z w a) full in
     let e : s .end ≤ 7571 = end-most (configured g) s o in
     let few : s .tasks ≤ 126 = o .laid .few in
     let t : s .timers ≤ 64 = o .laid .timers in
-    (fitting (o .laid) (omega arith), lends (n .0) o, omega arith, holding (omega arith) t, n .4)
+    (fitting (o .laid) (omega (arith, n .tables)), lends (n .config) o, omega (arith, n .slots), holding (omega (arith, n .timers)) t, n .answer)
 
 -- ---- a configuration
 pub record Begun (f a g' d' z' w' a' : List ℕ) : Type 0 where
@@ -204,5 +178,5 @@ module _ (f g d z w a : List ℕ) where
             let c : Config = configIn f in
             let o : Of c (shapeOf c) = accepted-of f (accepted f x) in
             let v : Shows c (shapeOf c) (fresh c) d' z' w' = s .shows (shapeOf c) o in
-            (refl, s .holds, well (memory g' d' z' w' a') (full-again sz full) (s .keeps) ∙ ap (λ (y : Config). messagesSound y d') (s .holds) ∙ sound-so c d' v, v, b .answered);
+            (refl, s .holds, well (memory g' d' z' w' a') (full-kept sz ∙ full) (s .keeps) ∙ ap (λ (y : Config). messagesSound y d') (s .holds) ∙ sound-so c d' v, v, b .answered);
       }

@@ -14,7 +14,8 @@ use Rattle.configuration.specs.Block.{configured, rule}
 use Rattle.mcx11.specs.Contract.{Memory, lentWell, Displays}
 use Rattle.mcx11.specs.Calls.{answerOf, FrameCalls, none, call}
 use Rattle.mcx11.specs.Numbers.{numbersFrom}
-use Rattle.mcx11.specs.Displayed.{full-kept, well-full, well-rule, displays-well}
+use Rattle.mcx11.specs.Sizes.{full-kept}
+use Rattle.mcx11.specs.Displayed.{well-full, well-rule, displays-well}
 
 -- the answer that a call wrote
 pub answer-is : (m : Memory) (a old : List ℕ) → m .answer ≡ written a old → answerOf m ≡ a

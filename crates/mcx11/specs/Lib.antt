@@ -1,5 +1,6 @@
 pub mod Results
 pub mod Contract
+pub mod Sizes
 pub mod Feeding
 pub mod Calls
 pub mod Numbers

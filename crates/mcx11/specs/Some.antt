@@ -4,40 +4,19 @@ use mathlib.Core.Path.{_≡_, ap, sym, _∙_, subst}
 use mathlib.Core.Bool.{true}
 use mathlib.Core.List.{List}
 use native.Mathlib.Omega.{arith}
-use borrow.Author.Tests.{leb-true}
 use lib.ListN.{length}
 use Rattle.rows.specs.Laws.{length-cut}
 use Rattle.ledger.specs.Lists.{byte}
 use Rattle.ledger.specs.Config.{Config}
 use Rattle.ledger.specs.Ledger.{Ledger}
-use Rattle.ledger.specs.Theorems.Checks.{and-left, and-right}
 use Rattle.tables.specs.Shows.{Of}
 use Rattle.tables.specs.Some.{some, shows-some}
 use Rattle.configuration.specs.Block.{configured, rule, read, configured-is}
 use Rattle.configuration.specs.Layout.{shapeOf, rule-head, of-shape, end-most}
 use Rattle.configuration.specs.Lent.{shapes-length}
-use Rattle.mcx11.specs.Contract.{Memory, fullSize, messagesSound, lentWell, Displays}
+use Rattle.mcx11.specs.Contract.{Memory, messagesSound, lentWell, Displays}
+use Rattle.mcx11.specs.Sizes.{full-sizes}
 use Rattle.mcx11.specs.Displayed.{well-full, well-rule, well-messages}
-
--- ---- the sizes, as numbers
-
-pub record Full (m : Memory) : Type 0 where
-  pub config : 198 ≤ length (m .config)
-  pub tables : 7571 ≤ length (m .tables)
-  pub slots : 2016 ≤ length (m .slots)
-  pub timers : 641 ≤ length (m .timers)
-  pub answer : 21 ≤ length (m .answer)
-
-pub full-sizes : (m : Memory) → fullSize m ≡ true → Full m
-unfolding fullSize
-full-sizes m h =
-    record {
-      config = leb-true 198 _ (search (and-left, and-right) depth 9);
-      tables = leb-true 7571 _ (search (and-left, and-right) depth 9);
-      slots = leb-true 2016 _ (search (and-left, and-right) depth 9);
-      timers = leb-true 641 _ (search (and-left, and-right) depth 9);
-      answer = leb-true 21 _ (search (and-left, and-right) depth 9);
-    }
 
 -- ---- a block that keeps the rule is laid out
 

@@ -3,8 +3,9 @@ use native.Mathlib.Omega.{arith}
 use mathlib.Core.Path.{_≡_, refl, sym, _∙_}
 use borrow.Author.Tests.{not-true, not-false}
 use denote.Ref.{now}
-use Rattle.mcx11.specs.Contract.{fullSize}
-use Rattle.mcx11.specs.Feeding.{full-rooms, configure-short, configure-refused, configure-accepted}
+use Rattle.mcx11.specs.Contract.{memory, fullSize}
+use Rattle.mcx11.specs.Sizes.{full-sizes}
+use Rattle.mcx11.specs.Feeding.{configure-short, configure-refused, configure-accepted}
 use borrow.Author.Needs.{needs}
 use Rattle.mcx11.proofs.entries.mcx11_configure.Statement.{statement}
 use Rattle.mcx11.proofs.entries.mcx11_configure.Tie as tie
@@ -25,7 +26,7 @@ refuse-configuration-requires : tie.Need-refuse-configuration-requires
 unfolding fullSize
 refuse-configuration-requires c κs =
     let a = c .before .before .before .before .before .before .before .before .before .before .before .args in
-    full-rooms (now (a .config)) (now (a .tables)) (now (a .slots)) (now (a .timers)) (now (a .answer)) (sym (c .before .before .before .before .full-size .ensures) ∙ not-false _ (c .before .before .before .if1 .left)) .4
+    full-sizes (memory (now (a .config)) (now (a .tables)) (now (a .slots)) (now (a .timers)) (now (a .answer))) (sym (c .before .before .before .before .full-size .ensures) ∙ not-false _ (c .before .before .before .if1 .left)) .answer
 
 same-length : tie.Need-same-length
 same-length c = search needs
@@ -53,8 +54,8 @@ begin-requires : tie.Need-begin-requires
 unfolding fullSize
 begin-requires c κs =
     let a = c .before .before .before .before .before .before .before .before .before .before .before .before .before .before .before .args in
-    let n = full-rooms (now (a .config)) (now (a .tables)) (now (a .slots)) (now (a .timers)) (now (a .answer)) (sym (c .before .before .before .before .before .before .before .before .full-size .ensures) ∙ not-false _ (c .before .before .before .before .before .before .before .if1 .left)) in
-    (sym (c .before .before .before .before .before .before .refusal .ensures) ∙ c .before .before .before .before .before .if2 .left, n .0, n .1, n .2, n .3, n .4)
+    let n = full-sizes (memory (now (a .config)) (now (a .tables)) (now (a .slots)) (now (a .timers)) (now (a .answer))) (sym (c .before .before .before .before .before .before .before .before .full-size .ensures) ∙ not-false _ (c .before .before .before .before .before .before .before .if1 .left)) in
+    (sym (c .before .before .before .before .before .before .refusal .ensures) ∙ c .before .before .before .before .before .if2 .left, n .config, n .tables, n .slots, n .timers, n .answer)
 
 same-length-2 : tie.Need-same-length-2
 same-length-2 c = search needs

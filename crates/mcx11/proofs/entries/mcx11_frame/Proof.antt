@@ -4,8 +4,9 @@ use mathlib.Core.Bool.{true, false}
 use borrow.Author.Tests.{not-true, not-false, leb-true}
 use denote.Ref.{now}
 use Rattle.configuration.specs.Block.{configured}
-use Rattle.mcx11.specs.Contract.{fullSize}
-use Rattle.mcx11.specs.Feeding.{frame-short, frame-bad, frame-fed, inside, full-rooms, lent-bad, lent-good}
+use Rattle.mcx11.specs.Contract.{memory, fullSize}
+use Rattle.mcx11.specs.Sizes.{full-sizes}
+use Rattle.mcx11.specs.Feeding.{frame-short, frame-bad, frame-fed, inside, lent-bad, lent-good}
 use borrow.Author.Needs.{needs}
 use Rattle.mcx11.proofs.entries.mcx11_frame.Statement.{statement}
 use Rattle.mcx11.proofs.entries.mcx11_frame.Tie as tie
@@ -23,7 +24,7 @@ lent-requires : tie.Need-lent-requires
 unfolding fullSize
 lent-requires c κs =
     let a = c .before .before .before .before .before .before .before .before .args in
-    full-rooms (now (a .config)) (now (a .tables)) (now (a .slots)) (now (a .timers)) (now (a .answer)) (sym (c .before .full-size .ensures) ∙ not-false _ (c .if1 .left)) .0
+    full-sizes (memory (now (a .config)) (now (a .tables)) (now (a .slots)) (now (a .timers)) (now (a .answer))) (sym (c .before .full-size .ensures) ∙ not-false _ (c .if1 .left)) .config
 
 enum-told : tie.Need-enum-told
 enum-told c = search needs
