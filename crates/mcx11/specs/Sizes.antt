@@ -2,7 +2,7 @@
 use Prim.Native.Nat.{ℕ, _≤_}
 use mathlib.Core.Path.{_≡_}
 use mathlib.Core.Bool.{true}
-use borrow.Author.Tests.{leb-true}
+use borrow.Author.Tests.{leb-true, le-leb}
 use lib.ListN.{length}
 use Rattle.ledger.specs.Theorems.Checks.{and-left, and-right}
 use Rattle.mcx11.specs.Contract.{Memory, fullSize, SameSizes}
@@ -24,6 +24,10 @@ full-sizes m h =
       timers = leb-true 641 _ (search (and-left, and-right) depth 9);
       answer = leb-true 21 _ (search (and-left, and-right) depth 9);
     }
+
+pub sizes-full : (m : Memory) → Full m → fullSize m ≡ true
+unfolding fullSize
+sizes-full m h = rw (le-leb _ _ (h .config), le-leb _ _ (h .tables), le-leb _ _ (h .slots), le-leb _ _ (h .timers), le-leb _ _ (h .answer))
 
 pub full-kept : {m m' : Memory} → SameSizes m m' → fullSize m' ≡ fullSize m
 unfolding fullSize

@@ -1,0 +1,43 @@
+-- A block that is lent well lays out the tables, so the answer is written; another block is not asked of.
+use native.Mathlib.Omega.{arith}
+use mathlib.Core.Path.{sym, _∙_}
+use denote.Ref.{now}
+use Rattle.tables.specs.Layout.{fitting}
+use Rattle.executive.specs.Carried.{never}
+use Rattle.mcx11.specs.Feeding.{lent-bad, lent-good, begun-room}
+use Rattle.feeding.specs.Replies.{refuses-line}
+use borrow.Author.Needs.{needs}
+use Rattle.feeding.proofs.replying.refuse_line.Statement.{statement}
+use Rattle.feeding.proofs.replying.refuse_line.Tie as tie
+
+lent-requires : tie.Need-lent-requires
+lent-requires c κs = c .before .before .before .before .pre .0
+
+enum-told : tie.Need-enum-told
+enum-told c = search needs
+
+enum-known-l : tie.Need-enum-known-l
+enum-known-l c = search needs
+
+write-requires : tie.Need-write-requires
+write-requires c κs =
+    let p = c .before .before .before .before .before .before .before .before .before .pre in
+    let g = lent-good _ (c .before .before .before .before .lent .ensures) (c .before .before .l .given .1) in
+    let r = begun-room (g .1) in
+    (fitting (g .1 .laid) (omega (arith, r .0, p .1)), omega (arith, r .1, p .2), p .3)
+
+returns : tie.Need-returns
+returns c = λ l w h v. never (sym (lent-bad _ (c .before .before .lent .ensures) (c .enum-told .given .1)) ∙ h)
+
+same-length : tie.Need-same-length
+same-length c = search needs
+
+returns-2 : tie.Need-returns-2
+returns-2 c =
+    let g = lent-good _ (c .before .before .before .before .before .before .before .lent .ensures) (c .before .before .before .before .before .l .given .1) in
+    refuses-line _ _ _ _ _ _ (g .1) (c .before .before .write .ensures .2)
+
+pub refuse-line-spec : {M : Type 1} → statement M
+refuse-line-spec =
+    tie.close
+    (tie.spec lent-requires enum-told enum-known-l write-requires returns same-length returns-2)
