@@ -1,6 +1,6 @@
 -- One tick: with so many of K ticks left in the tock, the others have passed. In numbers, and in the first byte of the tables.
 use mathlib.Core.Path.{_≡_, refl, sym, ap, _∙_}
-use mathlib.Core.Bool.{true, false, cond, not}
+use mathlib.Core.Bool.{Bool, true, false, cond, not}
 use mathlib.Core.List.{List}
 use Prim.Native.Nat.{ℕ, suc, _-_, _<_, _≤_}
 use native.Mathlib.Omega.{arith}
@@ -17,21 +17,20 @@ use Rattle.tables.specs.Decode.{leftOf}
 use Rattle.tables.specs.Shows.{ticksIn, Shows}
 use Rattle.tables.specs.Items.{withMessages, clock-shown}
 use Rattle.tables.specs.Stored.{shows-as}
-use Rattle.clock.specs.declared.Ticked.{Ticked}
 
 -- the ticks left are 1 to K; a tock passes where the ticks of this one reach K, and those then are none
-pub record AfterTick (K left : ℕ) (r : Ticked) : Type 0 where
-  pub some : 1 ≤ r .left
-  pub most : r .left ≤ K
-  pub tock : r .tock ≡ not (ltb (suc (K - left)) K)
-  pub ticks : K - r .left ≡ cond (r .tock) 0 (suc (K - left))
+pub record AfterTick (K left after : ℕ) (tocked : Bool) : Type 0 where
+  pub some : 1 ≤ after
+  pub most : after ≤ K
+  pub tock : tocked ≡ not (ltb (suc (K - left)) K)
+  pub ticks : K - after ≡ cond tocked 0 (suc (K - left))
 
 -- within the tock, and at its end
-pub goes-on : (K left : ℕ) → 1 < left → left ≤ K → AfterTick K left (record { left = left - 1; tock = false })
+pub goes-on : (K left : ℕ) → 1 < left → left ≤ K → AfterTick K left (left - 1) false
 goes-on K left lo hi =
     record { some = omega arith; most = omega arith; tock = ap not (sym (lt-ltb (suc (K - left)) K (omega arith))); ticks = omega arith }
 
-pub begins-anew : (K left : ℕ) → 1 ≤ left → left ≤ 1 → left ≤ K → AfterTick K left (record { left = K; tock = true })
+pub begins-anew : (K left : ℕ) → 1 ≤ left → left ≤ 1 → left ≤ K → AfterTick K left K true
 begins-anew K left lo one hi =
     record { some = omega arith; most = omega arith; tock = ap not (sym (le-ltb (suc (K - left)) K (omega arith))); ticks = omega arith }
 
@@ -65,14 +64,14 @@ module _ (c : Config) (s : Shape) (L : Ledger) (d z w : List ℕ) (h : Shows c s
       (e ∙ ap (λ (y : ℕ). c .K - y) (sym (ap (leftOf (c .K)) (getD-set-same (p .clock) 0 x 0 (omega arith)) ∙ left-back (c .K) x lo hi)))
       (h .shown .timers))
 
-  module _ (left : ℕ) (r : Ticked) (is : left ≡ leftOf (s .ticks) (getD d 0 0)) (t : AfterTick (s .ticks) left r) where
+  module _ (left after : ℕ) (tocked : Bool) (is : left ≡ leftOf (s .ticks) (getD d 0 0)) (t : AfterTick (s .ticks) left after tocked) where
     passed : L .ticks ≡ s .ticks - left
     passed = ticks-shown ∙ rw (← h .of .ticks, is)
 
-    pub tick-tells : r .tock ≡ not (ltb (suc (L .ticks)) (c .K))
+    pub tick-tells : tocked ≡ not (ltb (suc (L .ticks)) (c .K))
     tick-tells = t .tock ∙ rw (passed, ← h .of .ticks)
 
-    pub tick-does : Shows c s (setClock (L .N) (cond (r .tock) 0 (suc (L .ticks))) L) (set d 0 (r .left)) z w
+    pub tick-does : Shows c s (setClock (L .N) (cond tocked 0 (suc (L .ticks))) L) (set d 0 after) z w
     tick-does =
-        clock-stored (r .left) (cond (r .tock) 0 (suc (L .ticks))) (t .some) (omega (arith, t .most, h .of .ticks))
-        (ap (λ (n : ℕ). cond (r .tock) 0 (suc n)) passed ∙ sym (t .ticks) ∙ ap (λ (K : ℕ). K - r .left) (h .of .ticks))
+        clock-stored after (cond tocked 0 (suc (L .ticks))) (t .some) (omega (arith, t .most, h .of .ticks))
+        (ap (λ (n : ℕ). cond tocked 0 (suc n)) passed ∙ sym (t .ticks) ∙ ap (λ (K : ℕ). K - after) (h .of .ticks))

@@ -102,16 +102,22 @@ fn pass(timers: &mut [u8], shape: Shape) -> usize
     timers::pass(&mut timers[1..], n)
 }
 
-// The ticks left in the tock, and whether with the last tick one passed.
+// The tick's record: the ticks left in the tock, and the ticks per tock.
+pub struct Ticks {
+    pub left: usize,
+    pub pertock: usize,
+}
+
+// What a tick leaves: the ticks left, and whether a tock passed.
 pub struct Ticked {
     pub left: usize,
     pub tock: bool,
 }
 
-// One tick, with so many left of the ticks per tock.
-fn one_tick(left: usize, ticks: usize) -> Ticked
-    requires { ⌜ (1 ≤ left) × (left ≤ ticks) ⌝ }
-    ensures { λ r. ⌜ AfterTick ticks left r ⌝ }
+// One tick in numbers.
+fn one_tick(left: usize, pertock: usize) -> Ticked
+    requires { ⌜ (1 ≤ left) × (left ≤ pertock) ⌝ }
+    ensures { λ r. ⌜ AfterTick pertock left (r .left) (r .tock) ⌝ }
 {
     if left > 1 {
         return Ticked {
@@ -120,8 +126,31 @@ fn one_tick(left: usize, ticks: usize) -> Ticked
         };
     }
     Ticked {
-        left: ticks,
+        left: pertock,
         tock: true,
+    }
+}
+
+// One tick in the record. Gives whether a tock passed.
+fn count_tick(ticks: &mut Ticks) -> bool
+    requires { ⌜ (1 ≤ now ticks .left) × (now ticks .left ≤ now ticks .pertock) ⌝ }
+    ensures { λ r. ⌜ AfterTick (now (ticks .entry) .pertock) (now (ticks .entry) .left) (now (ticks .exit) .left) r × (now (ticks .exit) .pertock ≡ now (ticks .entry) .pertock) ⌝ }
+{
+    let after = one_tick(ticks.left, ticks.pertock);
+    ticks.left = after.left;
+    after.tock
+}
+
+// Makes the record and lends it for one tick. Whoever calls this needs no proof by hand.
+fn lent_tick(left: usize, pertock: usize) -> Ticked
+    requires { ⌜ (1 ≤ left) × (left ≤ pertock) ⌝ }
+    ensures { λ r. ⌜ AfterTick pertock left (r .left) (r .tock) ⌝ }
+{
+    let mut ticks = Ticks { left, pertock };
+    let tock = count_tick(&mut ticks);
+    Ticked {
+        left: ticks.left,
+        tock,
     }
 }
 
@@ -153,7 +182,7 @@ fn tick(tables: &mut [u8], shape: Shape) -> bool
     ensures { λ r. ⌜ Tells shape (now (tables .entry)) (λ c L. not (ltb (suc (L .ticks)) (c .K))) r × Does shape (now (tables .entry)) (now (tables .exit)) (λ c L. setClock (L .N) (cond r 0 (suc (L .ticks))) L) ⌝ }
 {
     let left = ticks_left(tables, shape);
-    let after = one_tick(left, shape.ticks);
+    let after = lent_tick(left, shape.ticks);
     tables[0] = byte(after.left);
     after.tock
 }

@@ -9,11 +9,11 @@ use Rattle.clock.proofs.tick.Tie as tie
 ticks-left-requires : tie.Need-ticks-left-requires
 ticks-left-requires c κs = search needs
 
-one-tick-requires : tie.Need-one-tick-requires
-one-tick-requires c κs = search needs
+lent-tick-requires : tie.Need-lent-tick-requires
+lent-tick-requires c κs = search needs
 
 byte-requires : tie.Need-byte-requires
-byte-requires c κs = omega (arith, c .one-tick .ensures .most, most-ticks (c .before .before .before .before .pre) .1)
+byte-requires c κs = omega (arith, c .lent-tick .ensures .most, most-ticks (c .before .before .before .before .pre) .1)
 
 slice-write-tables : tie.Need-slice-write-tables
 slice-write-tables c = clock-in (c .before .before .before .before .before .pre)
@@ -26,15 +26,15 @@ returns c =
     let s = c .before .before .before .before .before in
     let a = s .args in
     let l = c .before .before .ticks-left in
-    let t = c .before .one-tick in
-    (λ g L z w h. tick-tells g (a .shape) L (now (a .tables)) z w h (l .result) (t .result) (l .ensures .2) (t .ensures), λ g L z w h. rw (c .byte .ensures) (tick-does g (a .shape) L (now (a .tables)) z w h (l .result) (t .result) (l .ensures .2) (t .ensures)))
+    let t = c .before .lent-tick in
+    (λ g L z w h. tick-tells g (a .shape) L (now (a .tables)) z w h (l .result) (t .result .left) (t .result .tock) (l .ensures .2) (t .ensures), λ g L z w h. rw (c .byte .ensures) (tick-does g (a .shape) L (now (a .tables)) z w h (l .result) (t .result .left) (t .result .tock) (l .ensures .2) (t .ensures)))
 
 pub tick-spec : {M : Type 1} → statement M
 tick-spec =
     tie.close
     (tie.spec
     ticks-left-requires
-    one-tick-requires
+    lent-tick-requires
     byte-requires
     slice-write-tables
     same-length
