@@ -1,0 +1,234 @@
+//! host/ and docs/HOST.md: the header compiles as C and C++ and leads to the archive's functions; its sizes, codes, outcomes and
+//! numbers are the paper's; the example and the page's first host print what is stored.
+
+use c::lent::SIZES;
+use plain_executive::generator::Generator;
+use plain_executive::line::{MOST_BYTES, MOST_DIGITS};
+use plain_executive::session;
+use std::fs;
+use std::io::Write;
+use std::os::unix::fs::symlink;
+use std::path::{Path, PathBuf};
+use std::process::{Command, Output, Stdio};
+
+const STRICT: [&str; 4] = ["-Wall", "-Wextra", "-Werror", "-pedantic"];
+
+/// Of each language the compiler, and what it is told.
+const LANGUAGES: [(&str, &[&str]); 4] = [
+    ("gcc", &["-x", "c", "-std=c99"]),
+    ("gcc", &["-x", "c", "-std=c11"]),
+    ("g++", &["-x", "c++", "-std=c++98"]),
+    ("g++", &["-x", "c++", "-std=c++17"]),
+];
+
+fn repository() -> PathBuf {
+    Path::new(env!("CARGO_MANIFEST_DIR")).join("../..")
+}
+
+fn text(file: &str) -> String {
+    let path = repository().join(file);
+    fs::read_to_string(&path).unwrap_or_else(|error| panic!("{}: {error}", path.display()))
+}
+
+/// An empty folder of one's own.
+fn scratch(name: &str) -> PathBuf {
+    let folder = Path::new(env!("CARGO_TARGET_TMPDIR")).join(name);
+    fs::remove_dir_all(&folder).ok();
+    fs::create_dir_all(&folder).expect("a folder for the test");
+    folder
+}
+
+fn run(command: &mut Command, input: &[u8]) -> Output {
+    let told = format!("{command:?}");
+    let piped = command.stdin(Stdio::piped()).stdout(Stdio::piped()).stderr(Stdio::piped());
+    let mut child = piped.spawn().unwrap_or_else(|error| panic!("{told}: {error}"));
+    let mut standard_input = child.stdin.take().expect("piped");
+    std::thread::scope(|scope| {
+        scope.spawn(move || standard_input.write_all(input).ok());
+        child.wait_with_output().expect("its output")
+    })
+}
+
+/// What a command prints that must end well.
+fn printed(command: &mut Command, input: &[u8]) -> String {
+    let output = run(command, input);
+    assert!(output.status.success(), "{command:?}:\n{}", String::from_utf8_lossy(&output.stderr));
+    String::from_utf8(output.stdout).expect("text")
+}
+
+// ---- the header
+
+#[test]
+fn every_language_replays_the_stories_and_random_sessions() {
+    let folder = scratch("replay");
+    let mut sessions: Vec<(String, Vec<u8>)> = (0..20)
+        .map(|seed| (format!("seed {seed}"), Generator::new(seed).script(1..=20, 200).lines()))
+        .chain([("a refused configuration".to_string(), b"00\n".to_vec())])
+        .collect();
+    for file in fs::read_dir(repository().join("examples")).expect("examples/") {
+        let path = file.unwrap().path();
+        if path.extension().is_some_and(|ending| ending == "session") {
+            let stored = fs::read_to_string(path.with_extension("answers")).expect("a story has its answers");
+            let input = fs::read(&path).unwrap();
+            assert_eq!(stored.as_bytes(), session::run(&input), "{}", path.display());
+            sessions.push((path.display().to_string(), input));
+        }
+    }
+    for (number, (compiler, language)) in LANGUAGES.iter().enumerate() {
+        let program = folder.join(format!("replay{number}"));
+        let mut compile = Command::new(compiler);
+        compile.args(*language).args(STRICT).arg("-I").arg(repository().join("host"));
+        compile.arg(repository().join("tests/c/replay.c")).args(["-x", "none"]);
+        compile.arg(repository().join("target/staticlib/libmcx11.a")).arg("-o").arg(&program);
+        printed(&mut compile, b"");
+        for (name, input) in &sessions {
+            let answers = printed(&mut Command::new(&program), input);
+            assert_eq!(answers.as_bytes(), session::run(input), "{language:?}: {name}");
+        }
+    }
+}
+
+/// The names and values of the lines that look like `before NAME middle VALUE behind`.
+fn named(source: &str, before: &str, middle: &str, behind: char) -> Vec<(String, u32)> {
+    let line = |line: &str| {
+        let (name, value) = line.trim().strip_prefix(before)?.split_once(middle)?;
+        let value = value.split(behind).next()?.trim();
+        let value = match value.strip_prefix("0x") {
+            Some(digits) => u32::from_str_radix(digits, 16),
+            None => value.parse(),
+        };
+        Some((name.to_string(), value.ok()?))
+    };
+    source.lines().filter_map(line).collect()
+}
+
+fn constants(file: &str, kind: &str) -> Vec<(String, u32)> {
+    let found = named(&text(file), "pub const ", &format!(": {kind} = "), ';');
+    assert!(!found.is_empty(), "{file}");
+    found
+}
+
+/// The enumerators of the header's enum, without what their names begin with.
+fn enumerators(name: &str, before: &str) -> Vec<(String, u32)> {
+    let header = text("host/mcx11.h");
+    let from = header.find(&format!("enum mcx11_{name} {{")).unwrap_or_else(|| panic!("no enum {name}"));
+    let body = header[from..].split("};").next().unwrap().replace(" /*", ", /*");
+    named(&body, before, " = ", ',')
+}
+
+#[test]
+fn codes_outcomes_and_numbers_are_the_papers() {
+    assert_eq!(enumerators("code", "MCX11_"), constants("tests/src/command.rs", "u8"));
+    assert_eq!(enumerators("outcome", "MCX11_OUTCOME_"), constants("tests/src/answer.rs", "u8"));
+    let with_prefix = numbers().into_iter().map(|(name, number)| (format!("NUMBER_{name}"), number));
+    let all: Vec<_> = [("ACCEPTED".to_string(), 0)].into_iter().chain(with_prefix).collect();
+    assert_eq!(enumerators("number", "MCX11_"), all);
+}
+
+fn numbers() -> Vec<(String, u32)> {
+    constants("tests/src/numbers.rs", "Number")
+}
+
+#[test]
+fn the_sizes_are_those_of_the_memory_page() {
+    let page = text("docs/MEMORY.md");
+    let rows = page.lines().skip_while(|line| !line.starts_with("| Block | Bytes | Needed")).skip(2);
+    let rows: Vec<Vec<&str>> =
+        rows.take_while(|line| line.starts_with('|')).map(|line| line.split('|').map(str::trim).collect()).collect();
+    let blocks: Vec<String> = rows.iter().map(|row| row[1].trim_matches('`').to_string()).collect();
+    let sizes: Vec<u32> = rows.iter().map(|row| row[2].parse().expect("bytes")).collect();
+    assert_eq!(sizes, SIZES.map(|size| size as u32));
+
+    let header = text("host/mcx11.h");
+    let mut defined = named(&header, "#define MCX11_", " ", ' ');
+    let longest = defined.split_off(blocks.len());
+    let named_after = |block: &String| format!("{}_BYTES", block.to_uppercase());
+    assert_eq!(defined, blocks.iter().map(named_after).zip(sizes).collect::<Vec<_>>());
+    let lines = [("FRAME_BYTES".to_string(), MOST_BYTES as u32), ("LINE_DIGITS".to_string(), MOST_DIGITS as u32)];
+    assert_eq!(longest, lines);
+
+    let fields = header.split("typedef struct mcx11_t {").nth(1).and_then(|rest| rest.split("} mcx11_t;").next());
+    let fields: Vec<String> = fields
+        .expect("the struct")
+        .lines()
+        .filter_map(|line| Some(line.trim().strip_prefix("uint8_t ")?.split_once(';')?.0.to_string()))
+        .collect();
+    let field = |block: &String| format!("{block}[MCX11_{}]", named_after(block));
+    assert_eq!(fields, blocks.iter().map(field).collect::<Vec<_>>());
+}
+
+#[test]
+fn the_archive_has_the_headers_functions_and_no_data() {
+    let mut nm = Command::new("nm");
+    let symbols = printed(nm.arg(repository().join("target/staticlib/libmcx11.a")), b"");
+    let of_kind = |kinds: &str| -> Vec<&str> {
+        let symbol = |line: &&'_ str| line[17..18].chars().all(|kind| kinds.contains(kind));
+        let lines = symbols.lines().filter(|line| line.len() > 19).filter(symbol);
+        lines.map(|line| &line[19..]).collect()
+    };
+    let header = text("host/mcx11.h");
+    let declared =
+        header.lines().filter(|line| line.starts_with("uint8_t mcx11_") || line.starts_with("int32_t mcx11_"));
+    let mut declared: Vec<&str> = declared.map(|line| line.split([' ', '(']).nth(1).unwrap()).collect();
+    declared.sort_unstable();
+    assert_eq!(of_kind("T"), declared);
+    assert_eq!(of_kind("U"), ["memcpy", "memset"]);
+    assert_eq!(of_kind("BbCcDdGgSs"), [""; 0]);
+}
+
+// ---- the example
+
+#[test]
+fn the_example_prints_what_is_stored() {
+    let output = printed(&mut Command::new(repository().join("host/build")), b"");
+    assert_eq!(output, text("host/example.out"));
+}
+
+#[test]
+fn the_example_says_what_is_missing() {
+    let folder = scratch("build").join("host");
+    fs::create_dir(&folder).unwrap();
+    fs::copy(repository().join("host/build"), folder.join("build")).unwrap();
+    let output = run(&mut Command::new(folder.join("build")), b"");
+    assert_eq!(output.status.code(), Some(1));
+    assert!(String::from_utf8_lossy(&output.stderr).contains("run 'rt staticlib mcx11' first"));
+}
+
+#[test]
+fn the_example_advises_on_every_number() {
+    let example = text("host/example.c");
+    for (name, _) in numbers() {
+        assert_eq!(example.matches(&format!("    case MCX11_NUMBER_{name}: return \"")).count(), 1, "{name}");
+    }
+}
+
+// ---- the page
+
+#[test]
+fn the_page_has_every_number() {
+    let page = text("docs/HOST.md");
+    let rows = page.lines().skip_while(|line| !line.starts_with("| Number | Behind `MCX11_NUMBER_` |")).skip(2);
+    let row = |line: &str| {
+        let cells: Vec<&str> = line.trim_matches('|').split('|').map(str::trim).collect();
+        assert!(cells.len() == 4 && cells.iter().all(|cell| !cell.is_empty()), "{line}");
+        (cells[1].trim_matches('`').to_string(), cells[0].parse().expect("a number"))
+    };
+    assert_eq!(rows.take_while(|line| line.starts_with('|')).map(row).collect::<Vec<_>>(), numbers());
+}
+
+#[test]
+fn the_pages_first_host_prints_what_the_page_says() {
+    let page = text("docs/HOST.md");
+    let between = |from: &str, to: &str| {
+        let rest = page.split(from).nth(1).unwrap_or_else(|| panic!("docs/HOST.md: {from}"));
+        rest.split(to).next().unwrap().to_string()
+    };
+    let folder = scratch("first");
+    fs::write(folder.join("first.c"), between("```c\n", "```")).unwrap();
+    for linked in ["host", "target"] {
+        symlink(fs::canonicalize(repository().join(linked)).unwrap(), folder.join(linked)).unwrap();
+    }
+    let command = format!("gcc {}", between("\n    gcc ", "\n"));
+    let output = printed(Command::new("sh").arg("-c").arg(&command).current_dir(&folder), b"");
+    assert_eq!(output, format!("{}\n", between("Its output is `", "`")));
+}
