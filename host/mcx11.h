@@ -53,7 +53,7 @@ enum mcx11_code {
 };
 
 /* What the running task's last request ended with. */
-enum mcx11_outcome {
+enum mcx11_outcome_kind {
     MCX11_OUTCOME_PLAIN = 0,
     MCX11_OUTCOME_BEGIN = 1,    /* the task was started and has not called since */
     MCX11_OUTCOME_MESSAGE = 2,  /* value: message, sender, semaphore */
@@ -115,10 +115,10 @@ static inline uint8_t mcx11_t_frame(mcx11_t *m, const uint8_t *bytes, size_t len
 
 /* uint8_t mcx11_configure(mcx11_t *m, const uint8_t *bytes, size_t length): begins anew with this configuration.
    uint8_t mcx11_frame(mcx11_t *m, const uint8_t *bytes, size_t length): carries out a frame.
-   Each gives the number, 0 accepted. The bytes lie outside *m and are not kept. These are macros, since the archive's functions
-   have the names already; (mcx11_frame)(..) is the archive's own. */
-#define mcx11_configure(m, bytes, length) mcx11_t_configure(m, bytes, length)
-#define mcx11_frame(m, bytes, length) mcx11_t_frame(m, bytes, length)
+   Each gives the number, 0 accepted. The bytes lie outside *m and are not kept. Both are macros, since the archive has the
+   names already; behind #undef they are the archive's own functions again. */
+#define mcx11_configure mcx11_t_configure
+#define mcx11_frame mcx11_t_frame
 
 /* The frame of five bytes: every code but enqueue, whose entry stands behind them. */
 static inline uint8_t mcx11_call(mcx11_t *m, uint8_t code, uint8_t a, uint8_t b, uint16_t x)
@@ -139,7 +139,7 @@ static inline uint8_t mcx11_running(const mcx11_t *m) { return m->answer[2]; }
 /* Of the answer: how often settling issued a request again. */
 static inline uint8_t mcx11_reissues(const mcx11_t *m) { return m->answer[3]; }
 
-/* Of the answer: the running task's outcome, an enum mcx11_outcome. */
+/* Of the answer: the kind of the running task's outcome, an enum mcx11_outcome_kind. */
 static inline uint8_t mcx11_outcome(const mcx11_t *m) { return m->answer[4]; }
 
 /* Of the answer: the outcome's value, and how many bytes it has. */

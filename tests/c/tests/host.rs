@@ -119,7 +119,7 @@ fn enumerators(name: &str, before: &str) -> Vec<(String, u32)> {
 #[test]
 fn codes_outcomes_and_numbers_are_the_papers() {
     assert_eq!(enumerators("code", "MCX11_"), constants("tests/src/command.rs", "u8"));
-    assert_eq!(enumerators("outcome", "MCX11_OUTCOME_"), constants("tests/src/answer.rs", "u8"));
+    assert_eq!(enumerators("outcome_kind", "MCX11_OUTCOME_"), constants("tests/src/answer.rs", "u8"));
     let with_prefix = numbers().into_iter().map(|(name, number)| (format!("NUMBER_{name}"), number));
     let all: Vec<_> = [("ACCEPTED".to_string(), 0)].into_iter().chain(with_prefix).collect();
     assert_eq!(enumerators("number", "MCX11_"), all);
