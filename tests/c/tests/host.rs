@@ -1,5 +1,5 @@
-//! host/ and docs/HOST.md: the header compiles as C and C++ and leads to the archive's functions; its sizes, codes, outcomes and
-//! numbers are the paper's; the example and the page's first host print what is stored.
+//! host/ and docs/HOST.md: the header compiles as C and C++ and leads to the archive's functions; its sizes, codes, outcomes
+//! and numbers are the paper's; the examples and the page's first host print what is stored.
 
 use c::lent::SIZES;
 use plain_executive::generator::Generator;
@@ -176,22 +176,28 @@ fn the_archive_has_the_headers_functions_and_no_data() {
     assert_eq!(of_kind("BbCcDdGgSs"), [""; 0]);
 }
 
-// ---- the example
+// ---- the examples
 
 #[test]
-fn the_example_prints_what_is_stored() {
-    let output = printed(&mut Command::new(repository().join("host/build")), b"");
-    assert_eq!(output, text("host/example.out"));
+fn the_examples_print_what_is_stored() {
+    let build = || Command::new(repository().join("host/build"));
+    assert_eq!(printed(&mut build(), b""), text("host/example.out"));
+    assert_eq!(printed(build().arg("switching"), b""), text("host/switching.out"));
 }
 
 #[test]
-fn the_example_says_what_is_missing() {
+fn the_build_says_what_is_missing() {
     let folder = scratch("build").join("host");
     fs::create_dir(&folder).unwrap();
-    fs::copy(repository().join("host/build"), folder.join("build")).unwrap();
-    let output = run(&mut Command::new(folder.join("build")), b"");
-    assert_eq!(output.status.code(), Some(1));
-    assert!(String::from_utf8_lossy(&output.stderr).contains("run 'rt staticlib mcx11' first"));
+    for file in ["build", "example.c"] {
+        fs::copy(repository().join("host").join(file), folder.join(file)).unwrap();
+    }
+    for (name, advice) in [("example", "run 'rt staticlib mcx11' first"), ("exmaple", "name 'example' or 'switching'")]
+    {
+        let output = run(Command::new(folder.join("build")).arg(name), b"");
+        assert_eq!(output.status.code(), Some(1));
+        assert!(String::from_utf8_lossy(&output.stderr).contains(advice), "{name}: {output:?}");
+    }
 }
 
 #[test]
