@@ -115,8 +115,8 @@ static inline uint8_t mcx11_t_frame(mcx11_t *m, const uint8_t *bytes, size_t len
 
 /* uint8_t mcx11_configure(mcx11_t *m, const uint8_t *bytes, size_t length): begins anew with this configuration.
    uint8_t mcx11_frame(mcx11_t *m, const uint8_t *bytes, size_t length): carries out a frame.
-   Each gives the number, 0 accepted. The bytes lie outside *m and are not kept. Both are macros, since the archive has the
-   names already; behind #undef they are the archive's own functions again. */
+   Each gives the number, 0 accepted. The bytes lie outside *m; after the call their place may be used again. Both are macros,
+   since the archive has the names already; behind #undef they are the archive's own functions again. */
 #define mcx11_configure mcx11_t_configure
 #define mcx11_frame mcx11_t_frame
 
