@@ -1,0 +1,72 @@
+//! Measures the verified executive beside the other implementation on the same recorded sessions, and prints tables.
+
+mod measure;
+mod session;
+mod sessions;
+
+use measure::{Cost, Counted};
+use session::Session;
+
+fn main() {
+    let arguments: Vec<String> = std::env::args().skip(1).collect();
+    if let [who, file, before, frames] = arguments.as_slice() {
+        measure::run_one(who, file, before.parse().expect("a number"), frames == "frames");
+    }
+    let (recorded, growing) = (sessions::recorded(), sessions::growing());
+    for session in recorded.iter().chain(&growing) {
+        session.check();
+    }
+    println!("Processor: {}\n", processor());
+    print(&["Session"], &recorded, 0);
+    describe(&recorded);
+    print(&["Frame", "T", "Runs", "Q", "Messages", "Timers"], &growing, recorded.len());
+}
+
+fn processor() -> String {
+    let all = std::fs::read_to_string("/proc/cpuinfo").unwrap_or_default();
+    let name = all.lines().find_map(|line| line.strip_prefix("model name")?.split_once(':'));
+    name.map_or("not known".to_string(), |(_, name)| name.trim().to_string())
+}
+
+const COSTS: [&str; 7] = ["ns", "other", "ratio", "instructions", "other", "ratio", "test for 11"];
+
+fn print(heading: &[&str], sessions: &[Session], first: usize) {
+    let columns: Vec<&str> = heading.iter().chain(&COSTS).copied().collect();
+    println!("| {} |\n|{}", columns.join(" | "), "---|".repeat(columns.len()));
+    for (index, (session, time)) in sessions.iter().zip(measure::nanoseconds(sessions)).enumerate() {
+        let counted = match measure::instructions(session, first + index) {
+            Some(Counted { cost, test }) => format!("{} | {test:.0}, {:.0} %", cells(cost), 100.0 * test / cost.engine),
+            None => "no valgrind | - | - | -".to_string(),
+        };
+        println!("| {} | {} | {counted} |", session.name, cells(time));
+    }
+    println!();
+}
+
+fn cells(cost: Cost) -> String {
+    format!("{:.0} | {:.0} | {:.1}", cost.engine, cost.other, cost.engine / cost.other)
+}
+
+/// What stands behind the recorded sessions.
+fn describe(sessions: &[Session]) {
+    println!(
+        "| Session | Tasks before the running one | Messages that lie | Timers | Reissues |\n|{}",
+        "---|".repeat(5)
+    );
+    for session in sessions {
+        let mut other = session.other();
+        let mut sums = [0; 4];
+        for frame in &session.frames {
+            let configuration = other.configuration();
+            let before = if other.running() == 0 { configuration.tasks } else { other.running() - 1 };
+            let lying = (1..=configuration.messages).filter(|&message| other.mailboxes().holds(message)).count();
+            let timers = other.timers().active().len();
+            let reissues = other.frame(frame).reissues();
+            let held = [usize::from(before), lying, timers, reissues.into()];
+            sums = std::array::from_fn(|item| sums[item] + held[item]);
+        }
+        let means = sums.map(|sum| format!("{:.1}", sum as f64 / session.frames.len() as f64));
+        println!("| {} | {} |", session.name, means.join(" | "));
+    }
+    println!();
+}
