@@ -12,6 +12,11 @@ impl Clock {
         Clock { ticks: 0, ticks_per_tock, tocks: 0 }
     }
 
+    /// With so many ticks gone in the present tock, the first one.
+    pub fn restored(ticks_per_tock: u8, ticks: u8) -> Self {
+        Clock { ticks, ticks_per_tock, tocks: 0 }
+    }
+
     /// Counts one tick; tells whether a tock passed.
     pub fn tick(&mut self) -> bool {
         self.ticks += 1;

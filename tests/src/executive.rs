@@ -23,6 +23,8 @@ pub struct Executive {
     pub(crate) queues: Queues,
     pub(crate) timers: Timers,
     pub(crate) history: Option<Vec<History>>,
+    /// In a state that was given, several semaphores may be WAITING with one task.
+    pub(crate) restored: bool,
 }
 
 impl Executive {
@@ -39,6 +41,7 @@ impl Executive {
             queues: Queues::fresh(&configuration.queues),
             timers: Timers::fresh(configuration.timers),
             history: None,
+            restored: false,
             configuration,
         }
     }

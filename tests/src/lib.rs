@@ -23,3 +23,4 @@ pub mod tocks;
 pub mod coverage;
 pub mod generator;
 pub mod random;
+pub mod restored;

@@ -42,6 +42,15 @@ impl Mailboxes {
         self.lying |= 1 << letter.message;
     }
 
+    /// Behind all messages of the mailbox, whoever sent them.
+    pub fn append(&mut self, task: u8, letter: Letter) {
+        let last = self.letters(task).last().map_or(0, |last| last.message);
+        self.letters[usize::from(letter.message)] = letter;
+        self.behind[usize::from(letter.message)] = 0;
+        self.link(task, last, letter.message);
+        self.lying |= 1 << letter.message;
+    }
+
     /// Takes out the first message, or the first from a sender other than 0.
     pub fn take(&mut self, task: u8, sender: u8) -> Option<Letter> {
         let (mut before, mut at) = (0, self.first[usize::from(task)]);

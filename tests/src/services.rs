@@ -144,6 +144,9 @@ impl Executive {
         if waited_on != 0 {
             self.set_semaphore(waited_on, Semaphore::Pending);
         }
+        if self.restored {
+            self.withdraw(task);
+        }
     }
 
     fn delay(&mut self, start: Start) {
@@ -160,7 +163,9 @@ impl Executive {
             return;
         }
         while let Some(timer) = self.timers.take_due(self.clock.tocks()) {
-            self.signal(timer.semaphore);
+            if (1..=self.configuration.semaphores()).contains(&timer.semaphore) {
+                self.signal(timer.semaphore);
+            }
         }
     }
 

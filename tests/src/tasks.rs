@@ -76,6 +76,10 @@ pub struct Task {
 }
 
 impl Task {
+    pub fn restored(blocks: Blocks, outcome: Outcome, request: Request, slot: [u8; SLOT_BYTES], waits_on: u8) -> Self {
+        Task { blocks, outcome, request, slot, waits_on }
+    }
+
     pub fn blocks(&self) -> Blocks {
         self.blocks
     }
@@ -108,6 +112,14 @@ impl Tasks {
             }
         }
         tasks
+    }
+
+    pub fn restored(tasks: impl IntoIterator<Item = Task>) -> Self {
+        let mut restored = Tasks::fresh(&[]);
+        restored.records.extend(tasks);
+        let runnable = (1..restored.records.len()).filter(|&task| restored.records[task].blocks.is_empty());
+        restored.runnable = runnable.fold(0, |set, task| set | 1 << task);
+        restored
     }
 
     /// The runnable task with the lowest number, else the null task.

@@ -23,12 +23,20 @@ pub struct Start {
 pub struct Timers {
     active: Vec<Timer>,
     records: usize,
+    /// By due tock; only timers that were given may be otherwise.
+    sorted: bool,
 }
 
 impl Timers {
     pub fn fresh(records: u8) -> Self {
         let records = usize::from(records);
-        Timers { active: Vec::with_capacity(records), records }
+        Timers { active: Vec::with_capacity(records), records, sorted: true }
+    }
+
+    /// In any order.
+    pub fn restored(records: u8, active: Vec<Timer>) -> Self {
+        let sorted = active.is_sorted_by_key(|timer| timer.due);
+        Timers { active, records: usize::from(records), sorted }
     }
 
     pub fn active(&self) -> &[Timer] {
@@ -52,10 +60,12 @@ impl Timers {
         });
     }
 
-    /// Takes the first timer out if it is due; a cyclic one goes back in for its next turn.
+    /// Takes the first timer out that is due; a cyclic one goes back in for its next turn.
     pub fn take_due(&mut self, now: u64) -> Option<Timer> {
-        let timer = *self.active.first().filter(|timer| timer.due <= now)?;
-        self.active.remove(0);
+        let is_due = |timer: &Timer| timer.due <= now;
+        let place = if self.sorted { 0 } else { self.active.iter().position(is_due)? };
+        let timer = *self.active.get(place).filter(|timer| is_due(timer))?;
+        self.active.remove(place);
         if timer.period != 0 {
             self.insert(Timer { due: now + u64::from(timer.period), ..timer });
         }
@@ -70,9 +80,14 @@ impl Timers {
         self.active.retain(|timer| timer.task != task || timer.semaphore != semaphore);
     }
 
-    /// Behind those due in the same tock.
+    /// Before the first that is due later, so behind those due in the same tock.
     fn insert(&mut self, timer: Timer) {
-        let place = self.active.partition_point(|other| other.due <= timer.due);
+        let place = if self.sorted {
+            self.active.partition_point(|other| other.due <= timer.due)
+        } else {
+            let later = self.active.iter().position(|other| other.due > timer.due);
+            later.unwrap_or(self.active.len())
+        };
         self.active.insert(place, timer);
     }
 }

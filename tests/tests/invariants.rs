@@ -142,6 +142,16 @@ fn lists_are_in_order() {
 }
 
 #[test]
+fn restored_from_its_items_it_goes_on_the_same() {
+    each_step(|step| {
+        let mut restored = Executive::restored(step.before.configuration().clone(), &step.before.items());
+        assert_eq!(restored.items(), step.before.items());
+        assert_eq!(restored.frame(&step.frame).bytes(), step.answer.bytes(), "{:02X?}", step.frame);
+        assert_eq!(restored.items(), step.after.items(), "{:02X?}", step.frame);
+    });
+}
+
+#[test]
 fn the_cascade_counts_98_reissues() {
     let script = cascade();
     let mut executive = Executive::configure(&script.configuration).expect("an accepted configuration");
