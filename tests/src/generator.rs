@@ -45,6 +45,11 @@ impl Generator {
     /// A configuration that is accepted and this many frames.
     pub fn script(&mut self, tasks: RangeInclusive<u8>, frames: usize) -> Script {
         let configuration = configurations::accepted(&mut self.random, tasks);
+        self.script_of(configuration, frames)
+    }
+
+    /// This configuration, which is accepted, and this many frames.
+    pub fn script_of(&mut self, configuration: Vec<u8>, frames: usize) -> Script {
         let mut executive = Executive::configure(&configuration).expect("an accepted configuration");
         let frames = (0..frames).map(|_| self.next_frame(&mut executive)).collect();
         Script { configuration, frames }

@@ -1,10 +1,10 @@
 //! The executive's C functions over memory of one's own, and the items read out of that memory as docs/MEMORY.md says.
 
-use plain_executive::configuration::Configuration;
+use plain_executive::configuration::{Configuration, QueueSize};
 use plain_executive::items::{Items, OutcomeItem, RequestItem, TaskItem, TimerItem};
 use plain_executive::numbers::Number;
 use plain_executive::semaphore::Semaphore;
-use plain_executive::tasks::{Block, Blocks, Letter};
+use plain_executive::tasks::{self, Block, Letter};
 
 extern "C" {
     fn mcx11_configure(
@@ -40,6 +40,51 @@ extern "C" {
 /// The least sizes of the five blocks.
 pub const SIZES: [usize; 5] = [198, 7571, 2016, 641, 21];
 
+/// Five blocks of bytes: config, tables, slots, timers, answer.
+pub type Blocks<'a> = [&'a mut [u8]; 5];
+
+/// Configures over these blocks.
+pub fn configure(frame: &[u8], blocks: Blocks) -> Number {
+    let [config, tables, slots, timers, answer] = blocks;
+    unsafe {
+        mcx11_configure(
+            frame.as_ptr(),
+            frame.len(),
+            config.as_mut_ptr(),
+            config.len(),
+            tables.as_mut_ptr(),
+            tables.len(),
+            slots.as_mut_ptr(),
+            slots.len(),
+            timers.as_mut_ptr(),
+            timers.len(),
+            answer.as_mut_ptr(),
+            answer.len(),
+        )
+    }
+}
+
+/// Feeds a frame to these blocks.
+pub fn feed(frame: &[u8], blocks: Blocks) -> Number {
+    let [config, tables, slots, timers, answer] = blocks;
+    unsafe {
+        mcx11_frame(
+            frame.as_ptr(),
+            frame.len(),
+            config.as_ptr(),
+            config.len(),
+            tables.as_mut_ptr(),
+            tables.len(),
+            slots.as_mut_ptr(),
+            slots.len(),
+            timers.as_mut_ptr(),
+            timers.len(),
+            answer.as_mut_ptr(),
+            answer.len(),
+        )
+    }
+}
+
 /// The five blocks that a host lends.
 #[derive(Clone, Debug, PartialEq, Eq)]
 pub struct Lent {
@@ -57,42 +102,20 @@ impl Lent {
         Lent { config, tables, slots, timers, answer }
     }
 
+    pub fn blocks(&self) -> [&[u8]; 5] {
+        [&self.config, &self.tables, &self.slots, &self.timers, &self.answer]
+    }
+
+    pub fn blocks_mut(&mut self) -> [&mut Vec<u8>; 5] {
+        [&mut self.config, &mut self.tables, &mut self.slots, &mut self.timers, &mut self.answer]
+    }
+
     pub fn configure(&mut self, frame: &[u8]) -> Number {
-        unsafe {
-            mcx11_configure(
-                frame.as_ptr(),
-                frame.len(),
-                self.config.as_mut_ptr(),
-                self.config.len(),
-                self.tables.as_mut_ptr(),
-                self.tables.len(),
-                self.slots.as_mut_ptr(),
-                self.slots.len(),
-                self.timers.as_mut_ptr(),
-                self.timers.len(),
-                self.answer.as_mut_ptr(),
-                self.answer.len(),
-            )
-        }
+        configure(frame, self.blocks_mut().map(Vec::as_mut_slice))
     }
 
     pub fn frame(&mut self, frame: &[u8]) -> Number {
-        unsafe {
-            mcx11_frame(
-                frame.as_ptr(),
-                frame.len(),
-                self.config.as_ptr(),
-                self.config.len(),
-                self.tables.as_mut_ptr(),
-                self.tables.len(),
-                self.slots.as_mut_ptr(),
-                self.slots.len(),
-                self.timers.as_mut_ptr(),
-                self.timers.len(),
-                self.answer.as_mut_ptr(),
-                self.answer.len(),
-            )
-        }
+        feed(frame, self.blocks_mut().map(Vec::as_mut_slice))
     }
 
     /// The answer to the last call.
@@ -100,46 +123,62 @@ impl Lent {
         &self.answer[1..=usize::from(self.answer[0])]
     }
 
-    /// All that is compared, of memory that calls left.
+    /// What the memory means, whatever its bytes are; they keep the rules of number 11.
     pub fn items(&self, configuration: &Configuration) -> Items {
         Reader::new(self, configuration).items()
     }
 }
 
-/// The regions of the tables: where each begins.
-struct Reader<'lent> {
-    lent: &'lent Lent,
-    configuration: &'lent Configuration,
-    records: usize,
-    semaphores: usize,
-    waiting: usize,
-    rings: usize,
-    messages: usize,
-    entries: usize,
+/// Where the regions of the tables begin, and where the last of them ends.
+#[derive(Clone, Copy, Debug)]
+pub struct Regions {
+    pub records: usize,
+    pub semaphores: usize,
+    pub waiting: usize,
+    pub rings: usize,
+    pub messages: usize,
+    pub entries: usize,
+    pub end: usize,
 }
 
-impl<'lent> Reader<'lent> {
-    fn new(lent: &'lent Lent, configuration: &'lent Configuration) -> Self {
+impl Regions {
+    pub fn of(configuration: &Configuration) -> Self {
         let tasks = usize::from(configuration.tasks);
-        let queues = configuration.queues.len();
         let records = 2 + tasks;
         let semaphores = records + 6 * tasks;
         let waiting = semaphores + usize::from(configuration.semaphores());
         let rings = waiting + 16 * tasks;
-        let messages = rings + 2 * queues;
+        let messages = rings + 2 * configuration.queues.len();
         let entries = messages + 4 * usize::from(configuration.messages);
-        Reader { lent, configuration, records, semaphores, waiting, rings, messages, entries }
+        let bytes = |size: &QueueSize| usize::from(size.width) * usize::from(size.depth);
+        let end = entries + configuration.queues.iter().map(bytes).sum::<usize>();
+        Regions { records, semaphores, waiting, rings, messages, entries, end }
+    }
+}
+
+struct Reader<'lent> {
+    lent: &'lent Lent,
+    configuration: &'lent Configuration,
+    regions: Regions,
+}
+
+impl<'lent> Reader<'lent> {
+    fn new(lent: &'lent Lent, configuration: &'lent Configuration) -> Self {
+        Reader { lent, configuration, regions: Regions::of(configuration) }
     }
 
     fn items(&self) -> Items {
         let tasks = usize::from(self.configuration.tasks);
+        let ticks = self.configuration.ticks_per_tock;
+        let ticks_left = if (1..=ticks).contains(&self.at(0)) { self.at(0) } else { ticks };
+        let timers = self.lent.timers[0].min(self.configuration.timers);
         Items {
-            ticks: self.configuration.ticks_per_tock - self.at(0),
+            ticks: ticks - ticks_left,
             tasks: (0..tasks).map(|index| self.task(index)).collect(),
             semaphores: (0..usize::from(self.configuration.semaphores())).map(|index| self.semaphore(index)).collect(),
             mailboxes: self.mailboxes(tasks),
             queues: self.queues(),
-            timers: (0..usize::from(self.lent.timers[0])).map(|index| self.timer(index)).collect(),
+            timers: (0..usize::from(timers)).map(|index| self.timer(index)).collect(),
         }
     }
 
@@ -156,27 +195,27 @@ impl<'lent> Reader<'lent> {
     }
 
     fn task(&self, index: usize) -> TaskItem {
-        let record = self.records + 6 * index;
+        let record = self.regions.records + 6 * index;
         let slot: [u8; 16] = self.lent.slots[16 * index..16 * index + 16].try_into().expect("16 bytes");
         TaskItem {
             blocks: self.blocks(index),
             outcome: self.outcome(record, &slot),
             slot,
-            request: self.request(record + 4, self.waiting + 16 * index),
+            request: self.request(record + 4, self.regions.waiting + 16 * index),
         }
     }
 
-    fn blocks(&self, index: usize) -> Blocks {
+    fn blocks(&self, index: usize) -> tasks::Blocks {
         let all = [Block::Idle, Block::Suspended, Block::EventWait, Block::MessageWait];
         let held = all.into_iter().enumerate().filter(|(bit, _)| self.at(2 + index) >> bit & 1 == 1);
-        Blocks::of(held.map(|(_, block)| block))
+        tasks::Blocks::of(held.map(|(_, block)| block))
     }
 
     fn outcome(&self, record: usize, slot: &[u8; 16]) -> OutcomeItem {
         match self.at(record) {
             1 => OutcomeItem::Begin,
             2 => OutcomeItem::Message(self.letter(record + 1)),
-            3 => OutcomeItem::Entry(slot[..usize::from(self.at(record + 1))].to_vec()),
+            3 => OutcomeItem::Entry(slot[..usize::from(self.at(record + 1)).min(16)].to_vec()),
             4 => OutcomeItem::Refused(self.at(record + 1)),
             5 => OutcomeItem::Semaphore(self.at(record + 1)),
             _ => OutcomeItem::Plain,
@@ -185,16 +224,17 @@ impl<'lent> Reader<'lent> {
 
     fn request(&self, record: usize, waiting: usize) -> RequestItem {
         let named = self.at(record + 1);
+        let is_queue = (1..=self.configuration.queue_count()).contains(&named);
         match self.at(record) {
             1 => RequestItem::Receive(named),
-            2 => RequestItem::Dequeue(named),
-            3 => RequestItem::Enqueue(named, self.bytes(waiting, self.configuration.width(named))),
+            2 if is_queue => RequestItem::Dequeue(named),
+            3 if is_queue => RequestItem::Enqueue(named, self.bytes(waiting, self.configuration.width(named))),
             _ => RequestItem::None,
         }
     }
 
     fn semaphore(&self, index: usize) -> Semaphore {
-        match self.at(self.semaphores + index) {
+        match self.at(self.regions.semaphores + index) {
             0 => Semaphore::Pending,
             task if task <= self.configuration.tasks => Semaphore::Waiting(task),
             _ => Semaphore::Done,
@@ -203,22 +243,23 @@ impl<'lent> Reader<'lent> {
 
     fn mailboxes(&self, tasks: usize) -> Vec<Vec<Letter>> {
         let mut mailboxes = vec![Vec::new(); tasks];
-        for index in 0..usize::from(self.at(1)) {
-            let record = self.messages + 4 * index;
+        for index in 0..usize::from(self.at(1).min(self.configuration.messages)) {
+            let record = self.regions.messages + 4 * index;
             mailboxes[usize::from(self.at(record)) - 1].push(self.letter(record + 1));
         }
         mailboxes
     }
 
     fn queues(&self) -> Vec<Vec<Vec<u8>>> {
-        let mut places = self.entries;
+        let mut places = self.regions.entries;
         let mut queues = Vec::new();
         for (index, size) in self.configuration.queues.iter().enumerate() {
             let (width, depth) = (usize::from(size.width), usize::from(size.depth));
-            let ring = self.rings + 2 * index;
-            let oldest = usize::from(self.at(ring));
+            let ring = self.regions.rings + 2 * index;
+            let oldest = if self.at(ring) < size.depth { usize::from(self.at(ring)) } else { 0 };
+            let held = usize::from(self.at(ring + 1).min(size.depth));
             let entry = |turn: usize| self.bytes(places + (oldest + turn) % depth * width, width);
-            queues.push((0..usize::from(self.at(ring + 1))).map(entry).collect());
+            queues.push((0..held).map(entry).collect());
             places += width * depth;
         }
         queues

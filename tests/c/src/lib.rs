@@ -1,7 +1,11 @@
 //! The exported C functions, wrapped. A result from 0 up is what was computed; a negative one is a number of the paper with a
 //! minus sign.
 
+pub mod damage;
+pub mod fence;
 pub mod lent;
+pub mod rules;
+pub mod strange;
 
 use plain_executive::numbers::Number;
 

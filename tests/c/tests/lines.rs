@@ -1,26 +1,45 @@
 //! The line reader and the line writer through the C functions, against the other implementation: the result, and every byte of
 //! the lent buffer.
 
+use std::cell::RefCell;
+
+use c::fence::{Fence, Side};
 use c::{read_line, write_line};
 use plain_executive::line::{read_into, write, write_into, MOST_BYTES, MOST_DIGITS};
 use plain_executive::numbers::{Number, LINE, MEMORY};
 use plain_executive::random::Random;
 
-/// Bytes around the lent part of a buffer, which nobody may touch.
-const GUARD: usize = 8;
-
 type Call = fn(&[u8], &mut [u8]) -> Result<usize, Number>;
+
+thread_local! {
+    /// For what is read and for what is written.
+    static FENCES: RefCell<[Fence; 2]> = RefCell::new([Fence::new(4096), Fence::new(4096)]);
+}
+
+/// The verified function, between closed pages.
+fn fenced(verified: Call, source: &[u8], target: &mut [u8], side: Side) -> Result<usize, Number> {
+    FENCES.with_borrow_mut(|[from, to]| {
+        let result = verified(from.fill(source, side), to.fill(target, side));
+        let mut kept = source.to_vec();
+        from.empty(&mut kept, side);
+        assert_eq!(kept, source, "what is read was written");
+        to.empty(target, side);
+        result
+    })
+}
 
 /// Calls both with buffers of `room` bytes that hold the same old bytes, and gives the result.
 fn same(verified: Call, plain: Call, source: &[u8], room: usize) -> Result<usize, Number> {
-    let old = Random::new(room as u64).bytes(room + 2 * GUARD);
-    let (mut here, mut there) = (old.clone(), old.clone());
-    let result = verified(source, &mut here[GUARD..GUARD + room]);
-    assert_eq!(result, plain(source, &mut there[GUARD..GUARD + room]), "{source:?} with room {room}");
-    assert_eq!(here, there, "{source:?} with room {room}");
-    let written = result.unwrap_or(0);
-    assert_eq!(here[GUARD + written..], old[GUARD + written..], "the bytes behind the result stay");
-    assert_eq!(here[..GUARD], old[..GUARD]);
+    let old = Random::new(room as u64).bytes(room);
+    let mut there = old.clone();
+    let result = plain(source, &mut there);
+    for side in [Side::Front, Side::Back] {
+        let mut here = old.clone();
+        assert_eq!(fenced(verified, source, &mut here, side), result, "{source:?} with room {room}");
+        assert_eq!(here, there, "{source:?} with room {room}");
+        let written = result.unwrap_or(0);
+        assert_eq!(here[written..], old[written..], "the bytes behind the result stay");
+    }
     result
 }
 

@@ -1,0 +1,239 @@
+//! Damage of the lent memory, and what is to be seen of every call that meets it.
+
+use std::collections::BTreeMap;
+
+use plain_executive::command::*;
+use plain_executive::configuration::Configuration;
+use plain_executive::executive::Executive;
+use plain_executive::numbers::{Number, MEMORY};
+use plain_executive::random::Random;
+
+use crate::lent::{Lent, Regions, SIZES};
+use crate::rules::{self, Rule};
+use crate::strange::strange;
+
+type Frame = Vec<u8>;
+
+/// How often each was met.
+#[derive(Default)]
+pub struct Counts {
+    pub calls: u64,
+    pub broken: BTreeMap<Rule, u64>,
+    pub accepted: BTreeMap<u8, u64>,
+    pub refused: BTreeMap<Number, u64>,
+    pub reissues: u64,
+    /// Of accepted frames.
+    pub strange: BTreeMap<&'static str, u64>,
+}
+
+/// Feeds frames to damaged memory by a given call, and watches each.
+pub struct Watch<Call> {
+    pub call: Call,
+    pub counts: Counts,
+}
+
+impl<Call: FnMut(&mut Lent, &[u8]) -> Number> Watch<Call> {
+    pub fn new(call: Call) -> Self {
+        Watch { call, counts: Counts::default() }
+    }
+
+    /// Number 11 and nothing written where a rule is broken. Else the memory means a state, and each frame does to it what it
+    /// does to the other implementation in that state.
+    pub fn feed(&mut self, mut memory: Lent, frames: &[Frame], told: &dyn Fn() -> String) {
+        if let Some(rule) = rules::broken(&memory) {
+            let before = memory.clone();
+            assert_eq!(self.frame(&mut memory, &frames[0]), MEMORY, "{rule:?}, {:02X?}; {}", frames[0], told());
+            assert!(memory == before, "a byte was written with 11; {}", told());
+            *self.counts.broken.entry(rule).or_default() += 1;
+            return;
+        }
+        let configuration = rules::configuration(&memory.config).expect("rule 1");
+        let items = memory.items(&configuration);
+        let mut other = Executive::restored(configuration, &items);
+        for (index, frame) in frames.iter().enumerate() {
+            let told = || format!("frame {index} of {frames:02X?}; {}", told());
+            self.compare(&mut memory, &mut other, frame, &told);
+        }
+    }
+
+    fn compare(&mut self, memory: &mut Lent, other: &mut Executive, frame: &[u8], told: &dyn Fn() -> String) {
+        let before = memory.clone();
+        let found = strange(&before, other.configuration());
+        let answer = other.frame(frame);
+        let number = self.frame(memory, frame);
+        assert_eq!(number, answer.refusal(), "the number; {}", told());
+        assert_eq!(memory.answered(), answer.bytes(), "the answer; {}", told());
+        assert_eq!(memory.items(other.configuration()), other.items(), "the items; {}", told());
+        assert_eq!(memory.config, before.config, "the configuration was written; {}", told());
+        for ((after, before), size) in memory.blocks().iter().zip(before.blocks()).zip(SIZES) {
+            assert_eq!(after[size..], before[size..], "behind the size of a block; {}", told());
+        }
+        if number != 0 {
+            *self.counts.refused.entry(number).or_default() += 1;
+            let kept = Lent { answer: memory.answer.clone(), ..before };
+            assert!(*memory == kept, "a refused frame wrote; {}", told());
+        } else {
+            *self.counts.accepted.entry(frame[0]).or_default() += 1;
+            self.counts.reissues += u64::from(answer.reissues());
+            found.into_iter().for_each(|name| *self.counts.strange.entry(name).or_default() += 1);
+        }
+    }
+
+    fn frame(&mut self, memory: &mut Lent, frame: &[u8]) -> Number {
+        self.counts.calls += 1;
+        (self.call)(memory, frame)
+    }
+}
+
+/// The bytes of each block that a configuration needs.
+pub fn needed(configuration: &Configuration) -> [usize; 5] {
+    let (tasks, queues) = (usize::from(configuration.tasks), configuration.queues.len());
+    let timers = 1 + 10 * usize::from(configuration.timers);
+    [8 + tasks + 2 * queues, Regions::of(configuration).end, 16 * tasks, timers, SIZES[4]]
+}
+
+/// Damages memory that frames left: a bit, some bytes, a field, a whole block, a length. `another` is memory of another session.
+pub fn damage(random: &mut Random, memory: &mut Lent, configuration: &Configuration, another: &Lent) {
+    match random.below(20) {
+        0..=3 => bit(random, memory, configuration),
+        4..=6 => bytes(random, memory, configuration),
+        7..=15 => {
+            for _ in 0..1 + random.below(3) {
+                field(random, memory, configuration);
+            }
+        }
+        16 => length(random, memory),
+        17 => block(random, memory),
+        18 => tables_alone(random, memory),
+        _ => exchanged(random, memory, another),
+    }
+}
+
+fn bit(random: &mut Random, memory: &mut Lent, configuration: &Configuration) {
+    let block = random.below(4);
+    let place = random.below(needed(configuration)[block]);
+    memory.blocks_mut()[block][place] ^= 1 << random.below(8);
+}
+
+fn bytes(random: &mut Random, memory: &mut Lent, configuration: &Configuration) {
+    for _ in 0..1 + random.below(8) {
+        let block = random.pick(&[0, 1, 1, 1, 2, 3]);
+        let place = random.below(needed(configuration)[block]);
+        memory.blocks_mut()[block][place] = random.byte();
+    }
+}
+
+/// One field of one record, with a value about which something is said.
+fn field(random: &mut Random, memory: &mut Lent, configuration: &Configuration) {
+    let regions = Regions::of(configuration);
+    let (tasks, queues) = (usize::from(configuration.tasks), configuration.queues.len());
+    let value = a_value(random, configuration);
+    let task = random.below(tasks);
+    let lying = usize::from(memory.tables[1].min(configuration.messages)).max(1);
+    let place = match random.below(14) {
+        0 => return memory.config[random.below(8)] = value,
+        1 if queues > 0 => return memory.config[8 + tasks + random.below(2 * queues)] = value,
+        2 | 3 => return timer_field(random, memory, configuration),
+        4 => 0,
+        5 if configuration.messages > 0 => 1,
+        6 if configuration.messages > 0 => regions.messages + 4 * random.below(lying) + random.below(4),
+        7 if queues > 0 => regions.rings + random.below(2 * queues),
+        8 | 9 => 2 + task,
+        10 => regions.records + 6 * task,
+        11 => regions.records + 6 * task + 1 + random.below(3),
+        12 => return open_a_request(random, memory, regions.records + 6 * task + 4, value),
+        _ => regions.semaphores + random.below(regions.waiting - regions.semaphores),
+    };
+    memory.tables[place] = value;
+}
+
+fn a_value(random: &mut Random, configuration: &Configuration) -> u8 {
+    let Configuration { tasks, timers, messages, ticks_per_tock, .. } = *configuration;
+    let queues = configuration.queue_count();
+    let near = random.pick(&[tasks, timers, messages, ticks_per_tock, queues, configuration.semaphores(), 16, 255]);
+    match random.below(6) {
+        0 => random.byte(),
+        1 => near,
+        2 => near.wrapping_add(1),
+        3 => random.between(0, tasks),
+        _ => random.between(0, 6),
+    }
+}
+
+fn open_a_request(random: &mut Random, memory: &mut Lent, place: usize, value: u8) {
+    memory.tables[place] = random.between(0, 4);
+    memory.tables[place + 1] = value;
+}
+
+fn timer_field(random: &mut Random, memory: &mut Lent, configuration: &Configuration) {
+    if configuration.timers == 0 || random.percent(25) {
+        memory.timers[0] = random.pick(&[configuration.timers, configuration.timers + 1, 255, 1, 0]);
+        return;
+    }
+    let record = 1 + 10 * random.below(configuration.timers.into());
+    let four = random.pick(&[0, 0, 1, 1, 2, 32_768, u32::MAX]).to_be_bytes();
+    match random.below(4) {
+        0 => memory.timers[record] = a_value(random, configuration),
+        1 => memory.timers[record + 1] = a_value(random, configuration),
+        2 => memory.timers[record + 2..record + 6].copy_from_slice(&four),
+        _ => memory.timers[record + 6..record + 10].copy_from_slice(&four),
+    }
+}
+
+fn length(random: &mut Random, memory: &mut Lent) {
+    let block = random.below(5);
+    let size = SIZES[block];
+    let length = random.pick(&[0, 1, size / 2, size - 2, size - 1, size, size + 1, size + 2]);
+    memory.blocks_mut()[block].resize(length, 0xA5);
+}
+
+fn block(random: &mut Random, memory: &mut Lent) {
+    let block = random.below(4);
+    let value = random.pick(&[None, Some(0), Some(1), Some(255)]);
+    memory.blocks_mut()[block].iter_mut().for_each(|byte| *byte = value.unwrap_or_else(|| random.byte()));
+}
+
+/// Any tables, timers and slots at all, but no message lies.
+fn tables_alone(random: &mut Random, memory: &mut Lent) {
+    for block in [1, 2, 3] {
+        memory.blocks_mut()[block].iter_mut().for_each(|byte| *byte = random.byte());
+    }
+    memory.tables[1] = 0;
+}
+
+fn exchanged(random: &mut Random, memory: &mut Lent, another: &Lent) {
+    let block = random.below(4);
+    let bytes = another.blocks()[block];
+    memory.blocks_mut()[block][..SIZES[block]].copy_from_slice(&bytes[..SIZES[block]]);
+}
+
+/// Frames for damaged memory: those that would have come next, ticks, and services that its configuration gives a meaning.
+pub fn frames(random: &mut Random, memory: &Lent, next: &[Frame]) -> Vec<Frame> {
+    let configuration = rules::configuration(&memory.config);
+    let mut next = next.iter();
+    let count = 1 + random.below(4);
+    let mut one = || match (&configuration, random.below(10)) {
+        (Some(configuration), 0..=4) => service(random, configuration),
+        (_, 5 | 6) => vec![TICK, 0, 0, 0, 0],
+        _ => next.next().cloned().unwrap_or_else(|| random.bytes(5)),
+    };
+    (0..count).map(|_| one()).collect()
+}
+
+fn service(random: &mut Random, configuration: &Configuration) -> Frame {
+    let code = random.between(WAIT, INTERRUPT_EXIT);
+    let queue = random.between(1, configuration.queue_count().max(1));
+    let a = if matches!(code, DEQUEUE | ENQUEUE) { queue } else { random.between(0, configuration.tasks) };
+    let b = random.between(0, configuration.nameable_semaphores());
+    let high = if matches!(code, DELAY | TIMER) { random.pick(&[0, 0, 255]) } else { 0 };
+    let low = match code {
+        SEND | SENDW => random.between(0, configuration.messages),
+        _ => random.pick(&[0, 1, 2, 255]),
+    };
+    let mut frame = vec![code, a, b, high, low];
+    if code == ENQUEUE {
+        let width = configuration.queues.get(usize::from(queue) - 1).map_or(1, |size| size.width);
+        frame.extend(random.bytes(width.into()));
+    }
+    frame
+}

@@ -1,0 +1,63 @@
+//! The rules of number 11, from docs/MEMORY.md.
+
+use plain_executive::configuration::{Configuration, QueueSize};
+
+use crate::lent::{Lent, Regions, SIZES};
+
+#[derive(Clone, Copy, Debug, PartialEq, Eq, PartialOrd, Ord)]
+pub enum Rule {
+    Sizes,
+    Configuration,
+    Messages,
+}
+
+/// The first rule that a frame finds broken.
+pub fn broken(lent: &Lent) -> Option<Rule> {
+    if lent.blocks().iter().zip(SIZES).any(|(block, size)| block.len() < size) {
+        return Some(Rule::Sizes);
+    }
+    let Some(configuration) = configuration(&lent.config) else {
+        return Some(Rule::Configuration);
+    };
+    (!good_messages(&lent.tables, &configuration)).then_some(Rule::Messages)
+}
+
+/// What the block says, if it keeps rule 1. The initial states are not read.
+pub fn configuration(config: &[u8]) -> Option<Configuration> {
+    let [tasks, named, queues, timers, messages, ticks, high, low] = *config.first_chunk()?;
+    let milliseconds = u16::from_be_bytes([high, low]);
+    let semaphores = u32::from(named) + u32::from(tasks) + 2 * u32::from(queues);
+    let good = (1..=126).contains(&tasks)
+        && queues <= 32
+        && timers <= 64
+        && messages <= 64
+        && ticks >= 1
+        && milliseconds >= 1
+        && semaphores <= 255;
+    if !good {
+        return None;
+    }
+    let sizes = config.get(8 + usize::from(tasks)..)?.get(..2 * usize::from(queues))?;
+    let sizes: Vec<QueueSize> = sizes.chunks(2).map(|size| QueueSize { width: size[0], depth: size[1] }).collect();
+    let possible = |size: &QueueSize| (1..=16).contains(&size.width) && size.depth >= 1;
+    let bytes: u32 = sizes.iter().map(|size| u32::from(size.width) * u32::from(size.depth)).sum();
+    (sizes.iter().all(possible) && bytes <= 4096).then(|| Configuration {
+        tasks,
+        named_semaphores: named,
+        timers,
+        messages,
+        ticks_per_tock: ticks,
+        milliseconds_per_tock: milliseconds,
+        starts_idle: vec![false; tasks.into()],
+        queues: sizes,
+    })
+}
+
+fn good_messages(tables: &[u8], configuration: &Configuration) -> bool {
+    let lying = usize::from(tables[1].min(configuration.messages));
+    let records = &tables[Regions::of(configuration).messages..][..4 * lying];
+    let numbers: Vec<u8> = records.chunks(4).map(|record| record[1]).collect();
+    records.chunks(4).all(|record| (1..=configuration.tasks).contains(&record[0]))
+        && numbers.iter().all(|number| (1..=configuration.messages).contains(number))
+        && numbers.iter().enumerate().all(|(place, number)| !numbers[..place].contains(number))
+}

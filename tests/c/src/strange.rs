@@ -1,0 +1,95 @@
+//! What a memory holds that no session leaves: bytes that the program never writes, by docs/MEMORY.md, and states that it
+//! never reaches.
+
+use std::slice::ChunksExact;
+
+use plain_executive::configuration::{Configuration, QueueSize};
+use plain_executive::items::{Items, RequestItem};
+use plain_executive::semaphore::Semaphore;
+use plain_executive::tasks::Block;
+
+use crate::lent::{Lent, Regions};
+
+type Situation = (&'static str, fn(&Seen) -> bool);
+
+pub const STRANGE: [Situation; 23] = [
+    ("ticks left: 0", |seen| seen.lent.tables[0] == 0),
+    ("ticks left: above K", |seen| seen.lent.tables[0] > seen.configuration.ticks_per_tock),
+    ("messages: above G", |seen| seen.lent.tables[1] > seen.configuration.messages),
+    ("blocks: bits 4 to 7", |seen| seen.lent.tables[2..seen.regions.records].iter().any(|blocks| *blocks > 15)),
+    ("outcome: above 5", |seen| seen.records().any(|record| record[0] > 5)),
+    ("outcome: an entry above 16", |seen| seen.records().any(|record| record[0] == 3 && record[1] > 16)),
+    ("request: above 3", |seen| seen.records().any(|record| record[4] > 3)),
+    ("request: a queue that there is not", |seen| seen.records().any(|record| seen.names_no_queue(record))),
+    ("semaphore: above T", |seen| {
+        let mut semaphores = seen.lent.tables[seen.regions.semaphores..seen.regions.waiting].iter();
+        semaphores.any(|byte| (seen.configuration.tasks + 1..255).contains(byte))
+    }),
+    ("ring: a place from the depth on", |seen| seen.rings().any(|(ring, size)| ring[0] >= size.depth)),
+    ("ring: a number above the depth", |seen| seen.rings().any(|(ring, size)| ring[1] > size.depth)),
+    ("timers: above R", |seen| seen.lent.timers[0] > seen.configuration.timers),
+    ("timer: 0 tocks left", |seen| seen.items.timers.iter().any(|timer| timer.tocks_left == 0)),
+    ("timer: above 32,768 tocks left", |seen| seen.items.timers.iter().any(|timer| timer.tocks_left > 32_768)),
+    ("timer: a semaphore that there is not", |seen| {
+        let numbers = 1..=seen.configuration.semaphores();
+        seen.items.timers.iter().any(|timer| !numbers.contains(&timer.semaphore))
+    }),
+    ("timer: a task that there is not", |seen| seen.items.timers.iter().any(|timer| !seen.is_task(timer.task))),
+    ("timers: not by tocks left", |seen| !seen.items.timers.is_sorted_by_key(|timer| timer.tocks_left)),
+    ("mailbox: not by senders", |seen| {
+        seen.items.mailboxes.iter().any(|mailbox| !mailbox.is_sorted_by_key(|letter| letter.sender))
+    }),
+    ("task: WAITING at two semaphores", |seen| seen.waits().any(|(at, _)| at > 1)),
+    ("task: WAITING at one without event wait", |seen| seen.waits().any(|(at, event_wait)| at > 0 && !event_wait)),
+    ("task: event wait without one", |seen| seen.waits().any(|(at, event_wait)| at == 0 && event_wait)),
+    ("queue: a semaphore that is DONE", |seen| {
+        let named = usize::from(seen.configuration.nameable_semaphores());
+        seen.items.semaphores[named..].contains(&Semaphore::Done)
+    }),
+    ("running task: an open request", |seen| {
+        let running = seen.items.tasks.iter().find(|task| task.blocks.is_empty());
+        running.is_some_and(|task| task.request != RequestItem::None)
+    }),
+];
+
+/// Their names, of memory that keeps the rules of number 11.
+pub fn strange(lent: &Lent, configuration: &Configuration) -> Vec<&'static str> {
+    let seen = Seen { lent, configuration, regions: Regions::of(configuration), items: lent.items(configuration) };
+    STRANGE.iter().filter(|(_, is_so)| is_so(&seen)).map(|(name, _)| *name).collect()
+}
+
+pub struct Seen<'a> {
+    lent: &'a Lent,
+    configuration: &'a Configuration,
+    regions: Regions,
+    items: Items,
+}
+
+impl Seen<'_> {
+    fn records(&self) -> ChunksExact<'_, u8> {
+        self.lent.tables[self.regions.records..self.regions.semaphores].chunks_exact(6)
+    }
+
+    fn names_no_queue(&self, record: &[u8]) -> bool {
+        (2..=3).contains(&record[4]) && !(1..=self.configuration.queue_count()).contains(&record[5])
+    }
+
+    fn rings(&self) -> impl Iterator<Item = (&[u8], &QueueSize)> {
+        self.lent.tables[self.regions.rings..].chunks_exact(2).zip(&self.configuration.queues)
+    }
+
+    fn is_task(&self, task: u8) -> bool {
+        (1..=self.configuration.tasks).contains(&task)
+    }
+
+    /// Of each task how many semaphores are WAITING with it, and whether it has event wait.
+    fn waits(&self) -> impl Iterator<Item = (usize, bool)> + '_ {
+        let mut waiting = vec![0; self.items.tasks.len()];
+        for state in &self.items.semaphores {
+            if let Semaphore::Waiting(task) = state {
+                waiting[usize::from(*task) - 1] += 1;
+            }
+        }
+        waiting.into_iter().zip(self.items.tasks.iter().map(|task| task.blocks.has(Block::EventWait)))
+    }
+}

@@ -1,0 +1,235 @@
+//! Damaged memory through the C functions, between closed pages: each call returns, number 11 comes exactly where a rule of
+//! docs/MEMORY.md is broken, and then nothing is written; every other memory means a state, and the frame does to it what it
+//! does to the other implementation in that state.
+
+use std::process::Command;
+
+use c::damage::{damage, frames, needed, Counts, Watch};
+use c::fence::{now, Fences, Side};
+use c::lent::{Blocks, Lent, SIZES};
+use c::rules::{self, Rule};
+use c::strange::STRANGE;
+use plain_executive::executive::Executive;
+use plain_executive::generator::{Generator, Script};
+use plain_executive::numbers::{Number, MEMORY};
+use plain_executive::random::Random;
+
+type Frame = Vec<u8>;
+
+/// Calls between closed pages, now before and now behind each block.
+fn fenced() -> Watch<impl FnMut(&mut Lent, &[u8]) -> Number> {
+    let mut fences = Fences::new();
+    let mut turn = 0_u32;
+    Watch::new(move |memory: &mut Lent, frame: &[u8]| {
+        turn += 1;
+        fences.feed(memory, frame, if turn % 2 == 0 { Side::Front } else { Side::Back })
+    })
+}
+
+/// Memory after a configuration and some frames, over bytes that were there before.
+fn after(script: &Script, count: usize, random: &mut Random) -> Lent {
+    let mut memory = Lent::new(SIZES, || random.byte());
+    assert_eq!(memory.configure(&script.configuration), 0);
+    for frame in &script.frames[..count] {
+        memory.frame(frame);
+    }
+    memory
+}
+
+/// The session and the bytes that were changed behind it.
+fn told(script: &Script, count: usize, before: &Lent, damaged: &Lent) -> String {
+    let session = Script { frames: script.frames[..count].to_vec(), ..script.clone() };
+    let mut text = format!("the session:\n{}", String::from_utf8_lossy(&session.lines()));
+    let names = ["config", "tables", "slots", "timers", "answer"];
+    for ((name, old), new) in names.into_iter().zip(before.blocks()).zip(damaged.blocks()) {
+        if old.len() != new.len() {
+            text += &format!("then {name} with {} bytes\n", new.len());
+        }
+        let changed = old.iter().zip(new).enumerate().filter(|(_, (old, new))| old != new);
+        for (place, (old, new)) in changed.take(40) {
+            text += &format!("then {name}[{place}] from {old:02X} to {new:02X}\n");
+        }
+    }
+    text
+}
+
+#[test]
+fn any_damage() {
+    let mut random = Random::new(21);
+    let mut watch = fenced();
+    for seed in 0..1200_u64 {
+        let tasks = [1, 2, 3, 5, 9, 20, 4, 6, 2, 126][seed as usize % 10];
+        let script = Generator::new(seed).script(tasks..=tasks, 60);
+        let another = Generator::new(!seed).script(1..=9, 40);
+        let another = after(&another, 40, &mut random);
+        for count in [0, 25, 50] {
+            let memory = after(&script, count, &mut random);
+            let configuration = rules::configuration(&memory.config).expect("accepted");
+            for turn in 0..24 {
+                let mut damaged = memory.clone();
+                damage(&mut random, &mut damaged, &configuration, &another);
+                let frames = frames(&mut random, &damaged, &script.frames[count..]);
+                now([seed, count as u64, turn]);
+                let told = || format!("seed {seed}, {}", told(&script, count, &memory, &damaged));
+                watch.feed(damaged.clone(), &frames, &told);
+            }
+        }
+    }
+    all_met(&watch.counts);
+    assert!(watch.counts.calls > 150_000, "{} calls", watch.counts.calls);
+}
+
+/// Each rule was broken, each service accepted, each number given, and each strange memory met by an accepted frame.
+fn all_met(counts: &Counts) {
+    let Counts { broken, accepted, refused, strange, reissues, .. } = counts;
+    let all = format!("{broken:?}, accepted {accepted:?}, refused {refused:?}, {reissues} reissues, {strange:#?}");
+    println!("{} calls: {all}", counts.calls);
+    for rule in [Rule::Sizes, Rule::Configuration, Rule::Messages] {
+        assert!(broken.get(&rule) > Some(&500), "{rule:?}: {all}");
+    }
+    for code in 0x01..=0x11 {
+        assert!(accepted.get(&code) > Some(&200), "code {code:02X}: {all}");
+    }
+    for number in [2, 4, 5, 6, 7, 8, 9, 20, 21, 22, 23, 24, 25] {
+        assert!(refused.get(&number) > Some(&50), "number {number}: {all}");
+    }
+    for (name, _) in STRANGE {
+        assert!(strange.get(name) > Some(&50), "{name}: {all}");
+    }
+    assert!(*reissues > 1000, "{all}");
+}
+
+/// A memory that needs few bytes: each of them with each value.
+#[test]
+fn every_value_of_every_byte_of_a_small_memory() {
+    let mut random = Random::new(22);
+    let mut watch = fenced();
+    let scripts = (0..200).map(|seed| Generator::new(seed).script(3..=3, 40));
+    let small = |script: &Script| {
+        let configuration = rules::configuration(&after(script, 0, &mut Random::new(0)).config).expect("accepted");
+        let all: usize = needed(&configuration)[..4].iter().sum();
+        all < 260 && configuration.queue_count() > 0 && configuration.timers > 0 && configuration.messages > 1
+    };
+    for script in scripts.filter(small).take(3) {
+        let memory = after(&script, 40, &mut random);
+        let needed = needed(&rules::configuration(&memory.config).expect("accepted"));
+        for block in 0..4 {
+            for (place, value) in (0..needed[block]).flat_map(|place| (0..=u8::MAX).map(move |value| (place, value))) {
+                let mut damaged = memory.clone();
+                damaged.blocks_mut()[block][place] = value;
+                now([block as u64, place as u64, value.into()]);
+                let frames = &frames(&mut random, &damaged, &script.frames[20..])[..1];
+                watch.feed(damaged.clone(), frames, &|| told(&script, 40, &memory, &damaged));
+            }
+        }
+    }
+    assert!(watch.counts.calls > 100_000, "{} calls", watch.counts.calls);
+}
+
+/// T 126, S 65, Q 32, R 64 and G 64 need every byte: each bit of each.
+#[test]
+fn every_bit_of_the_largest_memory() {
+    let mut random = Random::new(23);
+    let mut watch = fenced();
+    let mut configuration = vec![126, 65, 32, 64, 64, 2, 0, 125];
+    configuration.extend([0; 126]);
+    configuration.extend([16, 8].repeat(32));
+    let script = Generator::new(23).script_of(configuration, 400);
+    let memory = after(&script, 300, &mut random);
+    for (block, size) in SIZES.into_iter().enumerate() {
+        for (place, bit) in (0..size).flat_map(|place| (0..8).map(move |bit| (place, bit))) {
+            let mut damaged = memory.clone();
+            damaged.blocks_mut()[block][place] ^= 1 << bit;
+            now([block as u64, place as u64, bit]);
+            let frames = &frames(&mut random, &damaged, &script.frames[300..])[..1];
+            watch.feed(damaged.clone(), frames, &|| told(&script, 300, &memory, &damaged));
+        }
+    }
+    assert_eq!(watch.counts.calls, 8 * SIZES.iter().sum::<usize>() as u64);
+}
+
+/// Every length of every block, from none to some bytes more than its size, for frames and for configurations.
+#[test]
+fn every_length_of_every_block() {
+    let mut random = Random::new(24);
+    let mut fences = Fences::new();
+    let script = Generator::new(24).script(4..=4, 40);
+    let memory = after(&script, 30, &mut random);
+    let tick: Frame = vec![0x10, 0, 0, 0, 0];
+    for (block, size) in SIZES.into_iter().enumerate() {
+        for length in 0..size + 4 {
+            let mut cut = memory.clone();
+            cut.blocks_mut()[block].resize(length, 0x5A);
+            now([block as u64, length as u64, 0]);
+            for side in [Side::Front, Side::Back] {
+                let (mut fed, mut configured) = (cut.clone(), cut.clone());
+                let fed_number = fences.feed(&mut fed, &tick, side);
+                let configured_number = fences.configure(&mut configured, &script.configuration, side);
+                if length < size {
+                    assert_eq!((fed_number, configured_number), (MEMORY, MEMORY), "block {block} of {length}");
+                    assert!(fed == cut && configured == cut, "block {block} of {length} was written with 11");
+                } else {
+                    assert_eq!((fed_number, configured_number), (0, 0), "block {block} of {length}");
+                    assert_eq!(configured.blocks()[block][size..], cut.blocks()[block][size..], "block {block}");
+                }
+            }
+        }
+    }
+}
+
+/// Configurations over any memory: only the lengths count, and nothing of what was there before is left.
+#[test]
+fn configurations_over_damaged_memory() {
+    let mut random = Random::new(25);
+    let mut fences = Fences::new();
+    for seed in 0..3000 {
+        let script = Generator::new(seed).script(1..=126, 0);
+        let mut memory = Lent::new(SIZES.map(|size| size + random.below(3)), || random.byte());
+        now([seed, 0, 0]);
+        assert_eq!(fences.configure(&mut memory, &script.configuration, Side::Back), 0, "seed {seed}");
+        assert_eq!(memory.config[..script.configuration.len()], script.configuration, "seed {seed}");
+        let fresh = Executive::configure(&script.configuration).expect("accepted");
+        assert_eq!(memory.items(fresh.configuration()), fresh.items(), "seed {seed}");
+        assert_eq!(memory.answered(), fresh.answer(0, 0).bytes(), "seed {seed}");
+    }
+}
+
+/// Writes the byte behind the slots.
+fn written_behind(_: &[u8], blocks: Blocks) -> Number {
+    let slots = &mut *blocks[2];
+    unsafe { slots.as_mut_ptr().add(slots.len()).write_volatile(1) };
+    0
+}
+
+#[test]
+#[should_panic = "a byte beside a lent part was written"]
+fn a_write_beside_a_block_is_noticed() {
+    let mut memory = Lent::new(SIZES, || 0);
+    Fences::new().call(written_behind, &mut memory, &[], Side::Front);
+}
+
+/// The closed pages are closed: a child that reads one byte too far dies of it.
+#[test]
+fn a_read_outside_a_block_is_noticed() {
+    for name in ["reads_before_a_block", "reads_behind_a_block"] {
+        let this = std::env::current_exe().expect("a name");
+        let child = Command::new(this).args(["--exact", name, "--ignored"]).output().expect("a child");
+        assert!(!child.status.success(), "{name}");
+        let said = String::from_utf8_lossy(&child.stderr).into_owned();
+        assert!(said.contains("a call left its memory: case 00000001 00000002 0000BEEF"), "{name}: {said}");
+    }
+}
+
+#[test]
+#[ignore = "dies; run by a_read_outside_a_block_is_noticed"]
+fn reads_before_a_block() {
+    now([1, 2, 0xBEEF]);
+    Fences::new().read_outside(Side::Front);
+}
+
+#[test]
+#[ignore = "dies; run by a_read_outside_a_block_is_noticed"]
+fn reads_behind_a_block() {
+    now([1, 2, 0xBEEF]);
+    Fences::new().read_outside(Side::Back);
+}
