@@ -92,7 +92,7 @@ pub fn needed(configuration: &Configuration) -> [usize; 5] {
     [8 + tasks + 2 * queues, Regions::of(configuration).end, 16 * tasks, timers, SIZES[4]]
 }
 
-/// Damages memory that frames left: a bit, some bytes, a field, a whole block, a length. `another` is memory of another session.
+/// Damages memory that frames left: a bit, some bytes, a field, a whole block, a length. `another` is another session's.
 pub fn damage(random: &mut Random, memory: &mut Lent, configuration: &Configuration, another: &Lent) {
     match random.below(20) {
         0..=3 => bit(random, memory, configuration),

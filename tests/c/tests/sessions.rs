@@ -1,59 +1,47 @@
 //! Random sessions through the C functions, against the other implementation: every answer, every number, and after every
-//! frame every item of the lent memory.
+//! frame every item of the lent memory. Other seeds, by the variable SEED, give other sessions.
 
-use c::lent::{Lent, SIZES};
+use c::compare::{compare, difference, shortened, Feed};
+use c::lent::{Lent, Regions, SIZES};
+use plain_executive::configuration::Configuration;
+use plain_executive::coverage::Coverage;
 use plain_executive::executive::Executive;
-use plain_executive::generator::{Generator, Script};
+use plain_executive::generator::{cascade, Generator, Script};
 use plain_executive::numbers::{Number, MEMORY};
 use plain_executive::random::Random;
+use plain_executive::session;
 
 const TASKS: [u8; 5] = [1, 2, 5, 20, 126];
 
-/// Memory of full size, and some bytes more, that held something before.
-fn lent(random: &mut Random) -> Lent {
-    let more = random.below(3);
-    Lent::new(SIZES.map(|size| size + more), || random.byte())
+fn first_seed() -> u64 {
+    let given = std::env::var("SEED").ok();
+    given.map_or(0, |seed| seed.parse().expect("SEED is a number")) << 32
 }
 
-fn compare(script: &Script, random: &mut Random, name: &str) {
-    let replay = |index: usize| {
-        let upto = Script { frames: script.frames[..index].to_vec(), ..script.clone() };
-        format!("{name}, frame {index}; the session:\n{}", String::from_utf8_lossy(&upto.lines()))
-    };
-    let mut memory = lent(random);
-    let mut other = Executive::configure(&script.configuration).expect("accepted");
-    assert_eq!(memory.configure(&script.configuration), 0, "{}", replay(0));
-    assert_eq!(memory.answered(), other.answer(0, 0).bytes(), "{}", replay(0));
-    assert_eq!(memory.items(other.configuration()), other.items(), "{}", replay(0));
-    for (index, frame) in script.frames.iter().enumerate() {
-        let before = memory.clone();
-        let answer = other.frame(frame);
-        assert_eq!(memory.frame(frame), answer.refusal(), "{}", replay(index + 1));
-        assert_eq!(memory.answered(), answer.bytes(), "{}", replay(index + 1));
-        assert_eq!(memory.items(other.configuration()), other.items(), "{}", replay(index + 1));
-        if answer.refusal() != 0 {
-            let kept = Lent { answer: memory.answer.clone(), ..before };
-            assert_eq!(memory, kept, "a refused frame wrote; {}", replay(index + 1));
-        }
-    }
+fn engine(memory: &mut Lent, frame: &[u8]) -> Number {
+    memory.frame(frame)
 }
 
 #[test]
 fn sessions_of_every_size() {
-    let mut random = Random::new(7);
-    for seed in 0..400 {
+    let mut coverage = Coverage::new();
+    compare(&cascade(), &engine, "the cascade");
+    coverage.watch_script(&cascade());
+    for seed in first_seed()..first_seed() + 500 {
         let tasks = TASKS[seed as usize % TASKS.len()];
         let script = Generator::new(seed).script(tasks..=tasks, 300);
-        compare(&script, &mut random, &format!("seed {seed}"));
+        compare(&script, &engine, &format!("seed {seed}"));
+        coverage.watch_script(&script);
     }
+    let missing = coverage.missing_of_frames();
+    assert!(missing.is_empty(), "not reached: {missing:#?}");
 }
 
 #[test]
 fn long_sessions() {
-    let mut random = Random::new(8);
-    for seed in 1000..1004 {
+    for seed in first_seed() + 1000..first_seed() + 1004 {
         let script = Generator::new(seed).script(3..=12, 20_000);
-        compare(&script, &mut random, &format!("seed {seed}"));
+        compare(&script, &engine, &format!("seed {seed}"));
     }
 }
 
@@ -64,7 +52,7 @@ fn refused_configurations_write_the_answer_alone() {
     for turn in 0..5000 {
         let frame = generator.refused_configuration();
         let number: Number = Executive::configure(&frame).expect_err("refused");
-        let mut memory = lent(&mut random);
+        let mut memory = Lent::new(SIZES, || random.byte());
         let before = memory.clone();
         assert_eq!(memory.configure(&frame), number, "turn {turn}: {frame:02X?}");
         assert_eq!(memory.answered(), [number, 0, 0, 0], "turn {turn}: {frame:02X?}");
@@ -72,45 +60,119 @@ fn refused_configurations_write_the_answer_alone() {
     }
 }
 
+// ---- the comparison itself
+
+/// T 3, S 2, Q 1, R 2, G 2, K 3; width 2 and depth 2. Before its ticks there is one of everything: a timer, a message, entries,
+/// an open enqueue. It ends with a refused frame.
+const EVERYTHING: &str = "030201020203007D0000000202
+0E00010009
+0402000001
+0801000000AABB
+0801000000CCDD
+0801000000EEFF
+0701000000
+08010000001122
+1000000000
+1000000000
+0700000000";
+
+fn everything() -> Script {
+    let frame = |digits: &str| plain_executive::line::read(digits.as_bytes()).expect("a line");
+    let mut frames = EVERYTHING.lines().map(frame);
+    Script { configuration: frames.next().expect("a configuration"), frames: frames.collect() }
+}
+
+/// What a byte that is changed is called in the difference.
+type Fault = (&'static str, fn(&mut Lent, &Regions));
+
+const FAULTS: [Fault; 19] = [
+    ("the ticks", |memory, _| memory.tables[0] = memory.tables[0] % 3 + 1),
+    ("the blocks of task 2", |memory, _| memory.tables[3] ^= 2),
+    ("the outcome of task 3", |memory, at| memory.tables[at.records + 12] ^= 1),
+    ("the slot of task 2", |memory, _| memory.slots[16 + 15] ^= 0x80),
+    ("the request of task 2", |memory, at| memory.tables[at.records + 6 + 4] ^= 1),
+    ("the request of task 1", |memory, at| memory.tables[at.waiting] ^= 1),
+    ("semaphore 2", |memory, at| memory.tables[at.semaphores + 1] ^= 255),
+    ("the mailbox of task 2", |memory, at| memory.tables[at.messages + 3] ^= 1),
+    ("the mailbox of task 2", |memory, _| memory.tables[1] = 0),
+    ("queue 1", |memory, at| memory.tables[at.entries] ^= 1),
+    ("queue 1", |memory, at| memory.tables[at.rings + 1] ^= 3),
+    ("queue 1", |memory, at| memory.tables[at.rings] ^= 1),
+    ("timer 1", |memory, _| memory.timers[1] ^= 3),
+    ("timer 1", |memory, _| memory.timers[1 + 1] ^= 3),
+    ("timer 1", |memory, _| memory.timers[1 + 5] ^= 1),
+    ("timer 1", |memory, _| memory.timers[1 + 9] ^= 1),
+    ("timers", |memory, _| memory.timers[0] = 0),
+    ("the config block", |memory, _| memory.config[9] ^= 1),
+    ("the answer", |memory, _| memory.answer[3] ^= 1),
+];
+
 #[test]
-fn a_short_block_gives_11_and_nothing_is_written() {
-    let configuration = [2, 1, 1, 1, 1, 1, 0, 125, 0, 0, 1, 1];
-    let mut random = Random::new(10);
-    for block in 0..SIZES.len() {
-        for size in [0, 1, SIZES[block] - 1] {
-            let mut sizes = SIZES;
-            sizes[block] = size;
-            let mut memory = Lent::new(sizes, || random.byte());
-            let before = memory.clone();
-            assert_eq!(memory.configure(&configuration), MEMORY, "block {block} of {size}");
-            assert_eq!(memory, before);
-            assert_eq!(memory.frame(&[0x10, 0, 0, 0, 0]), MEMORY, "block {block} of {size}");
-            assert_eq!(memory, before);
-        }
+fn every_item_is_compared() {
+    let script = everything();
+    let configuration = Configuration::read(&script.configuration).expect("accepted");
+    assert!(difference(&script, &engine).is_none(), "{:?}", difference(&script, &engine));
+    for (name, fault) in FAULTS {
+        let faulty = |memory: &mut Lent, frame: &[u8]| {
+            let number = memory.frame(frame);
+            if frame[0] == 0x10 {
+                fault(memory, &Regions::of(&configuration));
+            }
+            number
+        };
+        let found = difference(&script, &faulty).unwrap_or_else(|| panic!("{name}: no difference"));
+        assert!(found.what.starts_with(name), "{name}: {found:?}");
     }
 }
 
-/// Any bytes at all in the blocks: each frame ends with a number, and where it gives 11 nothing is written.
 #[test]
-fn broken_memory_is_refused_whole() {
-    let mut random = Random::new(11);
-    let mut broken = 0;
-    for turn in 0..4000_u64 {
-        let script = Generator::new(turn).script(1..=9, 12);
-        let mut memory = lent(&mut random);
-        memory.configure(&script.configuration);
-        for frame in &script.frames {
-            let index = random.below(300);
-            memory.tables[index] = random.byte();
-            if random.below(8) == 0 {
-                memory.config[random.below(16)] = random.byte();
-            }
-            let before = memory.clone();
-            if memory.frame(frame) == MEMORY {
-                assert_eq!(memory, before, "seed {turn}: {frame:02X?}");
-                broken += 1;
-            }
-        }
+fn numbers_strange_bytes_and_refused_frames_are_compared() {
+    let faults: [(&str, Feed); 3] = [
+        ("the number", &|memory, frame| if memory.frame(frame) == 7 { 6 } else { 0 }),
+        ("the memory holds what the program never writes", &|memory, frame| {
+            let number = memory.frame(frame);
+            memory.tables[2] |= 0x10;
+            number
+        }),
+        ("a refused frame wrote", &|memory, frame| {
+            let number = memory.frame(frame);
+            memory.timers[640] ^= u8::from(number != 0);
+            number
+        }),
+    ];
+    for (name, faulty) in faults {
+        let found = difference(&everything(), faulty).unwrap_or_else(|| panic!("{name}: no difference"));
+        assert!(found.what.starts_with(name), "{name}: {found:?}");
     }
-    assert!(broken > 100, "only {broken} met 11");
+}
+
+/// A program that loses a bit of the entries that it hands out: the session that shows it is short, and replays.
+#[test]
+fn a_difference_comes_as_a_short_session() {
+    let faulty = |memory: &mut Lent, frame: &[u8]| {
+        let number = memory.frame(frame);
+        if memory.answer[4] == 3 {
+            memory.slots[16 * usize::from(memory.answer[2]) - 16] &= 0x7F;
+            memory.answer[5] &= 0x7F;
+        }
+        number
+    };
+    let script = Generator::new(1).script_of(everything().configuration, 2000);
+    let found = difference(&script, &faulty).expect("a difference");
+    let short = shortened(&script, &faulty);
+    assert_eq!(short.frames.len(), 2, "{} frames, from {}", short.frames.len(), found.frames);
+    let answers = session::run(&short.lines());
+    assert_eq!(session::lines(&answers).count(), 3);
+    let told = std::panic::catch_unwind(|| compare(&script, &faulty, "faulty")).expect_err("a panic");
+    let told = told.downcast::<String>().expect("a text");
+    assert!(told.ends_with(&String::from_utf8_lossy(&short.lines()).into_owned()), "{told}");
+    assert!(told.starts_with("faulty, with the last of these 2 frames (0 too long for a line): the answer"), "{told}");
+}
+
+#[test]
+fn a_short_block_gives_11_before_all_else() {
+    let mut memory = Lent::new([198, 7571, 2016, 640, 21], || 0);
+    assert_eq!((memory.configure(&[]), memory.frame(&[])), (MEMORY, MEMORY));
+    let mut memory = Lent::new(SIZES, || 0);
+    assert_eq!((memory.configure(&[]), memory.frame(&[])), (2, MEMORY));
 }
