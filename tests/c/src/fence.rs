@@ -12,6 +12,7 @@ extern "C" {
     fn mprotect(address: *mut u8, bytes: usize, protection: i32) -> i32;
     fn munmap(address: *mut u8, bytes: usize) -> i32;
     fn signal(number: i32, handler: usize) -> usize;
+    fn alarm(seconds: u32) -> u32;
     fn write(file: i32, bytes: *const u8, count: usize) -> isize;
 }
 
@@ -19,8 +20,11 @@ const PAGE: usize = 4096;
 const CLOSED: i32 = 0;
 const READ_AND_WRITE: i32 = 3;
 const PRIVATE_AND_ANONYMOUS: i32 = 0x22;
-/// A bus error, and an access to a closed page.
-const FAULTS: [i32; 2] = [7, 11];
+/// A bus error, an access to a closed page, and the alarm.
+const SIGNALS: [i32; 3] = [7, 11, ALARM];
+const ALARM: i32 = 14;
+/// All tests of a program together take some seconds.
+const PATIENCE: u32 = 600;
 /// What the open bytes beside a lent part hold.
 const BESIDE: u8 = 0xC5;
 
@@ -39,7 +43,7 @@ pub struct Fence {
 
 impl Fence {
     pub fn new(least: usize) -> Self {
-        watch_for_faults();
+        watch_for_signals();
         let room = least.div_ceil(PAGE) * PAGE;
         let open = unsafe {
             let all = mmap(std::ptr::null_mut(), room + 2 * PAGE, CLOSED, PRIVATE_AND_ANONYMOUS, -1, 0);
@@ -157,23 +161,30 @@ pub fn now(case: [u64; 3]) {
     CASE.set(case);
 }
 
-fn watch_for_faults() {
-    for number in FAULTS {
+fn watch_for_signals() {
+    for number in SIGNALS {
         unsafe {
-            signal(number, on_fault as extern "C" fn(i32) as usize);
+            signal(number, on_signal as extern "C" fn(i32) as usize);
         }
+    }
+    unsafe {
+        alarm(PATIENCE);
     }
 }
 
-extern "C" fn on_fault(number: i32) {
+extern "C" fn on_signal(number: i32) {
     let mut line = *b"a call left its memory: case ........ ........ ........\n";
     for (place, value) in CASE.get().into_iter().enumerate() {
         for digit in 0..8 {
             line[29 + 9 * place + digit] = b"0123456789ABCDEF"[(value >> (28 - 4 * digit) & 15) as usize];
         }
     }
+    let told: &[u8] = if number == ALARM { b"a call has not returned\n" } else { &line };
     unsafe {
-        write(2, line.as_ptr(), line.len());
+        write(2, told.as_ptr(), told.len());
         signal(number, 0);
+        if number == ALARM {
+            std::process::abort();
+        }
     }
 }
