@@ -26,7 +26,7 @@ pub struct Difference {
 /// Compared are, after the configuration and after every frame: the number, the answer, all items, the config block, and that
 /// the bytes are such as the program writes; of a refused frame, that it wrote its answer alone.
 pub fn difference(script: &Script, feed: Feed) -> Option<Difference> {
-    let mut random = Random::new(script.frames.len() as u64);
+    let mut random = Random::new(script.configuration.len() as u64);
     let more = random.below(3);
     let mut memory = Lent::new(SIZES.map(|size| size + more), || random.byte());
     let mut other = Executive::configure(&script.configuration).expect("accepted");

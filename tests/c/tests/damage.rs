@@ -123,6 +123,7 @@ fn every_value_of_every_byte_of_a_small_memory() {
             }
         }
     }
+    println!("{} calls: {:?}", watch.counts.calls, watch.counts.broken);
     assert!(watch.counts.calls > 100_000, "{} calls", watch.counts.calls);
 }
 
@@ -145,6 +146,7 @@ fn every_bit_of_the_largest_memory() {
             watch.feed(damaged.clone(), frames, &|| told(&script, 300, &memory, &damaged));
         }
     }
+    println!("{} calls: {:?}", watch.counts.calls, watch.counts.broken);
     assert_eq!(watch.counts.calls, 8 * SIZES.iter().sum::<usize>() as u64);
 }
 
