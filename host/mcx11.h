@@ -85,12 +85,12 @@ enum mcx11_number {
 };
 
 /* The archive's own functions: each block is its address and its length. Blocks and frame do not overlap. */
-uint8_t mcx11_configure(const uint8_t *frame, size_t length, uint8_t *config, size_t config_bytes, uint8_t *tables,
-                        size_t tables_bytes, uint8_t *slots, size_t slots_bytes, uint8_t *timers, size_t timers_bytes,
-                        uint8_t *answer, size_t answer_bytes);
-uint8_t mcx11_frame(const uint8_t *frame, size_t length, const uint8_t *config, size_t config_bytes, uint8_t *tables,
-                    size_t tables_bytes, uint8_t *slots, size_t slots_bytes, uint8_t *timers, size_t timers_bytes,
-                    uint8_t *answer, size_t answer_bytes);
+uint8_t mcx11_configure_blocks(const uint8_t *frame, size_t length, uint8_t *config, size_t config_bytes, uint8_t *tables,
+                               size_t tables_bytes, uint8_t *slots, size_t slots_bytes, uint8_t *timers,
+                               size_t timers_bytes, uint8_t *answer, size_t answer_bytes);
+uint8_t mcx11_frame_blocks(const uint8_t *frame, size_t length, const uint8_t *config, size_t config_bytes, uint8_t *tables,
+                           size_t tables_bytes, uint8_t *slots, size_t slots_bytes, uint8_t *timers, size_t timers_bytes,
+                           uint8_t *answer, size_t answer_bytes);
 
 /* Reads a line of digits, without its end, into frame. Gives the frame's length, or a number with a minus sign. */
 int32_t mcx11_read_line(const uint8_t *line, size_t digits, uint8_t *frame, size_t room);
@@ -101,24 +101,20 @@ int32_t mcx11_write_line(const uint8_t *frame, size_t length, uint8_t *line, siz
 /* Milliseconds as tocks of per milliseconds each, for X of delay and timer. Gives the tocks, or a number with a minus sign. */
 int32_t mcx11_milliseconds(uint16_t ms, uint16_t per);
 
-static inline uint8_t mcx11_t_configure(mcx11_t *m, const uint8_t *bytes, size_t length)
+/* Begins anew with this configuration. Gives the number, 0 accepted. The bytes lie outside *m; after the call their place may
+   be used again. */
+static inline uint8_t mcx11_configure(mcx11_t *m, const uint8_t *bytes, size_t length)
 {
-    return mcx11_configure(bytes, length, m->config, sizeof m->config, m->tables, sizeof m->tables, m->slots,
-                           sizeof m->slots, m->timers, sizeof m->timers, m->answer, sizeof m->answer);
+    return mcx11_configure_blocks(bytes, length, m->config, sizeof m->config, m->tables, sizeof m->tables, m->slots,
+                                  sizeof m->slots, m->timers, sizeof m->timers, m->answer, sizeof m->answer);
 }
 
-static inline uint8_t mcx11_t_frame(mcx11_t *m, const uint8_t *bytes, size_t length)
+/* Carries out a frame. Gives the number, 0 accepted. The bytes as above. */
+static inline uint8_t mcx11_frame(mcx11_t *m, const uint8_t *bytes, size_t length)
 {
-    return mcx11_frame(bytes, length, m->config, sizeof m->config, m->tables, sizeof m->tables, m->slots,
-                       sizeof m->slots, m->timers, sizeof m->timers, m->answer, sizeof m->answer);
+    return mcx11_frame_blocks(bytes, length, m->config, sizeof m->config, m->tables, sizeof m->tables, m->slots,
+                              sizeof m->slots, m->timers, sizeof m->timers, m->answer, sizeof m->answer);
 }
-
-/* uint8_t mcx11_configure(mcx11_t *m, const uint8_t *bytes, size_t length): begins anew with this configuration.
-   uint8_t mcx11_frame(mcx11_t *m, const uint8_t *bytes, size_t length): carries out a frame.
-   Each gives the number, 0 accepted. The bytes lie outside *m; after the call their place may be used again. Both are macros,
-   since the archive has the names already; behind #undef they are the archive's own functions again. */
-#define mcx11_configure mcx11_t_configure
-#define mcx11_frame mcx11_t_frame
 
 /* The frame of five bytes: every code but enqueue, whose entry stands behind them. */
 static inline uint8_t mcx11_call(mcx11_t *m, uint8_t code, uint8_t a, uint8_t b, uint16_t x)

@@ -16,11 +16,9 @@ static int failed(const char *what)
 
 static uint8_t feed(const uint8_t *frame, size_t length)
 {
-    uint8_t (*any)(mcx11_t *, const uint8_t *, size_t) = mcx11_frame; /* it has an address, as functions have */
-
     if (length == 5)
         return mcx11_call(&ride, frame[0], frame[1], frame[2], (uint16_t)(frame[3] << 8 | frame[4]));
-    return any(&ride, frame, length);
+    return mcx11_frame(&ride, frame, length);
 }
 
 /* The answer is its parts, one behind the other. */

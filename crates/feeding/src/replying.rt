@@ -30,7 +30,7 @@ pub fn reply_first(
             Stage::Ended
         }
         Written::Length(n) => {
-            let r = mcx11::entries::mcx11_configure(
+            let r = mcx11::entries::mcx11_configure_blocks(
                 &frame[..n],
                 config,
                 tables,
@@ -77,7 +77,7 @@ pub fn reply_next(
     match w {
         Written::Refused(_) => refuse_line(config, tables, slots, answer),
         Written::Length(n) => {
-            mcx11::entries::mcx11_frame(&frame[..n], config, tables, slots, timers, answer);
+            mcx11::entries::mcx11_frame_blocks(&frame[..n], config, tables, slots, timers, answer);
         }
     }
 }

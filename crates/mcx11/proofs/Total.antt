@@ -1,4 +1,4 @@
--- Demand 3 speaks of something: for every accepted configuration and every list of frames there is a list of calls of `mcx11_configure` and `mcx11_frame`.
+-- Demand 3 speaks of something: for every accepted configuration and every list of frames there is a list of calls of `mcx11_configure_blocks` and `mcx11_frame_blocks`.
 use Prim.Native.Nat.{ℕ}
 use mathlib.Core.Path.{_≡_, refl, sym, subst}
 use mathlib.Core.Bool.{true}

@@ -1,4 +1,4 @@
--- Demand 3 about `mcx11_configure` and `mcx11_frame` themselves: a call is what the checker says that a caller of the function learns, and that is the contract of specs/Contract.
+-- Demand 3 about `mcx11_configure_blocks` and `mcx11_frame_blocks` themselves: a call is what the checker says that a caller of the function learns, and that is the contract of specs/Contract.
 use Prim.Native.Nat.{ℕ}
 use mathlib.Core.Path.{_≡_}
 use mathlib.Core.Bool.{true}
@@ -13,14 +13,14 @@ use Rattle.mcx11.specs.Contract.{Memory, memory, fullSize, Configures, F
 use Rattle.mcx11.specs.Calls as calls
 use Rattle.mcx11.specs.Calls.{answerOf}
 use Rattle.mcx11.specs.Whole.{Same, every-list}
-use Rattle.mcx11.proofs.entries.mcx11_configure as configure
-use Rattle.mcx11.proofs.entries.mcx11_configure.Kinds as configure-kinds
-use Rattle.mcx11.proofs.entries.mcx11_configure.Reads as configure-reads
-use Rattle.mcx11.proofs.entries.mcx11_frame as frame
-use Rattle.mcx11.proofs.entries.mcx11_frame.Kinds as frame-kinds
-use Rattle.mcx11.proofs.entries.mcx11_frame.Reads as frame-reads
+use Rattle.mcx11.proofs.entries.mcx11_configure_blocks as configure
+use Rattle.mcx11.proofs.entries.mcx11_configure_blocks.Kinds as configure-kinds
+use Rattle.mcx11.proofs.entries.mcx11_configure_blocks.Reads as configure-reads
+use Rattle.mcx11.proofs.entries.mcx11_frame_blocks as frame
+use Rattle.mcx11.proofs.entries.mcx11_frame_blocks.Kinds as frame-kinds
+use Rattle.mcx11.proofs.entries.mcx11_frame_blocks.Reads as frame-reads
 
--- One call of `mcx11_configure` with the bytes g, lent the memory m and leaving m', that returned r: the arguments x, the last values w of the
+-- One call of `mcx11_configure_blocks` with the bytes g, lent the memory m and leaving m', that returned r: the arguments x, the last values w of the
 -- `&mut` slices, the result n, and what a caller learns of them
 pub record ConfigureCall (g : List ℕ) (m m' : Memory) (r : ℕ) : Type 0 where
   pub κs : Lfts 6
@@ -36,7 +36,7 @@ pub record ConfigureCall (g : List ℕ) (m m' : Memory) (r : ℕ) : Type 0 where
 pub configures : {g : List ℕ} {m m' : Memory} {r : ℕ} → ConfigureCall g m m' r → Configures g m m' r
 configures s = rw (← s .bytes, ← s .before, ← s .after, ← s .number) (s .learnt)
 
--- One call of `mcx11_frame` with the bytes f. The configuration's block is lent to be read only
+-- One call of `mcx11_frame_blocks` with the bytes f. The configuration's block is lent to be read only
 pub record FrameCall (f : List ℕ) (m m' : Memory) (r : ℕ) : Type 0 where
   pub κs : Lfts 6
   pub x : ArgsD frame.signature κs
@@ -51,7 +51,7 @@ pub record FrameCall (f : List ℕ) (m m' : Memory) (r : ℕ) : Type 0 where
 pub frames : {f : List ℕ} {m m' : Memory} {r : ℕ} → FrameCall f m m' r → Frames f m m' r
 frames s = rw (← s .bytes, ← s .before, ← s .after, ← s .number) (s .learnt)
 
--- A list of calls of `mcx11_frame`, each lent the memory as the call before it left it, with their answers and numbers
+-- A list of calls of `mcx11_frame_blocks`, each lent the memory as the call before it left it, with their answers and numbers
 pub data FrameCalls : (m : Memory) (frames answers : List (List ℕ)) (numbers : List ℕ) (m' : Memory) → Type 0 where
   none : {m : Memory} → FrameCalls m [] [] [] m
   call : {f : List ℕ} {m m₁ m' : Memory} {r : ℕ} {fs answers : List (List ℕ)} {numbers : List ℕ}

@@ -57,7 +57,7 @@ fn feed(
 
 // Feeds a frame. Gives its number: 0 accepted, 11 where the lent memory is short or broken (then nothing is written).
 #[no_mangle]
-pub extern "C" fn mcx11_frame(
+pub extern "C" fn mcx11_frame_blocks(
     frame: &[u8],
     config: &[u8],
     tables: &mut [u8],
@@ -107,7 +107,7 @@ fn begin(
 
 // Configures. Gives the configuration's number: 0 accepted, 11 where a lent block is short (then nothing is written).
 #[no_mangle]
-pub extern "C" fn mcx11_configure(
+pub extern "C" fn mcx11_configure_blocks(
     frame: &[u8],
     config: &mut [u8],
     tables: &mut [u8],

@@ -7,7 +7,7 @@ use plain_executive::semaphore::Semaphore;
 use plain_executive::tasks::{self, Block, Letter};
 
 extern "C" {
-    fn mcx11_configure(
+    fn mcx11_configure_blocks(
         frame: *const u8,
         bytes: usize,
         config: *mut u8,
@@ -21,7 +21,7 @@ extern "C" {
         answer: *mut u8,
         answer_bytes: usize,
     ) -> u8;
-    fn mcx11_frame(
+    fn mcx11_frame_blocks(
         frame: *const u8,
         bytes: usize,
         config: *const u8,
@@ -43,46 +43,37 @@ pub const SIZES: [usize; 5] = [198, 7571, 2016, 641, 21];
 /// Five blocks of bytes: config, tables, slots, timers, answer.
 pub type Blocks<'a> = [&'a mut [u8]; 5];
 
+/// Calls an exported function with a frame and these blocks, each as its address and its length.
+macro_rules! call {
+    ($function:ident, $frame:expr, $blocks:expr) => {{
+        let [config, tables, slots, timers, answer] = $blocks;
+        unsafe {
+            $function(
+                $frame.as_ptr(),
+                $frame.len(),
+                config.as_mut_ptr(),
+                config.len(),
+                tables.as_mut_ptr(),
+                tables.len(),
+                slots.as_mut_ptr(),
+                slots.len(),
+                timers.as_mut_ptr(),
+                timers.len(),
+                answer.as_mut_ptr(),
+                answer.len(),
+            )
+        }
+    }};
+}
+
 /// Configures over these blocks.
 pub fn configure(frame: &[u8], blocks: Blocks) -> Number {
-    let [config, tables, slots, timers, answer] = blocks;
-    unsafe {
-        mcx11_configure(
-            frame.as_ptr(),
-            frame.len(),
-            config.as_mut_ptr(),
-            config.len(),
-            tables.as_mut_ptr(),
-            tables.len(),
-            slots.as_mut_ptr(),
-            slots.len(),
-            timers.as_mut_ptr(),
-            timers.len(),
-            answer.as_mut_ptr(),
-            answer.len(),
-        )
-    }
+    call!(mcx11_configure_blocks, frame, blocks)
 }
 
 /// Feeds a frame to these blocks.
 pub fn feed(frame: &[u8], blocks: Blocks) -> Number {
-    let [config, tables, slots, timers, answer] = blocks;
-    unsafe {
-        mcx11_frame(
-            frame.as_ptr(),
-            frame.len(),
-            config.as_ptr(),
-            config.len(),
-            tables.as_mut_ptr(),
-            tables.len(),
-            slots.as_mut_ptr(),
-            slots.len(),
-            timers.as_mut_ptr(),
-            timers.len(),
-            answer.as_mut_ptr(),
-            answer.len(),
-        )
-    }
+    call!(mcx11_frame_blocks, frame, blocks)
 }
 
 /// The five blocks that a host lends.

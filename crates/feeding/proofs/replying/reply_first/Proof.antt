@@ -26,11 +26,11 @@ enum-known-w c = search needs
 array-share-prefix-frame : tie.Need-array-share-prefix-frame
 array-share-prefix-frame c = read-frame _ _ _ _ (c .before .before .before .before .read .ensures) (omega arith) _ (c .before .w .given .1) .0
 
-slice-aggregate-mcx11-configure : tie.Need-slice-aggregate-mcx11-configure
-slice-aggregate-mcx11-configure c = sym (length-take-le _ _ (read-frame _ _ _ _ (c .before .before .before .before .before .read .ensures) (omega arith) _ (c .before .before .w .given .1) .0))
+slice-aggregate-mcx11-configure-blocks : tie.Need-slice-aggregate-mcx11-configure-blocks
+slice-aggregate-mcx11-configure-blocks c = sym (length-take-le _ _ (read-frame _ _ _ _ (c .before .before .before .before .before .read .ensures) (omega arith) _ (c .before .before .w .given .1) .0))
 
-mcx11-configure-requires : tie.Need-mcx11-configure-requires
-mcx11-configure-requires c κs = search needs
+mcx11-configure-blocks-requires : tie.Need-mcx11-configure-blocks-requires
+mcx11-configure-blocks-requires c κs = search needs
 
 same-length : tie.Need-same-length
 same-length c = search needs
@@ -48,7 +48,7 @@ same-length-5 : tie.Need-same-length-5
 same-length-5 c = search needs
 
 returns : tie.Need-returns
-returns c = begins-running (c .before .before .before .before .before .before .before .before .before .before .before .before .before .before .before .before .before .before .before .before .before .before .before .before .before .before .before .before .before .before .pre) (c .before .before .before .before .before .before .before .before .before .before .before .mcx11-configure .ensures) (read-frame _ _ _ _ (c .before .before .before .before .before .before .before .before .before .before .before .before .before .before .before .before .before .before .before .before .before .before .read .ensures) (omega arith) _ (c .before .before .before .before .before .before .before .before .before .before .before .before .before .before .before .before .before .before .before .w .given .1) .1) (c .if1 .taken)
+returns c = begins-running (c .before .before .before .before .before .before .before .before .before .before .before .before .before .before .before .before .before .before .before .before .before .before .before .before .before .before .before .before .before .before .pre) (c .before .before .before .before .before .before .before .before .before .before .before .mcx11-configure-blocks .ensures) (read-frame _ _ _ _ (c .before .before .before .before .before .before .before .before .before .before .before .before .before .before .before .before .before .before .before .before .before .before .read .ensures) (omega arith) _ (c .before .before .before .before .before .before .before .before .before .before .before .before .before .before .before .before .before .before .before .w .given .1) .1) (c .if1 .taken)
 
 same-length-6 : tie.Need-same-length-6
 same-length-6 c = search needs
@@ -73,7 +73,7 @@ same-length-11 : tie.Need-same-length-11
 same-length-11 c = search needs
 
 returns-3 : tie.Need-returns-3
-returns-3 c = begins-ended (c .before .before .before .before .before .before .before .before .before .before .before .before .before .before .before .before .before .before .before .before .before .before .before .before .before .before .before .before .before .before .pre) (c .before .before .before .before .before .before .before .before .before .before .before .mcx11-configure .ensures) (read-frame _ _ _ _ (c .before .before .before .before .before .before .before .before .before .before .before .before .before .before .before .before .before .before .before .before .before .before .read .ensures) (omega arith) _ (c .before .before .before .before .before .before .before .before .before .before .before .before .before .before .before .before .before .before .before .w .given .1) .1) (c .if1 .left)
+returns-3 c = begins-ended (c .before .before .before .before .before .before .before .before .before .before .before .before .before .before .before .before .before .before .before .before .before .before .before .before .before .before .before .before .before .before .pre) (c .before .before .before .before .before .before .before .before .before .before .before .mcx11-configure-blocks .ensures) (read-frame _ _ _ _ (c .before .before .before .before .before .before .before .before .before .before .before .before .before .before .before .before .before .before .before .before .before .before .read .ensures) (omega arith) _ (c .before .before .before .before .before .before .before .before .before .before .before .before .before .before .before .before .before .before .before .w .given .1) .1) (c .if1 .left)
 
 pub reply-first-spec : {M : Type 1} → statement M
 reply-first-spec =
@@ -85,8 +85,8 @@ reply-first-spec =
     refuse-configuration-requires
     enum-known-w
     array-share-prefix-frame
-    slice-aggregate-mcx11-configure
-    mcx11-configure-requires
+    slice-aggregate-mcx11-configure-blocks
+    mcx11-configure-blocks-requires
     same-length
     same-length-2
     same-length-3

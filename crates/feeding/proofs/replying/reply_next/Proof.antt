@@ -26,11 +26,11 @@ enum-known-w c = search needs
 array-share-prefix-frame : tie.Need-array-share-prefix-frame
 array-share-prefix-frame c = read-frame _ _ _ _ (c .before .before .before .before .read .ensures) (omega arith) _ (c .before .w .given .1) .0
 
-slice-aggregate-mcx11-frame : tie.Need-slice-aggregate-mcx11-frame
-slice-aggregate-mcx11-frame c = sym (length-take-le _ _ (read-frame _ _ _ _ (c .before .before .before .before .before .read .ensures) (omega arith) _ (c .before .before .w .given .1) .0))
+slice-aggregate-mcx11-frame-blocks : tie.Need-slice-aggregate-mcx11-frame-blocks
+slice-aggregate-mcx11-frame-blocks c = sym (length-take-le _ _ (read-frame _ _ _ _ (c .before .before .before .before .before .read .ensures) (omega arith) _ (c .before .before .w .given .1) .0))
 
-mcx11-frame-requires : tie.Need-mcx11-frame-requires
-mcx11-frame-requires c κs = search needs
+mcx11-frame-blocks-requires : tie.Need-mcx11-frame-blocks-requires
+mcx11-frame-blocks-requires c κs = search needs
 
 same-length : tie.Need-same-length
 same-length c = search needs
@@ -57,7 +57,7 @@ same-length-7 : tie.Need-same-length-7
 same-length-7 c = search needs
 
 returns-2 : tie.Need-returns-2
-returns-2 c = goes-on-frame (read-frame _ _ _ _ (c .before .before .before .before .before .before .before .before .before .before .before .before .before .before .before .before .before .before .read .ensures) (omega arith) _ (c .before .before .before .before .before .before .before .before .before .before .before .before .before .before .before .w .given .1) .1) (c .before .before .before .before .before .before .before .before .mcx11-frame .ensures)
+returns-2 c = goes-on-frame (read-frame _ _ _ _ (c .before .before .before .before .before .before .before .before .before .before .before .before .before .before .before .before .before .before .read .ensures) (omega arith) _ (c .before .before .before .before .before .before .before .before .before .before .before .before .before .before .before .w .given .1) .1) (c .before .before .before .before .before .before .before .before .mcx11-frame-blocks .ensures)
 
 pub reply-next-spec : {M : Type 1} → statement M
 reply-next-spec =
@@ -69,8 +69,8 @@ reply-next-spec =
     refuse-line-requires
     enum-known-w
     array-share-prefix-frame
-    slice-aggregate-mcx11-frame
-    mcx11-frame-requires
+    slice-aggregate-mcx11-frame-blocks
+    mcx11-frame-blocks-requires
     same-length
     same-length-2
     same-length-3

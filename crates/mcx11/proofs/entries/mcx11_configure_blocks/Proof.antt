@@ -7,8 +7,8 @@ use Rattle.mcx11.specs.Contract.{memory, fullSize}
 use Rattle.mcx11.specs.Sizes.{full-sizes}
 use Rattle.mcx11.specs.Feeding.{configure-short, configure-refused, configure-accepted}
 use borrow.Author.Needs.{needs}
-use Rattle.mcx11.proofs.entries.mcx11_configure.Statement.{statement}
-use Rattle.mcx11.proofs.entries.mcx11_configure.Tie as tie
+use Rattle.mcx11.proofs.entries.mcx11_configure_blocks.Statement.{statement}
+use Rattle.mcx11.proofs.entries.mcx11_configure_blocks.Tie as tie
 
 full-size-requires : tie.Need-full-size-requires
 full-size-requires c κs = search needs
@@ -97,8 +97,8 @@ returns-3 c =
     (c .before .before .before .before .before .before .before .before .before .before .before .before .before .before .before .before .if2 .left)
     (c .before .before .before .before .before .before .before .before .before .before .begin .ensures)
 
-pub mcx11-configure-spec : {M : Type 1} → statement M
-mcx11-configure-spec =
+pub mcx11-configure-blocks-spec : {M : Type 1} → statement M
+mcx11-configure-blocks-spec =
     tie.close
     (tie.spec
     full-size-requires

@@ -8,8 +8,8 @@ use Rattle.mcx11.specs.Contract.{memory, fullSize}
 use Rattle.mcx11.specs.Sizes.{full-sizes}
 use Rattle.mcx11.specs.Feeding.{frame-short, frame-bad, frame-fed, inside, lent-bad, lent-good}
 use borrow.Author.Needs.{needs}
-use Rattle.mcx11.proofs.entries.mcx11_frame.Statement.{statement}
-use Rattle.mcx11.proofs.entries.mcx11_frame.Tie as tie
+use Rattle.mcx11.proofs.entries.mcx11_frame_blocks.Statement.{statement}
+use Rattle.mcx11.proofs.entries.mcx11_frame_blocks.Tie as tie
 
 full-size-requires : tie.Need-full-size-requires
 full-size-requires c κs = search needs
@@ -80,8 +80,8 @@ returns-3 c =
     (g .1)
     (c .before .before .before .before .before .before .before .before .feed .ensures)
 
-pub mcx11-frame-spec : {M : Type 1} → statement M
-mcx11-frame-spec =
+pub mcx11-frame-blocks-spec : {M : Type 1} → statement M
+mcx11-frame-blocks-spec =
     tie.close
     (tie.spec
     full-size-requires
