@@ -16,7 +16,7 @@ use Rattle.feeding.specs.Input.{Stands, first, Fed, behind, fed, last}
 use Rattle.feeding.specs.Whole.{parts, text, whole}
 use Rattle.feeding.specs.Line.{Keeps, keeps-none}
 use Rattle.feeding.specs.Replies.{At}
-use Rattle.feeding.specs.Holds.{begun, again, Lent, lent, Feeds, Ends}
+use Rattle.feeding.specs.Feeds.{begun, again, Lent, lent, Feeds, Ends}
 use Rattle.feeding.proofs.feed as feed
 use Rattle.feeding.proofs.feed.Kinds as feed-kinds
 use Rattle.feeding.proofs.feed.Reads as feed-reads

@@ -3,4 +3,4 @@ pub mod Whole
 pub mod Line
 pub mod Replies
 pub mod Printed
-pub mod Holds
+pub mod Feeds

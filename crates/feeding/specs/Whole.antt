@@ -112,3 +112,14 @@ text-said s l (b ∷ bs) n = go (λ s l n. text-said s l bs n) (eqb b 0x0A) refl
 pub whole : (input : List ℕ) → text first [] input ≡ output input
 unfolding output said
 whole input = text-said first [] input nil
+
+-- a session that has ended prints nothing more, so that the program need not read on
+pub over-silent : (l bytes : List ℕ) → text over l bytes ≡ []
+unfolding fed behind lineFed last
+over-silent [] [] = refl
+over-silent (x ∷ l) [] = refl
+over-silent l (b ∷ bs) = go (λ k. over-silent k bs) (eqb b 0x0A) refl
+  where
+    go : ((k : List ℕ) → text over k bs ≡ []) → (e : Bool) → eqb b 0x0A ≡ e → text over l (b ∷ bs) ≡ []
+    go more true e = rw e (more [])
+    go more false e = rw e (more (l ++ (b ∷ [])))

@@ -16,7 +16,7 @@ ghost use Rattle.rows.specs.Splice.{cut};
 ghost use Rattle.mcx11.specs.Contract.{memory};
 ghost use Rattle.mcx11.specs.Sizes.{Full};
 ghost use Rattle.feeding.specs.Line.{most};
-ghost use Rattle.feeding.specs.Holds.{begun, again, Says, lent, Feeds, Ends};
+ghost use Rattle.feeding.specs.Feeds.{begun, again, Says, lent, Feeds, Ends};
 
 // Before the first line; configured; ended by a refused configuration.
 pub enum Stage {

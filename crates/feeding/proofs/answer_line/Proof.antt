@@ -1,6 +1,6 @@
 -- Stage by stage: the first line, any other, and none once the session has ended.
 use native.Mathlib.Omega.{arith}
-use Rattle.feeding.specs.Holds.{says-first, says-next, says-ended}
+use Rattle.feeding.specs.Feeds.{says-first, says-next, says-ended}
 use borrow.Author.Needs.{needs}
 use Rattle.feeding.proofs.answer_line.Statement.{statement}
 use Rattle.feeding.proofs.answer_line.Tie as tie

@@ -6,7 +6,7 @@ use borrow.Author.Needs.{needs}
 use denote.Ref.{now}
 use lib.ListN.{length}
 use Rattle.mcx11.specs.Contract.{memory}
-use Rattle.feeding.specs.Holds.{lent, Going, feeds-none, feeds-on, feeds-all}
+use Rattle.feeding.specs.Feeds.{lent, Going, feeds-none, feeds-on, feeds-all}
 use Rattle.feeding.proofs.feed.Statement.{statement}
 use Rattle.feeding.proofs.feed.Tie as tie
 

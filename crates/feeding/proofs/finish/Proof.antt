@@ -2,7 +2,7 @@
 use mathlib.Core.Path.{sym}
 use native.Mathlib.Omega.{arith}
 use lib.Seq.{length-take-le}
-use Rattle.feeding.specs.Holds.{ends-none, ends-line}
+use Rattle.feeding.specs.Feeds.{ends-none, ends-line}
 use borrow.Author.Needs.{needs}
 use Rattle.feeding.proofs.finish.Statement.{statement}
 use Rattle.feeding.proofs.finish.Tie as tie

@@ -3,7 +3,7 @@ use mathlib.Core.Path.{sym}
 use native.Mathlib.Omega.{arith}
 use borrow.Author.Tests.{not-true, not-false}
 use lib.Seq.{length-take-le}
-use Rattle.feeding.specs.Holds.{turns-unended, turns-ended}
+use Rattle.feeding.specs.Feeds.{turns-unended, turns-ended}
 use borrow.Author.Needs.{needs}
 use Rattle.feeding.proofs.turn.Statement.{statement}
 use Rattle.feeding.proofs.turn.Tie as tie
