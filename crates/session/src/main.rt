@@ -3,16 +3,18 @@
 // Rests on feeding, whose theorem `session` is about every list of blocks, and on io and libc to read and write.
 use feeding::Reached;
 use feeding::Stage;
+use libc::STDERR_FILENO;
 use libc::STDIN_FILENO;
 use libc::STDOUT_FILENO;
 ghost use Prim.Native.Nat.{_≤_};
 ghost use lib.ListN.{length};
 ghost use Rattle.feeding.specs.Line.{most};
 
-// How far the input is fed, and whether there is more of it to feed.
+// How far the input is fed, whether there is more of it to feed, and whether its end was met.
 struct Fed {
     reached: Reached,
     more: bool,
+    ended: bool,
 }
 
 // Whether another line can be answered.
@@ -24,14 +26,23 @@ fn goes_on(stage: Stage) -> bool {
     }
 }
 
+// Says what went wrong, with a line's end, to standard error.
+fn complain(what: &[u8]) {
+    io::write_all(STDERR_FILENO, what);
+}
+
 // Writes what was printed.
 fn write_out(out: &[u8], printed: usize) -> bool
     requires { ⌜ printed ≤ length (now out) ⌝ }
 {
-    io::write_all(STDOUT_FILENO, &out[..printed])
+    let written = io::write_all(STDOUT_FILENO, &out[..printed]);
+    if !written {
+        complain(b"session: the output cannot be written\n");
+    }
+    written
 }
 
-// Reads a block, feeds it and writes what was printed. No byte read is the end of the input.
+// Reads a block, feeds it and writes what was printed. An error is not the end of the input, and no line ends with it.
 fn turn(
     reached: Reached,
     line: &mut [u8; 401],
@@ -47,6 +58,14 @@ fn turn(
 {
     let mut input = [0u8; 8192];
     let got = libc::read(STDIN_FILENO, &mut input);
+    if got < 0 {
+        complain(b"session: the input cannot be read\n");
+        return Fed {
+            reached: reached,
+            more: false,
+            ended: false,
+        };
+    }
     let n = io::count(got, &input);
     let from = feeding::next_block(reached);
     let r = feeding::feed(
@@ -62,10 +81,12 @@ fn turn(
     );
     let written = write_out(out, r.printed);
     let stage = r.stage;
-    let more = n > 0 && written && goes_on(stage);
+    let more = got > 0 && written && goes_on(stage);
+    let ended = got == 0 && written;
     Fed {
         reached: r,
         more: more,
+        ended: ended,
     }
 }
 
@@ -99,6 +120,7 @@ fn main() {
     let mut out = [0u8; 335872];
     let mut reached = feeding::start();
     let mut more = true;
+    let mut ended = false;
     let mut turns = u64::MAX;
     while turns > 0 && more {
         let t = turn(
@@ -112,17 +134,20 @@ fn main() {
             &mut out,
         );
         more = t.more;
+        ended = t.ended;
         reached = t.reached;
         turns -= 1;
     }
-    end(
-        reached,
-        &line,
-        &mut config,
-        &mut tables,
-        &mut slots,
-        &mut timers,
-        &mut answer,
-        &mut out,
-    );
+    if ended {
+        end(
+            reached,
+            &line,
+            &mut config,
+            &mut tables,
+            &mut slots,
+            &mut timers,
+            &mut answer,
+            &mut out,
+        );
+    }
 }

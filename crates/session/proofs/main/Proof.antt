@@ -9,11 +9,11 @@ use Rattle.session.proofs.main.Statement.{statement}
 use Rattle.session.proofs.main.Tie as tie
 
 abbrev Inv-loop : tie.InvT-loop
-Inv-loop line₀ config₀ tables₀ slots₀ timers₀ answer₀ out₀ reached₀ more₀ turns₀ line config tables slots timers answer out reached more turns =
+Inv-loop line₀ config₀ tables₀ slots₀ timers₀ answer₀ out₀ reached₀ more₀ ended₀ turns₀ line config tables slots timers answer out reached more ended turns =
     reached .held ≤ most
 
 abbrev μ-loop : tie.MeasureT-loop
-μ-loop line₀ config₀ tables₀ slots₀ timers₀ answer₀ out₀ reached₀ more₀ turns₀ line config tables slots timers answer out reached more turns =
+μ-loop line₀ config₀ tables₀ slots₀ timers₀ answer₀ out₀ reached₀ more₀ ended₀ turns₀ line config tables slots timers answer out reached more ended turns =
     turns
 
 start-requires : tie.Need-start-requires Inv-loop μ-loop
@@ -35,10 +35,13 @@ loop-again : tie.Need-loop-again Inv-loop μ-loop
 loop-again c = c .before .turn .ensures
 
 end-requires : tie.Need-end-requires Inv-loop μ-loop
-end-requires c κs = search needs
+end-requires c κs = c .before .before .before .before .before .before .before .before .before .loop .inv
 
 returns : tie.Need-returns Inv-loop μ-loop
 returns c = search needs
+
+returns-2 : tie.Need-returns-2 Inv-loop μ-loop
+returns-2 c = search needs
 
 pub main-spec : {M : Type 1} → statement M
 main-spec =
@@ -53,4 +56,5 @@ main-spec =
     loop-less
     loop-again
     end-requires
-    returns)
+    returns
+    returns-2)
