@@ -12,10 +12,11 @@ use denote.Triple.Clauses.{Lasts, atExit}
 use Rattle.ledger.specs.Lines.{output}
 use Rattle.mcx11.specs.Contract.{memory}
 use Rattle.feeding.specs.declared.Reached.{Reached}
-use Rattle.feeding.specs.Input.{Stands, first, Fed, behind, fed, last}
-use Rattle.feeding.specs.Whole.{parts, text, whole}
+use Rattle.feeding.specs.declared.Stage.the-variants.{Ended}
+use Rattle.feeding.specs.Input.{Stands, first, over, Fed, behind, fed, last}
+use Rattle.feeding.specs.Whole.{parts, text, whole, over-silent}
 use Rattle.feeding.specs.Line.{Keeps, keeps-none}
-use Rattle.feeding.specs.Replies.{At}
+use Rattle.feeding.specs.Replies.{At, only-over}
 use Rattle.feeding.specs.Feeds.{begun, again, Lent, lent, Feeds, Ends}
 use Rattle.feeding.proofs.feed as feed
 use Rattle.feeding.proofs.feed.Kinds as feed-kinds
@@ -99,3 +100,16 @@ session {blocks} {outputs} {x} {out = out} {printed = printed} c f =
     let u = goes c first [] refl (keeps-none (x .line)) in
     let g = fed first [] (joined blocks) in
     ap (λ (t : List ℕ). t ++ take printed out) (u .2) ∙ ap (λ (t : List ℕ). g .text ++ t) (ends f .tells (g .stand) (g .line) (u .0) (u .1)) ∙ whole (joined blocks)
+
+-- Where the session has ended by a refused configuration, no more is printed, whatever else the input holds
+pub session-ended : {blocks outputs : List (List ℕ)} {x x' : Lent} {r : Reached}
+    → Calls blocks begun x outputs r x' → r .stage ≡ Ended → (rest : List ℕ) → joined outputs ≡ output (joined blocks ++ rest)
+unfolding At behind
+session-ended {blocks} {outputs} {x} {x'} {r} c e rest =
+    let u = goes c first [] refl (keeps-none (x .line)) in
+    let g = fed first [] (joined blocks) in
+    let o : g .stand ≡ over = only-over (g .stand) (r .stage) (x' .memory) (u .0) e in
+    let k = fed (g .stand) (g .line) rest in
+    let t : k .text ++ last (k .stand) (k .line) ≡ [] = ap (λ (s : Stands). text s (g .line) rest) o ∙ over-silent (g .line) rest in
+    u .2 ∙ sym (append-nil (g .text)) ∙ ap (λ (y : List ℕ). g .text ++ y) (sym t) ∙ sym (append-assoc (g .text) (k .text) (last (k .stand) (k .line)))
+    ∙ ap (λ (f : Fed). f .text ++ last (f .stand) (f .line)) (sym (parts first [] (joined blocks) rest)) ∙ whole (joined blocks ++ rest)

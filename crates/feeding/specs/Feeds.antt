@@ -18,7 +18,7 @@ use Rattle.feeding.specs.declared.gathering.Gathered.{Gathered}
 use Rattle.feeding.specs.Input.{Stands, first, runs, over, print, printing, configures, steps, Said, lineFed, Fed, behind, fed, last}
 use Rattle.feeding.specs.Whole.{parts}
 use Rattle.feeding.specs.Line.{most, Keeps, keeps-none, Gathers, line-cut}
-use Rattle.feeding.specs.Replies.{At, Answers, Begins, GoesOn}
+use Rattle.feeding.specs.Replies.{At, stageNumber, Answers, Begins, GoesOn}
 
 -- nothing is fed yet
 abbrev pub begun : Reached
@@ -52,11 +52,6 @@ pub record Ends (r : Reached) (x : Lent) (out' : List ℕ) (printed' : ℕ) : Ty
   pub tells : (s : Stands) (l : List ℕ) → At s (r .stage) (x .memory) → Keeps l (r .held) (x .line) → take printed' out' ≡ take (r .printed) (x .out) ++ last s l
 
 -- ---- a whole line, stage by stage
-
-unfoldable stageNumber : Stage → ℕ
-stageNumber First = 0
-stageNumber Running = 1
-stageNumber Ended = 2
 
 -- what `print` promises of the answer block
 abbrev pub Prints : (answer out : List ℕ) → ℕ → (out' : List ℕ) → ℕ → Type 0

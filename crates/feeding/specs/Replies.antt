@@ -38,6 +38,17 @@ At first p m = p ≡ First
 At (runs c l) p m = (p ≡ Running) × (configured (m .config) ≡ c) × (lentWell m ≡ true) × Displays c l m
 At over p m = p ≡ Ended
 
+unfoldable pub stageNumber : Stage → ℕ
+stageNumber First = 0
+stageNumber Running = 1
+stageNumber Ended = 2
+
+pub only-over : (s : Stands) (p : Stage) (m : Memory) → At s p m → p ≡ Ended → s ≡ over
+unfolding At stageNumber
+only-over first p m h e = absurd (omega (arith, ap stageNumber (sym h ∙ e)))
+only-over (runs c l) p m h e = absurd (omega (arith, ap stageNumber (sym (h .0) ∙ e)))
+only-over over p m h e = refl
+
 -- the memory's answer
 pub record Answers (a : List ℕ) (m : Memory) : Type 0 where
   pub is : answerOf m ≡ a
