@@ -31,7 +31,9 @@ typedef struct mcx11_t {
     uint8_t answer[MCX11_ANSWER_BYTES]; /* the length of the last answer, and behind it the answer */
 } mcx11_t;
 
-/* The codes of frames. A, B and X are the frame's fields; one that a code does not name is ignored. */
+/* The codes of frames. A, B and X are the frame's fields; one that a code does not name is ignored.
+   B 0 is the running task's own semaphore; in delay, timer and purge it is task A's. Task t's own has the number S + t.
+   X as a tock value is signed: n tocks once, or (uint16_t)-n for every n tocks; 0x8000 is every 32,768. */
 enum mcx11_code {
     MCX11_WAIT = 0x01,          /* for semaphore B */
     MCX11_SIGNAL = 0x02,        /* semaphore B */
@@ -101,8 +103,9 @@ int32_t mcx11_write_line(const uint8_t *frame, size_t length, uint8_t *line, siz
 /* Milliseconds as tocks of per milliseconds each, for X of delay and timer. Gives the tocks, or a number with a minus sign. */
 int32_t mcx11_milliseconds(uint16_t ms, uint16_t per);
 
-/* Begins anew with this configuration. Gives the number, 0 accepted. The bytes lie outside *m; after the call their place may
-   be used again. */
+/* Begins anew with this configuration. Gives the number, 0 accepted. A refused one changes the answer alone: what was begun
+   before goes on with the next frame, and this answer names no task to switch to. The bytes lie outside *m; after the call
+   their place may be used again. */
 static inline uint8_t mcx11_configure(mcx11_t *m, const uint8_t *bytes, size_t length)
 {
     return mcx11_configure_blocks(bytes, length, m->config, sizeof m->config, m->tables, sizeof m->tables, m->slots,

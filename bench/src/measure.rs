@@ -1,7 +1,7 @@
 //! Nanoseconds and instructions a frame.
 
 use std::fs;
-use std::path::PathBuf;
+use std::path::Path;
 use std::process::Command;
 use std::time::Instant;
 
@@ -66,8 +66,8 @@ pub struct Counted {
 
 /// By callgrind, with the frames less without them. None where valgrind is missing.
 pub fn instructions(session: &Session, index: usize) -> Option<Counted> {
-    let file = PathBuf::from("target").join(format!("session-{index}.txt"));
-    fs::write(&file, session.lines()).expect("a file in target/");
+    let file = Path::new(env!("CARGO_MANIFEST_DIR")).join("target").join(format!("session-{index}.txt"));
+    fs::write(&file, session.lines()).expect("a file in bench/target/");
     let count = |who: &str, frames: &str| {
         let output = Command::new("valgrind")
             .args(["--tool=callgrind", "--callgrind-out-file=/dev/null"])

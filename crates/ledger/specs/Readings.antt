@@ -1,5 +1,5 @@
 -- Where document 01 leaves room, what we read in it: a row for each point, shown by a short session and proved by computing both sides.
--- docs/DECISIONS.md gives the reasons, under the same headings.
+-- docs/DECISIONS.md gives the reasons of most, under the same headings.
 use Prim.Native.Nat.{ℕ}
 use Prim.Native.String.{String}
 use mathlib.Core.Path.{_≡_, refl}

@@ -179,7 +179,7 @@ extern "C" fn on_signal(number: i32) {
             line[29 + 9 * place + digit] = b"0123456789ABCDEF"[(value >> (28 - 4 * digit) & 15) as usize];
         }
     }
-    let told: &[u8] = if number == ALARM { b"a call has not returned\n" } else { &line };
+    let told: &[u8] = if number == ALARM { b"the test has not ended\n" } else { &line };
     unsafe {
         write(2, told.as_ptr(), told.len());
         signal(number, 0);
