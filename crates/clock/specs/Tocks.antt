@@ -1,7 +1,6 @@
 -- A tick in two halves: the clock, with the tock that may pass for all timers, then the due timers one at a time. Together they are the ledger's tick.
 use mathlib.Core.Path.{_≡_, refl, sym, ap, _∙_, subst}
 use mathlib.Core.Bool.{Bool, true, false, cond, not}
-use mathlib.Core.Logic.{_⊎_, inl, inr}
 use mathlib.Core.List.{List, map}
 use Prim.Native.Nat.{ℕ, zero, suc, _+_, _≤_}
 use native.Mathlib.Numerals.{add-one}
@@ -36,7 +35,6 @@ drainedTimes (suc n) M = drainedTimes n (signal (nextDue M .semaphore) (takeDue 
 pub record Advanced (s : Shape) (d w d' w' : List ℕ) (n : ℕ) : Type 0 where
   pub few : n ≤ s .timers
   pub enough : n ≤ dueIn (heldIn s w')
-  pub none-or-all : (n ≡ 0) ⊎ (n ≡ dueIn (heldIn s w'))
   pub clock : (c : Config) (L : Ledger) (z : List ℕ) → Shows c s L d z w → Shows c s (clocked c L) d' z w'
   pub whole : (c : Config) (L : Ledger) (z : List ℕ) → Shows c s L d z w → tick c L ≡ drainedTimes n (clocked c L)
 
@@ -73,7 +71,6 @@ module _ (s : Shape) (d w d' : List ℕ) where
       record {
         few = omega arith;
         enough = omega arith;
-        none-or-all = inl refl;
         clock = λ c L z h. rw (test c L z h) (rw e at (does c L z w h));
         whole = λ c L z h. rw (test c L z h);
       }
@@ -87,7 +84,6 @@ module _ (s : Shape) (d w d' : List ℕ) where
       record {
         few = f;
         enough = omega arith;
-        none-or-all = inr due;
         clock = λ c L z h. rw (test c L z h) (shows c L z h);
         whole = λ c L z h.
             let M : Ledger = setClock (suc (L .N)) 0 L in

@@ -15,7 +15,7 @@ use Rattle.ledger.specs.Ledger.{fresh}
 use Rattle.tables.specs.declared.shape.Shape.{Shape}
 use Rattle.tables.specs.Layout.{Fits, fitting}
 use Rattle.tables.specs.Shows.{Of, Shows}
-use Rattle.configuration.specs.declared.Lent.the-variants.{Bad, Good}
+use Rattle.configuration.specs.declared.Lent.the-variants.{Bad}
 use Rattle.configuration.specs.Block.{configured, rule}
 use Rattle.configuration.specs.Layout.{laidOut, laid-out, shapeOf, Lends, of-one, end-most}
 use Rattle.configuration.specs.Accepted.{Accepted, accepted, accepted-head, accepted-length, accepted-states, configured-in}
@@ -111,7 +111,3 @@ module _ (f : List ℕ) (zero : configRefusal f ≡ 0) where
 -- ---- as a caller finds it: the block that it is lent is good, and its shape is the one of the fresh tables
 pub not-bad : (c : Config) → rule c ≡ true → Lends c Bad → ⊥
 not-bad c h e = let z : _≡_ {A = ℕ} 0 1 = cc in omega arith
-
-pub started-shows : {f g d z w : List ℕ} → Started f g d z w → (s : Shape) → Lends (configured g) (Good s) → Shows (configured g) s (fresh (configured g)) d z w
-started-shows {f} {g} {d} {z} {w} h s l =
-    subst (λ (c : Config). Shows c s (fresh c) d z w) (sym (h .holds)) (h .shows s (subst (λ (c : Config). Of c s) (h .holds) (l .1)))

@@ -1,13 +1,11 @@
 -- The configuration block holds a configuration, and the shape is its.
 use mathlib.Core.List.{List}
-use mathlib.Core.Path.{_≡_, refl, sym}
 use Prim.Native.Nat.{ℕ, _≤_}
 use native.Mathlib.Omega.{arith}
 use lib.ListN.{length}
 use Rattle.tables.specs.declared.shape.Shape.{Shape}
 use Rattle.tables.specs.Shows.{Of}
 use Rattle.configuration.specs.Block.{configured}
-use Rattle.queues.specs.declared.Ring.{Ring}
 use Rattle.queues.specs.Rings.{ringOf, RingFits, ring-fits}
 
 -- (no record, so that its many parts stay out of sight where one fact of it is wanted)

@@ -5,7 +5,7 @@ use mathlib.Core.Bool.{Bool, true, false}
 use mathlib.Core.List.{List, _++_}
 use mathlib.Core.Option.{Option, none, some}
 use native.Mathlib.Omega.{arith}
-use borrow.Author.Tests.{eq-eqb, eqb-true, eqb-false, ne-eqb, le-ltb, le-leb}
+use borrow.Author.Tests.{eq-eqb, eqb-true, eqb-false, ne-eqb, le-ltb}
 use lib.Dec.{eqb}
 use lib.ListN.{length, getD, take, drop, length-append}
 use lib.Seq.{take-at}
@@ -24,7 +24,7 @@ use Rattle.line.specs.Answers.{answerTo, leftIn, Gives}
 use Rattle.line.specs.declared.Written.{Written}
 use Rattle.line.specs.declared.Written.the-variants as written-as
 use Rattle.executive.specs.Carried.{never}
-use Rattle.mcx11.specs.Contract.{Memory, memory, fullSize, lentWell, Displays, SameSizes, answering, Configures, Frames}
+use Rattle.mcx11.specs.Contract.{Memory, memory, lentWell, Displays, SameSizes, answering, Configures, Frames}
 use Rattle.mcx11.specs.Calls.{answerOf}
 use Rattle.mcx11.specs.Sizes.{Full, sizes-full, full-kept}
 use Rattle.mcx11.specs.Displayed.{well-full, well-rule, displays-well, answer-short, step-short}

@@ -1,16 +1,16 @@
 -- Fed in any blocks, an input is printed as the ledger's `output` says.
 use Prim.Native.Nat.{ℕ}
-use mathlib.Core.Path.{_≡_, refl, sym, ap, ap₂, _∙_}
-use mathlib.Core.Bool.{Bool, true, false, cond}
+use mathlib.Core.Path.{_≡_, refl, sym, ap, _∙_}
+use mathlib.Core.Bool.{Bool, true, false}
 use mathlib.Core.List.{List, [], _∷_, _++_, append-assoc, append-nil}
 use mathlib.Core.Option.{Option, none, some}
 use borrow.Author.Tests.{eqb-true}
 use lib.Dec.{eqb}
-use Rattle.ledger.specs.Config.{Config, configIn, configRefusal}
-use Rattle.ledger.specs.Ledger.{Ledger, fresh}
+use Rattle.ledger.specs.Config.{configIn, configRefusal}
+use Rattle.ledger.specs.Ledger.{fresh}
 use Rattle.ledger.specs.Session.{answer, refusedConfiguration}
 use Rattle.ledger.specs.Theorems.Parts.{Every, nil, cons}
-use Rattle.ledger.specs.Lines.{digitsOf, frameOf, stepLine, before, linesIn, answersFrom, configured, answersToLines, printed, output}
+use Rattle.ledger.specs.Lines.{digitsOf, frameOf, before, linesIn, answersFrom, configured, answersToLines, printed, output}
 use Rattle.feeding.specs.Input.{Stands, first, runs, over, print, configures, steps, printing, lineFed, Fed, behind, fed, last}
 
 -- ---- in blocks: what is fed in two parts is fed as a whole

@@ -1,5 +1,4 @@
 // The bytes of a line, gathered up to its end. A line that is too long is held only as far as that shows.
-ghost use mathlib.Core.Path.{_≡_};
 ghost use Prim.Native.Nat.{_≤_, _<_};
 ghost use lib.ListN.{length};
 ghost use Rattle.feeding.specs.Line.{most, Gathers};

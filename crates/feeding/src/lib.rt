@@ -11,7 +11,7 @@ use replying::reply_first;
 use replying::reply_next;
 ghost use mathlib.Core.Path.{_≡_};
 ghost use Prim.Native.Nat.{_+_, _*_, _≤_, _<_};
-ghost use lib.ListN.{length, take, drop};
+ghost use lib.ListN.{length, drop};
 ghost use Rattle.rows.specs.Splice.{cut};
 ghost use Rattle.mcx11.specs.Contract.{memory};
 ghost use Rattle.mcx11.specs.Sizes.{Full};

@@ -1,6 +1,6 @@
 -- The ledger: what it keeps, and its fresh state.
 -- Tasks, semaphores, mailboxes and queues are lists whose first item has number 1; no item has number 0.
-use Prim.Native.Nat.{ℕ, zero, suc, _+_, _*_}
+use Prim.Native.Nat.{ℕ, suc, _+_, _*_}
 use mathlib.Core.Bool.{Bool, true, false, cond, not, _&&_}
 use mathlib.Core.List.{List, [], _∷_, map}
 use lib.Dec.{eqb}

@@ -6,8 +6,8 @@ use mathlib.Core.Path.{_≡_, refl}
 use mathlib.Core.List.{List, [], _∷_, map}
 use mathlib.Core.Option.{none as nothing, some}
 use lib.ListN.{replicate, take}
-use Rattle.ledger.specs.Config.{Config, configIn, configRefusal}
-use Rattle.ledger.specs.Ledger.{Semaphore, PENDING, DONE, WAITING, Outcome, begin, Request, dequeue, Timer, Ledger, task, semaphoreOf, mailbox, queue, held, fresh}
+use Rattle.ledger.specs.Config.{configIn, configRefusal}
+use Rattle.ledger.specs.Ledger.{PENDING, WAITING, begin, dequeue, Timer, Ledger, task, semaphoreOf, mailbox, queue, held, fresh}
 use Rattle.ledger.specs.Session.{runFrom}
 use Rattle.ledger.specs.Lines.{number, result, frameOf, lineOf, readLine, writeLine, output}
 use Rattle.ledger.specs.Computing.Hex.{hex, letters, text}

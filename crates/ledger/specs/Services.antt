@@ -8,7 +8,7 @@ use lib.ListN.{length, take, drop}
 use Rattle.ledger.specs.Lists.{at, keep, find, without, insertBy}
 use Rattle.ledger.specs.Config.{Config, Shape}
 use Rattle.ledger.specs.Time.{TockValue, tockValue, tocks, period}
-use Rattle.ledger.specs.Ledger.{Semaphore, PENDING, DONE, WAITING, Outcome, plain, begin, message, entry, refused, semaphore, Request, none, receive, dequeue, enqueue, Blocks, Task, Message, Queue, Timer, Ledger, noBlock, onlyIdle, task, semaphoreOf, mailbox, queue, held, setTask, setSemaphores, setSemaphore, setMailbox, setQueue, setTimers, setClock, setOutcome, setSlot, setRequest, setSuspended, setEventWait, setMessageWait}
+use Rattle.ledger.specs.Ledger.{Semaphore, PENDING, DONE, WAITING, plain, begin, message, entry, semaphore, Request, none, receive, dequeue, enqueue, Message, Timer, Ledger, noBlock, onlyIdle, task, semaphoreOf, mailbox, queue, held, setTask, setSemaphores, setSemaphore, setMailbox, setQueue, setTimers, setClock, setOutcome, setSlot, setRequest, setSuspended, setEventWait, setMessageWait}
 
 -- ---- semaphores
 

@@ -14,7 +14,6 @@ use Rattle.messages.specs.Records.{pending-length, found-some, found-none, take
 use Rattle.messages.specs.Complete.{complete-insert, complete-remove, complete-keep}
 use Rattle.messages.specs.Full.{full}
 use Rattle.tables.specs.declared.shape.Shape.{Shape}
-use Rattle.tables.specs.Layout.{regions}
 use Rattle.tables.specs.Decode.{countOf}
 use Rattle.tables.specs.Shows.{Shows, mailboxesIn}
 use Rattle.ledger.specs.Config.{Config}
@@ -22,7 +21,7 @@ use Rattle.ledger.specs.Lists.{any, find, without, insertBy}
 use Rattle.ledger.specs.Ledger.{Ledger, Message, mailbox, setMailbox}
 use Rattle.ledger.specs.Services.{wanted}
 use Rattle.ledger.specs.Refusals.{inAMailbox}
-use Rattle.mailboxes.specs.Mail.{bytes, mail, bytes-are, mail-is, mailbox-in, renewed, mail-renewed}
+use Rattle.mailboxes.specs.Mail.{bytes, mail, mail-is, mailbox-in, renewed, mail-renewed}
 
 module _ (c : Config) (s : Shape) (L : Ledger) (d z w : List ℕ) (h : Shows c s L d z w) where
   in-mail : (x : ℕ) → any (any (numbered x)) (mailboxesOf (s .tasks) (mail s d)) ≡ inAMailbox L x
@@ -35,10 +34,6 @@ module _ (c : Config) (s : Shape) (L : Ledger) (d z w : List ℕ) (h : Shows c s
   mail-complete =
       ap₂ (λ (a b : ℕ). completeIn a b (mail s d)) (h .of .tasks) (h .of .messages)
       ∙ ap (completeIn (c .T) (c .G)) (mail-is c s L d z w h) ∙ h .shown .messages
-
-  -- a memory that shows a ledger is sound
-  pub sound-shown : completeIn (s .tasks) (s .messages) (pendingIn (countOf (s .messages) (getD d 1 0)) (regions s d .messages)) ≡ true
-  sound-shown = rw (bytes-are s d) mail-complete
 
   -- the count that was read
   module _ (n : ℕ) (e : n ≡ countOf (s .messages) (getD d 1 0)) where

@@ -1,5 +1,5 @@
 -- From the steps inside to what the exported functions promise.
-use Prim.Native.Nat.{ℕ, _+_, _*_, _≤_}
+use Prim.Native.Nat.{ℕ, _*_, _≤_}
 use mathlib.Core.Path.{_≡_, refl, sym, ap, ap₂, _∙_, subst}
 use mathlib.Core.Bool.{Bool, true, false, _&&_}
 use mathlib.Core.List.{List}
@@ -7,11 +7,10 @@ use native.Mathlib.Omega.{arith}
 use lib.ListN.{length, getD}
 use Rattle.ledger.specs.Config.{Config, configIn, configRefusal}
 use Rattle.ledger.specs.Ledger.{Ledger, fresh}
-use Rattle.ledger.specs.Refusals.{refusal}
 use Rattle.ledger.specs.Session as session
 use Rattle.messages.specs.Pending.{pendingIn, completeIn}
 use Rattle.tables.specs.declared.shape.Shape.{Shape}
-use Rattle.tables.specs.Layout.{Fits, fitting, Laid, bound, named, regions, region-at}
+use Rattle.tables.specs.Layout.{Fits, fitting, bound, named, regions, region-at}
 use Rattle.tables.specs.Decode.{countOf}
 use Rattle.tables.specs.Shows.{pendingOf, Of, Shows}
 use Rattle.clock.specs.Held.{Holds, holding}

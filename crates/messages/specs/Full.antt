@@ -10,9 +10,8 @@ use lib.ListN.{length, length-map}
 use borrow.Author.Tests.{ne-eqb, eqb-true, eqb-false, le-leb, leb-true, not-true}
 use Rattle.ledger.specs.Lists.{within, any, all}
 use Rattle.messages.specs.Lists.{and-left, and-right, or-left, or-right, any-map}
-use Rattle.messages.specs.Pending.{Pending, numberOf, pendingIn, mailboxesOf, numbered, inRange, distinct, completeIn}
+use Rattle.messages.specs.Pending.{Pending, numberOf, mailboxesOf, numbered, inRange, distinct, completeIn}
 use Rattle.messages.specs.Complete.{complete-range, complete-distinct, held-is}
-use Rattle.messages.specs.Records.{pending-length}
 
 -- how many of 1 to n pass
 abbrev count : (ℕ → Bool) → ℕ → ℕ
@@ -108,6 +107,3 @@ module _ (tasks n x : ℕ) (low : 1 ≤ x) (high : x ≤ n) where
       let a : all (inRange tasks n) l ≡ true = complete-range tasks n l c in
       held-is tasks n x l a ∙ sym (any-map numberOf (λ y. eqb y x) l)
       ∙ occurs n (map numberOf l) (complete-distinct tasks n l c) (all-numbers tasks n l a) (length-map l numberOf ∙ e) x low high
-
-  pub full-in : (d : List ℕ) → completeIn tasks n (pendingIn n d) ≡ true → any (any (numbered x)) (mailboxesOf tasks (pendingIn n d)) ≡ true
-  full-in d c = full (pendingIn n d) c (pending-length n d)

@@ -4,16 +4,15 @@ use mathlib.Core.Bool.{Bool, true, false, not, _&&_}
 use mathlib.Core.List.{List, [], _∷_, map}
 use mathlib.Core.Option.{none, some}
 use Prim.Native.Nat.{ℕ, zero, suc, _-_, _<_, _≤_}
-use native.Mathlib.Omega.{arith}
 use lib.Dec.{ltb}
 use lib.ListN.{length, getD, replicate, List·getD-map}
 use borrow.Author.Tests.{eq-eqb, ne-eqb, eqb-true, lt-ltb, le-ltb, ltb-true, ltb-false}
-use Rattle.ledger.specs.Lists.{within, at, put, any, keep, find, without, insertBy}
+use Rattle.ledger.specs.Lists.{within, any, keep, find, without, insertBy}
 use Rattle.ledger.specs.Ledger.{Message}
 use Rattle.ledger.specs.Services.{wanted}
 use Rattle.rows.specs.Rows.{insertAt, removeAt, map-insertAt}
 use Rattle.rows.specs.First.{firstOf, keep-insert, keep-insert-other, keep-remove, keep-remove-other, keep-at, map-removeAt, without-is, find-some, find-none, any-is, insertBy-is}
-use Rattle.rows.specs.Tab.{tab, tab-at, tab-put}
+use Rattle.rows.specs.Tab.{tab}
 use Rattle.messages.specs.Lists.{and-left, first-map, first-passes, any-map, any-keep, any-ext, keep-keep, below-any, below-tab, below-eqb}
 use Rattle.messages.specs.Pending.{Pending, pending, for, mailboxOf, mailboxesOf, placeFor, wantedBy, placeOf}
 
@@ -108,23 +107,6 @@ pub mailboxes-none : (n : ℕ) → mailboxesOf n [] ≡ replicate n []
 unfolding mailboxesOf mailboxOf keep tab
 mailboxes-none zero = refl
 mailboxes-none (suc n) = ap (λ (r : List (List Message)). [] ∷ r) (mailboxes-none n)
-
-module _ (n t : ℕ) (l : List Pending) (low : 1 ≤ t) (high : t ≤ n) where
-  pub mailboxes-at : at (mailboxesOf n l) t [] ≡ mailboxOf t l
-  unfolding mailboxesOf
-  mailboxes-at =
-      let e : suc (t - 1) ≡ t = omega arith in
-      tab-at n t (λ i. mailboxOf (suc i) l) [] low high ∙ ap (λ (i : ℕ). mailboxOf i l) e
-
-  -- one mailbox is another, the others are as before
-  pub mailboxes-put : (l' : List Pending) (v : List Message) → mailboxOf t l' ≡ v → ((u : ℕ) → (t ≡ u → ⊥) → mailboxOf u l' ≡ mailboxOf u l)
-      → mailboxesOf n l' ≡ put (mailboxesOf n l) t v
-  unfolding mailboxesOf
-  mailboxes-put l' v own others =
-      let e : suc (t - 1) ≡ t = omega arith in
-      sym (tab-put n t (λ i. mailboxOf (suc i) l) (λ i. mailboxOf (suc i) l') v low
-      (λ j h ne. sym (others (suc j) (λ q. ne (omega arith))))
-      (λ h. sym own ∙ ap (λ (i : ℕ). mailboxOf i l') (sym e)))
 
 mailbox-any : (t : ℕ) (q : Message → Bool) (l : List Pending) → any q (mailboxOf t l) ≡ any (λ p. for t p && q (p .message)) l
 unfolding mailboxOf

@@ -1,5 +1,5 @@
 -- Records and their bytes: what the searches find and what the changes of rows are on mailboxes.
-use mathlib.Core.Path.{_≡_, refl, sym, ap, _∙_}
+use mathlib.Core.Path.{_≡_, sym, ap, _∙_}
 use mathlib.Core.Bool.{Bool, true, false, not}
 use mathlib.Core.List.{List, [], map}
 use mathlib.Core.Option.{none, some}
@@ -19,10 +19,6 @@ use Rattle.messages.specs.Mailboxes.{mailbox-insert, mailbox-insert-othe
 pub pending-length : (n : ℕ) (d : List ℕ) → length (pendingIn n d) ≡ n
 unfolding pendingIn
 pending-length n d = length-map (rowsOf 4 n d) pendingOf ∙ length-rows 4 n d
-
-pub pending-none : (d : List ℕ) → pendingIn 0 d ≡ []
-unfolding pendingIn
-pending-none d = refl
 
 pub pending-at : (n k : ℕ) (d : List ℕ) → k < n → getD (pendingIn n d) k (pendingOf []) ≡ pendingAt k d
 unfolding pendingIn pendingAt

@@ -1,14 +1,13 @@
 -- What an entry put into or taken out of a ring is on the ledger's queue. Rings lie apart, so the other queues hold what they held.
-use mathlib.Core.Path.{_≡_, refl, sym, ap, _∙_, subst}
-use mathlib.Core.Logic.{⊎-elim, _⊎_, inl, inr}
+use mathlib.Core.Path.{_≡_, refl, sym, ap, _∙_}
+use mathlib.Core.Logic.{_⊎_, inl, inr}
 use mathlib.Core.List.{List, [], _∷_, _++_}
 use mathlib.Core.Bool.{Bool, true, false}
-use Prim.Native.Nat.{ℕ, zero, suc, _+_, _-_, _*_, _<_, _≤_}
+use Prim.Native.Nat.{ℕ, suc, _+_, _-_, _*_, _<_, _≤_}
 use native.Mathlib.Omega.{arith}
-use native.Mathlib.Nat.{add-assoc}
-use lib.Dec.{ltb, leb}
-use lib.ListN.{length, getD, take, drop, set, length-set, length-append, length-drop}
-use lib.Seq.{getD-set-same, getD-set-other, drop-append-le, drop-cons, drop-drop}
+use lib.Dec.{ltb}
+use lib.ListN.{length, getD, drop, set, length-set, length-append, length-drop}
+use lib.Seq.{getD-set-same, getD-set-other, drop-append-le, drop-drop}
 use native.Mathlib.Numerals.{add-one}
 use borrow.Author.Tests.{ltb-true, ltb-false, lt-ltb, le-leb}
 use Rattle.rows.specs.Splice.{cut, splice}
@@ -16,7 +15,6 @@ use Rattle.rows.specs.Laws.{cut-inside, cut-apart, length-cut}
 use Rattle.rows.specs.Rows.{row-fits}
 use Rattle.rings.specs.Ring.{wrapOf, holds}
 use Rattle.rings.specs.Laws.{wrap-in, holds-put}
-use Rattle.ledger.specs.Config as config
 use Rattle.ledger.specs.Config.{Config}
 use Rattle.ledger.specs.Ledger.{Ledger, Queue, queue, held, setQueue}
 use Rattle.ledger.specs.Services.{shape, putEntry}

@@ -4,7 +4,7 @@ use mathlib.Core.List.{List, [], _∷_, map}
 use Prim.Native.Nat.{ℕ, zero, suc, _+_, _-_, _*_, _<_, _≤_}
 use native.Mathlib.Omega.{arith}
 use native.Mathlib.Nat.{mul-comm, not-suc-le-zero}
-use lib.ListN.{length, getD, take, drop}
+use lib.ListN.{length, getD, take}
 use Rattle.rows.specs.Splice.{cut}
 use Rattle.rows.specs.Laws.{length-cut, cut-cut}
 use Rattle.rings.specs.Ring.{holds}
@@ -17,7 +17,7 @@ use Rattle.ledger.specs.Services.{shape}
 use Rattle.tables.specs.declared.shape.Shape.{Shape}
 use Rattle.tables.specs.Decode.{headOf, countOf}
 use Rattle.tables.specs.Back.{head-in, count-in}
-use Rattle.tables.specs.Layout.{Regions, regions, region, named, bound, Fits, fitting, laid, region-at}
+use Rattle.tables.specs.Layout.{regions, region, named, bound, Fits, fitting, laid, region-at}
 use Rattle.tables.specs.Shows.{bytesOf, begins, heldAt, Of, Shows}
 use Rattle.tables.specs.Items.{queue-is}
 use Rattle.queues.specs.declared.Ring.{Ring}

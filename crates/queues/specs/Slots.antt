@@ -3,26 +3,25 @@ use mathlib.Core.Path.{_≡_, refl, sym, ap, _∙_, subst}
 use mathlib.Core.List.{List, [], _∷_, _++_}
 use Prim.Native.Nat.{ℕ, zero, suc, _+_, _-_, _*_, _<_, _≤_}
 use native.Mathlib.Omega.{arith}
-use native.Mathlib.Nat.{zero-add, add-zero, not-suc-le-zero}
+use native.Mathlib.Nat.{zero-add, not-suc-le-zero}
 use borrow.Rule.Slice.PartMut.{putMid}
 use lib.ListN.{length, getD, take, drop, set, length-set}
 use lib.Seq.{take-at}
 use Rattle.rows.specs.Splice.{cut, splice}
-use Rattle.rows.specs.Laws.{length-cut, length-splice, lent-back}
+use Rattle.rows.specs.Laws.{length-splice, lent-back}
 use Rattle.rows.specs.Rows.{rowAt, length-row, row-fits, row-inside, row-outside}
 use Rattle.rows.specs.Tab.{tab-length}
 use Rattle.rings.specs.Ring.{holds}
-use Rattle.rings.specs.Laws.{holds-first, holds-length}
+use Rattle.rings.specs.Laws.{holds-first}
 use Rattle.ledger.specs.Config.{Config}
 use Rattle.ledger.specs.Ledger as ledger
 use Rattle.ledger.specs.Ledger.{Ledger, Queue, Task, task, queue, held, setTask, setQueue, setOutcome, setSlot}
 use Rattle.ledger.specs.Services.{shape, copyInto, takeEntry}
 use Rattle.tables.specs.declared.shape.Shape.{Shape}
-use Rattle.tables.specs.declared.tasks.Task as record-type
 use Rattle.tables.specs.declared.tasks.Outcome.the-variants.{Entry}
-use Rattle.tables.specs.Layout.{Laid, bound, region, Regions, named, regions, but, byte-written}
-use Rattle.tables.specs.Decode.{viewBlocks, viewOutcome, viewRequest, viewTask, recordOf}
-use Rattle.tables.specs.Shows.{taskAt, tasksIn, Shown, Shows, Does}
+use Rattle.tables.specs.Layout.{bound, Regions, named, regions, but, byte-written}
+use Rattle.tables.specs.Decode.{viewOutcome, viewTask, recordOf}
+use Rattle.tables.specs.Shows.{taskAt, tasksIn, Shown, Shows}
 use Rattle.tables.specs.Items.{withTasks, withQueues, task-shown}
 use Rattle.tables.specs.Stored.{shows-as, record-is, shown-task}
 use Rattle.tables.specs.Again.{task-task, task-set}

@@ -1,29 +1,28 @@
 -- Putting and taking in the lent memory: the bytes that the calls leave, as regions, and so the ledger's own change.
 use mathlib.Core.Path.{_≡_, refl, sym, ap, _∙_, subst}
-use mathlib.Core.List.{List, [], _∷_, _++_}
+use mathlib.Core.List.{List}
 use Prim.Native.Nat.{ℕ, zero, suc, _+_, _-_, _*_, _<_, _≤_}
 use native.Mathlib.Omega.{arith}
 use native.Mathlib.Nat.{not-suc-le-zero}
 use borrow.Rule.Slice.PartMut.{putMid}
-use lib.ListN.{length, getD, take, drop, set, length-set}
+use lib.ListN.{length, getD, set, length-set}
 use Rattle.rows.specs.Splice.{cut, splice}
 use Rattle.rows.specs.Laws.{length-splice, lent-back}
 use Rattle.rows.specs.Rows.{row-fits}
-use Rattle.rings.specs.Ring.{wrapOf, holds}
+use Rattle.rings.specs.Ring.{wrapOf}
 use Rattle.rings.specs.Laws.{wrap-in}
-use Rattle.ledger.specs.Config as config
 use Rattle.ledger.specs.Config.{Config}
 use Rattle.ledger.specs.Ledger.{Ledger, queue, held}
-use Rattle.ledger.specs.Services.{shape, putEntry}
+use Rattle.ledger.specs.Services.{putEntry}
 use Rattle.tables.specs.declared.shape.Shape.{Shape}
-use Rattle.tables.specs.Layout.{Laid, bound, region, Regions, named, regions, but, written, byte-written, region-length}
+use Rattle.tables.specs.Layout.{bound, Regions, named, regions, but, written, byte-written, region-length}
 use Rattle.tables.specs.Back.{head-in}
-use Rattle.tables.specs.Shows.{begins, Of, Shown, Shows}
+use Rattle.tables.specs.Shows.{begins, Shows}
 use Rattle.tables.specs.Items.{withQueues}
 use Rattle.tables.specs.Stored.{shows-as}
 use Rattle.queues.specs.declared.Ring.{Ring}
-use Rattle.queues.specs.Rings.{ringOf, RingFits, headIn, countIn, bodyIn, inside, held-is, held-length}
-use Rattle.queues.specs.Holding.{put-shown, take-shown}
+use Rattle.queues.specs.Rings.{ringOf, headIn, countIn, bodyIn, inside, held-length}
+use Rattle.queues.specs.Holding.{put-shown}
 
 module _ (c : Config) (s : Shape) (L : Ledger) (d z w : List ℕ) (h : Shows c s L d z w) where
   pub rings-length : length (regions s d .rings) ≡ 2 * c .Q

@@ -1,18 +1,17 @@
 -- What a ring holds after an entry is put in or taken out.
 use mathlib.Core.Path.{_≡_, refl, sym, ap, _∙_}
-use mathlib.Core.List.{List, [], _∷_, _++_, append-assoc}
+use mathlib.Core.List.{List, [], _∷_, _++_}
 use mathlib.Core.Bool.{Bool, true, false}
 use Prim.Native.Nat.{ℕ, zero, suc, _+_, _-_, _*_, _<_, _≤_}
-use native.Mathlib.Nat.{add-zero, suc-add, add-suc, suc-mul, mul-le-mul-right}
+use native.Mathlib.Nat.{add-zero, suc-add}
 use native.Mathlib.Numerals.{add-one}
 use native.Mathlib.Omega.{arith}
-use lib.ListN.{length, getD, take, drop, length-append, length-take, length-drop}
-use lib.Seq.{take-all, take-at, drop-at, take-append-le, drop-append-le, take-take, drop-drop, length-take-le, getD-set-same, getD-set-other}
+use lib.ListN.{length, getD, drop}
 use lib.Dec.{ltb}
 use borrow.Author.Tests.{lt-ltb, le-ltb, ltb-true, ltb-false}
 use Rattle.rows.specs.Splice.{cut, splice}
 use Rattle.rows.specs.Rows.{rowAt, row-same, row-other, row-fits}
-use Rattle.rings.specs.Ring.{pick, wrapOf, gather, holds}
+use Rattle.rings.specs.Ring.{wrapOf, gather, holds}
 
 module _ {A : Type 0} where
   -- two that agree place by place

@@ -1,13 +1,13 @@
 -- Laws of `cut` and `splice`, and the turns of the loops that copy and shift.
-use mathlib.Core.Path.{_≡_, refl, sym, ap, _∙_, subst}
+use mathlib.Core.Path.{_≡_, sym, ap, _∙_, subst}
 use mathlib.Core.List.{List, [], _∷_, _++_, append-assoc, append-nil}
-use Prim.Native.Nat.{ℕ, zero, suc, _+_, _-_, _*_, _<_, _≤_}
-use native.Mathlib.Nat.{add-zero, add-assoc, suc-add}
+use Prim.Native.Nat.{ℕ, zero, suc, _+_, _-_, _<_, _≤_}
+use native.Mathlib.Nat.{add-assoc}
 use native.Mathlib.Numerals.{add-one}
 use native.Mathlib.Omega.{arith}
-use lib.ListN.{length, getD, take, drop, set, drop-of-length-le, length-append, length-take, length-drop, length-set, List·getD-append, take-append-drop}
+use lib.ListN.{length, getD, take, drop, set, drop-of-length-le, length-append, length-take, length-drop, List·getD-append, take-append-drop}
 use mathlib.Core.Logic.{_⊎_, inl, inr}
-use lib.Seq.{sets-eq, take-nil, take-at, length-take-le, take-length, drop-cons, take-suc, getD-take, getD-drop, getD-append-add, set-at, append-snoc, take-append-le, drop-append-le, take-take, take-add, drop-drop, drop-at, paste, paste-suc, length-paste, length-paste-head}
+use lib.Seq.{sets-eq, take-nil, take-at, length-take-le, take-length, drop-cons, take-suc, getD-take, getD-drop, getD-append-add, set-at, take-append-le, drop-append-le, take-take, take-add, drop-drop, drop-at, paste, paste-suc, length-paste-head}
 use borrow.Rule.Slice.PartMut.{putMid}
 use Rattle.rows.specs.Splice.{cut, splice}
 

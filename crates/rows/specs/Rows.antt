@@ -1,12 +1,11 @@
 -- Records of w bytes, one behind the other, as a list of rows; and what the changes of bytes are on rows.
-use mathlib.Core.Path.{_≡_, refl, sym, ap, _∙_, subst}
-use mathlib.Core.List.{map, List, [], _∷_, _++_, append-assoc, append-nil}
+use mathlib.Core.Path.{_≡_, refl, sym, ap, _∙_}
+use mathlib.Core.List.{map, List, [], _∷_, _++_, append-assoc}
 use Prim.Native.Nat.{ℕ, zero, suc, _+_, _-_, _*_, _<_, _≤_}
-use native.Mathlib.Nat.{add-zero, add-assoc, zero-mul, suc-mul, add-mul, suc-add, zero-add, add-comm, mul-le-mul-right, one-mul}
-use native.Mathlib.Numerals.{add-one}
+use native.Mathlib.Nat.{zero-mul, suc-mul, add-mul, suc-add, zero-add, add-comm, mul-le-mul-right, one-mul}
 use native.Mathlib.Omega.{arith}
-use lib.ListN.{drop-of-length-le, length, getD, take, drop, set, length-append, length-take, length-drop, take-append-drop}
-use lib.Seq.{drop-cons, take-take, take-add, getD-take, getD-drop, length-take-le, take-append-le, drop-append-le, take-at, drop-at, drop-drop, set-at, getD-at, getD-set-same, getD-set-other}
+use lib.ListN.{drop-of-length-le, length, getD, take, drop, set, length-take, length-drop, take-append-drop}
+use lib.Seq.{drop-cons, getD-take, getD-drop, length-take-le, take-append-le, drop-append-le, take-at, drop-at, drop-drop, set-at, getD-at, getD-set-same, getD-set-other}
 use Rattle.rows.specs.Splice.{cut, splice}
 use Rattle.rows.specs.Laws.{splice-splice, length-cut, cut-cut, length-splice, splice-in}
 

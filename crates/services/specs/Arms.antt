@@ -1,15 +1,14 @@
 -- The services' arms: each takes what its calls ensure, and says what the ledger's function does.
 use mathlib.Core.Path.{_≡_, refl, sym, ap, ap₂, _∙_, subst}
-use mathlib.Core.Bool.{Bool, true, false, cond}
 use mathlib.Core.List.{List, [], _∷_}
-use Prim.Native.Nat.{ℕ, zero, suc, _+_, _-_, _*_, _<_, _≤_}
+use Prim.Native.Nat.{ℕ, zero, suc, _+_, _-_, _<_, _≤_}
 use native.Mathlib.Omega.{arith}
 use lib.ListN.{length, getD, set}
 use Rattle.rows.specs.Tab.{tab-length}
 use Rattle.tables.specs.declared.shape.Shape.{Shape}
 use Rattle.tables.specs.declared.tasks.Blocks.{Blocks}
 use Rattle.tables.specs.declared.semaphores.Semaphore as state
-use Rattle.tables.specs.declared.semaphores.Semaphore.the-variants.{Pending, Done, Waiting}
+use Rattle.tables.specs.declared.semaphores.Semaphore.the-variants.{Waiting}
 use Rattle.tables.specs.Layout.{Fits, regions, semaphore-at}
 use Rattle.tables.specs.Decode.{semaphoreOf, viewBlocks, viewSemaphore, viewTask, recordOf}
 use Rattle.tables.specs.Back.{Waiter}

@@ -2,7 +2,6 @@
 use tables::semaphores::Semaphore;
 use tables::shape::Shape;
 use tables::tasks::Outcome;
-ghost use mathlib.Core.Path.{_≡_};
 ghost use Prim.Native.Nat.{_≤_};
 ghost use lib.ListN.{length};
 ghost use Rattle.tables.specs.Layout.{Fits};

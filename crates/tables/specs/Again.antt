@@ -1,5 +1,5 @@
 -- An item of the ledger set twice is set once.
-use mathlib.Core.Path.{_≡_, refl, sym, ap, ap₂, _∙_}
+use mathlib.Core.Path.{_≡_, refl, ap, ap₂, _∙_}
 use mathlib.Core.List.{List, [], _∷_}
 use Prim.Native.Nat.{ℕ, zero, suc, _≤_}
 use native.Mathlib.Omega.{arith}
@@ -8,7 +8,7 @@ use lib.ListN.{length, set}
 use lib.Seq.{getD-set-same}
 use Rattle.ledger.specs.Lists.{at, put}
 use Rattle.ledger.specs.Ledger as ledger
-use Rattle.ledger.specs.Ledger.{Ledger, Task, Request, task, setTask, setRequest, setOutcome}
+use Rattle.ledger.specs.Ledger.{Ledger, Task, Request, task, setTask, setRequest}
 
 set-set : {A : Type 0} (l : List A) (n : ℕ) (a b : A) → set (set l n b) n a ≡ set l n a
 set-set [] n a b = refl

@@ -1,11 +1,10 @@
 -- What is stored decodes to what it was, and what is decoded is in range.
 use mathlib.Core.Path.{_≡_, refl}
-use mathlib.Core.Bool.{Bool, true, false, cond}
-use mathlib.Core.Logic.{⊎-elim, _⊎_, inl, inr}
+use mathlib.Core.Bool.{Bool, true, false}
 use Prim.Native.Nat.{ℕ, _<_, _≤_}
 use native.Mathlib.Omega.{arith}
 use lib.Dec.{eqb, leb, ltb}
-use borrow.Author.Tests.{eq-eqb, ne-eqb, eqb-true, eqb-false, le-leb, lt-leb, leb-true, leb-false, ltb-true, ltb-false}
+use borrow.Author.Tests.{ne-eqb, eqb-false, le-leb, lt-leb, leb-true, ltb-true}
 use Rattle.tables.specs.declared.tasks.Blocks.{Blocks}
 use Rattle.tables.specs.declared.tasks.Outcome.{Outcome}
 use Rattle.tables.specs.declared.tasks.Outcome.the-variants.{Plain, Begin, Message, Entry, Refused, Semaphore}
@@ -13,7 +12,7 @@ use Rattle.tables.specs.declared.tasks.Request.{Request}
 use Rattle.tables.specs.declared.tasks.Request.the-variants.{None, Receive, Dequeue, Enqueue}
 use Rattle.tables.specs.declared.semaphores.Semaphore as state
 use Rattle.tables.specs.declared.semaphores.Semaphore.the-variants.{Pending, Done, Waiting}
-use Rattle.tables.specs.Decode.{blocksOf, blocksByte, outcomeOf, outcomeKind, outcomeFirst, outcomeSecond, outcomeThird, requestOf, requestKind, requestArgument, semaphoreOf, semaphoreByte, headOf, countOf, leftOf}
+use Rattle.tables.specs.Decode.{blocksOf, blocksByte, outcomeOf, outcomeKind, outcomeFirst, outcomeSecond, outcomeThird, requestOf, requestKind, requestArgument, semaphoreOf, semaphoreByte, headOf, countOf}
 
 -- a task that waits is one of the T tasks
 abbrev pub Waiter : ℕ → state.Semaphore → Type 0
@@ -91,8 +90,3 @@ head-in n x h = case (ltb x n) (λ e. rw e (ltb-true x n e)) (λ e. rw e h)
 
 pub count-in : (n x : ℕ) → countOf n x ≤ n
 count-in n x = case (leb x n) (λ e. rw e (leb-true x n e)) (λ e. rw e (omega arith))
-
-pub left-in : (K x : ℕ) → 1 ≤ K → (1 ≤ leftOf K x) × (leftOf K x ≤ K)
-left-in K x h =
-    case (eqb x 0) (λ e. rw e (h, omega arith))
-    (λ e. case (leb x K) (λ g. rw (e, g) (omega (arith, eqb-false x 0 e), leb-true x K g)) (λ g. rw (e, g) (h, omega arith)))

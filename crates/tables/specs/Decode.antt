@@ -1,11 +1,10 @@
 -- What the bytes mean: any byte decodes to one of the program's items, and each of these is one of the ledger's.
 use mathlib.Core.Bool.{Bool, true, false, cond}
 use mathlib.Core.List.{List, [], _∷_}
-use Prim.Native.Nat.{ℕ, suc, _/_, _%_, _+_, _-_, _*_}
+use Prim.Native.Nat.{ℕ, _/_, _%_}
 use lib.Dec.{eqb, leb, ltb}
 use lib.Bits.{bitOr}
 use lib.ListN.{getD, take}
-use Rattle.rows.specs.Rows.{rowAt}
 use Rattle.tables.specs.declared.tasks.Blocks.{Blocks}
 use Rattle.tables.specs.declared.tasks.Outcome.{Outcome}
 use Rattle.tables.specs.declared.tasks.Outcome.the-variants.{Plain, Begin, Message, Entry, Refused, Semaphore}

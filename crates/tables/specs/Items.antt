@@ -1,17 +1,17 @@
 -- One item of the memory is new: what the ledger is that the memory then shows. Every law takes the new regions and what they say.
-use mathlib.Core.Path.{_≡_, refl, sym, ap, _∙_}
+use mathlib.Core.Path.{_≡_, sym, ap, _∙_}
 use mathlib.Core.Bool.{true}
 use mathlib.Core.List.{List, [], map}
-use Prim.Native.Nat.{ℕ, zero, suc, _+_, _-_, _*_, _<_, _≤_}
+use Prim.Native.Nat.{ℕ, suc, _-_, _<_, _≤_}
 use native.Mathlib.Omega.{arith}
 use lib.ListN.{length, getD}
-use Rattle.rows.specs.Tab.{tab, tab-at, tab-put, at-map, map-put, at-every}
+use Rattle.rows.specs.Tab.{tab-at, tab-put, at-map, map-put, at-every}
 use Rattle.messages.specs.Pending.{pendingIn, mailboxOf, mailboxesOf, completeIn}
 use Rattle.ledger.specs.Lists.{at, put}
 use Rattle.ledger.specs.Config.{Config}
 use Rattle.ledger.specs.Ledger as ledger
 use Rattle.ledger.specs.Ledger.{Ledger, Task, Semaphore, Message, Queue, Timer, task, semaphoreOf, mailbox, queue, held, setTask, setSemaphores, setSemaphore, setMailbox, setQueue, setTimers, setClock}
-use Rattle.ledger.specs.Session.{TimerLeft, timerLeft}
+use Rattle.ledger.specs.Session.{timerLeft}
 use Rattle.tables.specs.Layout.{Regions}
 use Rattle.tables.specs.Decode.{countOf, leftOf}
 use Rattle.tables.specs.Shows.{taskAt, tasksIn, semaphoreCount, semaphoreAt, semaphoresIn, heldAt, queuesIn, pendingOf, mailboxesIn, timersOf, ticksIn, Shown}

@@ -1,30 +1,27 @@
 -- What each store of a task's or a semaphore's bytes is on the ledgers that the memory shows.
 use mathlib.Core.Path.{_≡_, refl, sym, ap, _∙_, subst}
-use mathlib.Core.Bool.{Bool, true, false, cond}
-use mathlib.Core.List.{List, [], _∷_}
-use Prim.Native.Nat.{ℕ, zero, suc, _+_, _-_, _*_, _<_, _≤_}
+use mathlib.Core.List.{List}
+use Prim.Native.Nat.{ℕ, _+_, _-_, _*_, _<_, _≤_}
 use native.Mathlib.Omega.{arith}
-use lib.ListN.{length, getD, take, drop, set, length-set}
-use lib.Seq.{sets, sets-eq, getD-set-same, getD-set-other}
+use lib.ListN.{length, getD, set, length-set}
+use lib.Seq.{getD-set-same, getD-set-other}
 use borrow.Rule.Slice.PartMut.{putMid}
 use Rattle.rows.specs.Splice.{cut, splice}
 use Rattle.rows.specs.Laws.{length-splice, lent-back}
 use Rattle.rows.specs.Rows.{rowAt, elems, drop-elems, length-row, row-fits, row-inside, row-outside}
 use Rattle.ledger.specs.Config.{Config}
 use Rattle.ledger.specs.Ledger as ledger
-use Rattle.ledger.specs.Ledger.{Ledger, task, setTask, setSemaphore, setBlocks, setOutcome, setRequest, setSlot}
-use Rattle.ledger.specs.Services.{shape}
+use Rattle.ledger.specs.Ledger.{Ledger, task, setTask, setSemaphore, setBlocks, setOutcome, setRequest}
 use Rattle.tables.specs.declared.shape.Shape.{Shape}
 use Rattle.tables.specs.declared.tasks.Blocks.{Blocks}
 use Rattle.tables.specs.declared.tasks.Outcome.{Outcome}
 use Rattle.tables.specs.declared.tasks.Request.{Request}
-use Rattle.tables.specs.declared.tasks.Request.the-variants.{None, Receive, Dequeue, Enqueue}
 use Rattle.tables.specs.declared.tasks.Task.{Task}
 use Rattle.tables.specs.declared.semaphores.Semaphore as state
-use Rattle.tables.specs.Layout.{Laid, fitting, record-in, bound, region, Regions, named, regions, but, written, byte-written, region-length}
-use Rattle.tables.specs.Decode.{blocksOf, blocksByte, outcomeOf, outcomeKind, outcomeFirst, outcomeSecond, outcomeThird, requestOf, requestKind, requestArgument, outcomeBytes, requestBytes, semaphoreOf, semaphoreByte, viewBlocks, viewOutcome, viewRequest, viewSemaphore, viewTask, recordOf}
+use Rattle.tables.specs.Layout.{fitting, record-in, bound, Regions, named, regions, but, written, byte-written, region-length}
+use Rattle.tables.specs.Decode.{blocksOf, blocksByte, outcomeOf, requestOf, outcomeBytes, requestBytes, semaphoreOf, semaphoreByte, viewBlocks, viewOutcome, viewRequest, viewSemaphore, viewTask, recordOf}
 use Rattle.tables.specs.Back.{Waiter, Asked, blocks-back, outcome-back, request-back, semaphore-back}
-use Rattle.tables.specs.Shows.{waitingIn, taskAt, semaphoreCount, semaphoreAt, Shown, Of, Shows}
+use Rattle.tables.specs.Shows.{waitingIn, taskAt, semaphoreAt, Shown, Shows}
 use Rattle.tables.specs.Items.{withTasks, withSemaphores, task-is, task-shown, semaphore-shown}
 
 -- what is shown in the regions of other bytes

@@ -1,10 +1,10 @@
 -- An enqueue that waits: its bytes are stored, then the request that names them.
 use mathlib.Core.Path.{_≡_, refl, sym, ap, _∙_, subst}
 use mathlib.Core.List.{List}
-use Prim.Native.Nat.{ℕ, _+_, _-_, _*_, _<_, _≤_}
+use Prim.Native.Nat.{ℕ, _+_, _-_, _*_, _≤_}
 use native.Mathlib.Omega.{arith}
 use native.Mathlib.Nat.{add-zero}
-use lib.ListN.{length, getD, take, drop}
+use lib.ListN.{length, take, drop}
 use lib.Seq.{take-at}
 use Rattle.rows.specs.Splice.{cut, splice}
 use Rattle.rows.specs.Laws.{length-cut, length-splice, splice-whole}
@@ -17,7 +17,7 @@ use Rattle.ledger.specs.Services.{shape}
 use Rattle.tables.specs.declared.shape.Shape.{Shape}
 use Rattle.tables.specs.declared.tasks.Request.the-variants.{Enqueue}
 use Rattle.tables.specs.Layout.{Fits, laid, waiting-in, bound, region, named, regions, but, written}
-use Rattle.tables.specs.Decode.{viewOutcome, viewRequest, viewTask, recordOf}
+use Rattle.tables.specs.Decode.{viewRequest, viewTask}
 use Rattle.tables.specs.Shows.{tasksIn, taskAt, waitingIn, Shown, Shows}
 use Rattle.tables.specs.Items.{withTasks}
 use Rattle.tables.specs.Stored.{shows-as, record-is, shown-task, waiting-length, rows-shown}

@@ -1,23 +1,22 @@
 -- A task's wait withdrawn: each byte that is the task becomes 0, which is each semaphore WAITING with it PENDING.
 use mathlib.Core.Path.{_≡_, refl, sym, ap, _∙_, subst}
-use mathlib.Core.Bool.{Bool, true, false, cond}
 use mathlib.Core.List.{List, map}
-use Prim.Native.Nat.{ℕ, suc, _+_, _-_, _<_, _≤_}
+use Prim.Native.Nat.{ℕ, _+_, _-_, _<_, _≤_}
 use native.Mathlib.Omega.{arith}
 use native.Mathlib.Numerals.{add-one}
 use borrow.Rule.Slice.PartMut.{putMid}
-use borrow.Author.Tests.{ne-eqb, eq-eqb, eqb-true, eqb-false, le-leb}
+use borrow.Author.Tests.{ne-eqb, eqb-true, le-leb}
 use lib.Dec.{eqb, leb}
 use lib.ListN.{length, getD, set, length-map, List·getD-map}
 use Rattle.rows.specs.Splice.{cut, splice}
 use Rattle.rows.specs.Laws.{length-cut, length-splice, splice-whole, lent-back}
 use Rattle.rows.specs.Rows.{mapUpto, mapUpto-at, mapUpto-suc, mapUpto-all}
-use Rattle.rows.specs.Tab.{tab, tab-ext, map-tab}
+use Rattle.rows.specs.Tab.{tab-ext, map-tab}
 use Rattle.ledger.specs.Config.{Config}
-use Rattle.ledger.specs.Ledger.{Ledger, Semaphore, PENDING, DONE, WAITING, setSemaphores}
+use Rattle.ledger.specs.Ledger.{Ledger, Semaphore}
 use Rattle.ledger.specs.Services.{notWaiting, withdrawWait}
 use Rattle.tables.specs.declared.shape.Shape.{Shape}
-use Rattle.tables.specs.Layout.{Laid, bound, region, Regions, named, regions, but, written, region-length}
+use Rattle.tables.specs.Layout.{bound, region, Regions, named, regions, but, written}
 use Rattle.tables.specs.Decode.{semaphoreOf, clearedOf, viewSemaphore}
 use Rattle.tables.specs.Back.{case}
 use Rattle.tables.specs.Shows.{semaphoreCount, semaphoreAt, semaphoresIn, Shows}

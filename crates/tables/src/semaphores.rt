@@ -2,7 +2,7 @@
 use crate::shape::Shape;
 ghost use mathlib.Core.Path.{_≡_};
 ghost use mathlib.Core.List.{map};
-ghost use Prim.Native.Nat.{ℕ, _+_, _-_, _≤_};
+ghost use Prim.Native.Nat.{_+_, _-_, _≤_};
 ghost use lib.ListN.{length, getD};
 ghost use Rattle.tables.specs.Decode.{semaphoreOf, semaphoreByte, clearedOf, viewSemaphore};
 ghost use Rattle.tables.specs.Layout.{Fits};

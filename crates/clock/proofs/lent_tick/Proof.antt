@@ -42,7 +42,6 @@ use denote.Triple.Walked.{says, needs, Stays, stay-none, walkOf, goes-none, Walk
 use denote.Exit.{yes}
 use Rattle.clock.specs.Ticks.{AfterTick}
 use Rattle.clock.specs.declared.Ticks.{Ticks}
-use Rattle.clock.specs.declared.Ticked.{Ticked}
 use Rattle.clock.proofs.Ticks as T
 use Rattle.clock.proofs.Ticks.Laws as T′
 use Rattle.clock.proofs.Ticked as R

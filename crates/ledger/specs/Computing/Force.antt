@@ -1,9 +1,9 @@
 -- To compute long sessions: a ledger, computed to its last item before it is handed on.
-use Prim.Native.Nat.{ℕ, zero, suc}
+use Prim.Native.Nat.{ℕ}
 use mathlib.Core.Path.{_≡_, refl, _∙_}
 use mathlib.Core.Bool.{Bool, true, false}
 use mathlib.Core.List.{List, [], _∷_}
-use Rattle.ledger.specs.Ledger.{Semaphore, PENDING, DONE, WAITING, Outcome, plain, begin, message, entry, refused, semaphore, Request, none, receive, dequeue, enqueue, Blocks, Task, Message, Queue, Timer, Ledger}
+use Rattle.ledger.specs.Ledger.{Semaphore, PENDING, DONE, WAITING, Outcome, plain, begin, message, entry, refused, semaphore, Request, none, receive, dequeue, enqueue, Task, Message, Queue, Timer, Ledger}
 
 module _ {B : Type 0} where
   unfoldable pub forceBool : Bool → (Bool → B) → B

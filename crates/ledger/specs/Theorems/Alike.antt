@@ -516,12 +516,3 @@ alike-step {l} {l'} c f a = record { refusals = same-refusal c a f; ledgers = bo
 
     both : Agree (step c f l) (step c f l')
     both = go (eqb n 0) refl
-
--- the same of the compared items
-pub record SameSteps (c : Config) (f : List ℕ) (l l' : Ledger) : Type 0 where
-  pub refusals : refusal c l f ≡ refusal c l' f
-  pub items : items (step c f l .ledger) ≡ items (step c f l' .ledger)
-  pub answers : step c f l .answered ≡ step c f l' .answered
-
-pub same-step : {l l' : Ledger} (c : Config) (f : List ℕ) → items l ≡ items l' → Taken l → Taken l' → SameSteps c f l l'
-same-step c f e h h' = let s = alike-step c f (compared e h h') in record { refusals = s .refusals; items = same-items (s .ledgers); answers = s .answers }

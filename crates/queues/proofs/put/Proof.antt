@@ -1,13 +1,10 @@
 use Rattle.queues.specs.Rings.{head-low}
-use Rattle.tables.specs.Layout.{still-fits}
 use lib.ListN.{length-take, length-drop}
 use native.Mathlib.Omega.{arith}
 use Prim.Native.Nat.{_-_}
-use mathlib.Core.Path.{refl}
 use denote.Ref.{now}
 use Rattle.tables.specs.Layout.{room}
-use Rattle.tables.specs.Back.{head-in}
-use Rattle.queues.specs.Rings.{headIn, countIn, rings-in}
+use Rattle.queues.specs.Rings.{rings-in}
 use Rattle.queues.specs.Taking.{put-done, not-full}
 use borrow.Author.Needs.{needs}
 use Rattle.queues.proofs.put.Statement.{statement}

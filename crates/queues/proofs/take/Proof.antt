@@ -1,7 +1,7 @@
 -- `take` copies the oldest entry into the slot, steps the ring on and names the entry as the outcome. An empty queue is none that the caller has seen.
 use native.Mathlib.Omega.{arith}
 use Prim.Native.Nat.{_-_}
-use mathlib.Core.Path.{sym, ap, _∙_}
+use mathlib.Core.Path.{ap}
 use denote.Ref.{now}
 use lib.ListN.{length-take, length-drop, length}
 use Rattle.tables.specs.Layout.{room, still-fits}

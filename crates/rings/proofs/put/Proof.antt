@@ -1,17 +1,10 @@
-use mathlib.Core.Path.{_≡_, refl, sym, ap, _∙_}
-use mathlib.Core.List.{List, map}
-use Prim.Native.Nat.{ℕ, _+_, _*_, _-_, _≤_, _<_}
+use Prim.Native.Nat.{_-_}
 use native.Mathlib.Omega.{arith}
-use lib.ListN.{length, drop, take}
 use denote.Ref.{now}
 use Rattle.rings.specs.Laws.{wrapped-fits, put-done}
 use borrow.Author.Needs.{needs}
 use Rattle.rings.proofs.put.Statement.{statement}
 use Rattle.rings.proofs.put.Tie as tie
-use Rattle.rings.proofs.put.Reads as reads
-use Rattle.rings.proofs.put.Lts as lts
-use Rattle.rings.proofs.wrap.Reads as wrap-reads
-use Rattle.rows.proofs.copy_in.Reads as copy-in-reads
 
 add-wrap : tie.Need-add-wrap
 add-wrap c = search needs

@@ -1,18 +1,11 @@
-use mathlib.Core.Path.{_≡_, refl, sym, ap, _∙_}
-use mathlib.Core.List.{List, map}
-use Prim.Native.Nat.{ℕ, _+_, _*_, _-_, _≤_, _<_}
+use Prim.Native.Nat.{_-_}
 use native.Mathlib.Omega.{arith}
-use lib.ListN.{length, drop, take}
 use denote.Ref.{now}
 use Rattle.rows.specs.Rows.{row-fits}
 use Rattle.rings.specs.Laws.{take-done}
 use borrow.Author.Needs.{needs}
 use Rattle.rings.proofs.take_out.Statement.{statement}
 use Rattle.rings.proofs.take_out.Tie as tie
-use Rattle.rings.proofs.take_out.Reads as reads
-use Rattle.rings.proofs.take_out.Lts as lts
-use Rattle.rings.proofs.wrap.Reads as wrap-reads
-use Rattle.rows.proofs.copy_in.Reads as copy-in-reads
 
 mul-from : tie.Need-mul-from
 mul-from c = let z = c .before .before in omega (arith, row-fits (z .args .w) (z .args .head) (z .args .depth) (z .pre .0))

@@ -1,14 +1,9 @@
-use mathlib.Core.Path.{_≡_, refl, sym, ap, _∙_}
-use mathlib.Core.List.{List, map}
-use Prim.Native.Nat.{ℕ, _+_, _*_, _-_, _≤_, _<_}
+use mathlib.Core.Path.{sym}
+use Prim.Native.Nat.{_-_}
 use native.Mathlib.Omega.{arith}
-use lib.ListN.{length, drop, take}
-use denote.Ref.{now}
 use Rattle.rings.specs.Laws.{wrap-low, wrap-high}
 use Rattle.rings.proofs.wrap.Statement.{statement}
 use Rattle.rings.proofs.wrap.Tie as tie
-use Rattle.rings.proofs.wrap.Reads as reads
-use Rattle.rings.proofs.wrap.Lts as lts
 
 returns : tie.Need-returns
 returns c = sym (wrap-low (c .before .args .depth) (c .before .args .x) (omega arith))

@@ -1,18 +1,11 @@
-use mathlib.Core.Path.{_≡_, ap, _∙_, sym}
-use mathlib.Core.List.{List, _++_}
-use Prim.Native.Nat.{ℕ, _≤_, _<_, _+_, _*_, _-_}
+use Prim.Native.Nat.{_-_}
 use native.Mathlib.Nat.{mul-le-mul-right}
 use native.Mathlib.Omega.{arith}
-use lib.ListN.{length, length-append}
 use denote.Ref.{now}
 use Rattle.rows.specs.Rows.{inserted}
 use borrow.Author.Needs.{needs}
 use Rattle.rows.proofs.insert_at.Statement.{statement}
 use Rattle.rows.proofs.insert_at.Tie as tie
-use Rattle.rows.proofs.insert_at.Reads as reads
-use Rattle.rows.proofs.insert_at.Lts as lts
-use Rattle.rows.proofs.copy_in.Reads as copy-in-reads
-use Rattle.rows.proofs.shift_up.Reads as shift-up-reads
 
 mul-from : tie.Need-mul-from
 mul-from c = let a = c .before .before .args in omega (arith, mul-le-mul-right (a .w) (c .before .before .pre .0))

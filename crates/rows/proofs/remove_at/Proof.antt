@@ -1,17 +1,12 @@
-use mathlib.Core.Path.{_≡_, ap, _∙_, sym}
-use mathlib.Core.List.{List, _++_}
-use Prim.Native.Nat.{ℕ, _≤_, _<_, _+_, _*_, _-_}
+use mathlib.Core.Path.{ap, _∙_}
+use Prim.Native.Nat.{_-_}
 use native.Mathlib.Nat.{mul-le-mul-right, suc-mul}
 use native.Mathlib.Omega.{arith}
-use lib.ListN.{length, length-append}
 use denote.Ref.{now}
 use Rattle.rows.specs.Rows.{rowsOf, rows-remove}
 use borrow.Author.Needs.{needs}
 use Rattle.rows.proofs.remove_at.Statement.{statement}
 use Rattle.rows.proofs.remove_at.Tie as tie
-use Rattle.rows.proofs.remove_at.Reads as reads
-use Rattle.rows.proofs.remove_at.Lts as lts
-use Rattle.rows.proofs.shift_down.Reads as shift-down-reads
 
 mul-from : tie.Need-mul-from
 mul-from c = let z = c .before in omega (arith, mul-le-mul-right (z .args .w) (z .pre .0), suc-mul (z .args .at) (z .args .w))

@@ -1,5 +1,5 @@
 -- `carry_out` makes one call for each command, and the call does what the ledger does.
-use mathlib.Core.Path.{refl, sym, ap, _∙_, subst}
+use mathlib.Core.Path.{ap, subst}
 use denote.Ref.{now}
 use lib.ListN.{drop}
 use Rattle.configuration.specs.Block.{configured}

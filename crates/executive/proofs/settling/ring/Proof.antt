@@ -1,7 +1,5 @@
 -- `ring` reads the configuration block; its ring lies within the tables.
 use mathlib.Core.Path.{sym, subst}
-use denote.Ref.{now}
-use Rattle.configuration.specs.Block.{configured}
 use Rattle.queues.specs.Rings.{RingFits}
 use Rattle.executive.specs.Lent.{long, of, fits-ring}
 use Rattle.executive.proofs.settling.ring.Statement.{statement}

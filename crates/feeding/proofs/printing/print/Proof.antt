@@ -1,6 +1,6 @@
 -- The digits are written behind what is printed, and the line's end behind them.
 use Prim.Native.Nat.{ℕ, _+_, _-_, _*_}
-use mathlib.Core.Path.{_≡_, subst, ap, _∙_}
+use mathlib.Core.Path.{_≡_, subst, _∙_}
 use mathlib.Core.List.{_++_}
 use denote.Ref.{now}
 use borrow.Rule.Slice.PartMut.{putMid}

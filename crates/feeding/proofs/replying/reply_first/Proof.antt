@@ -2,7 +2,6 @@
 use lib.Seq.{length-take-le}
 use mathlib.Core.Path.{sym}
 use native.Mathlib.Omega.{arith}
-use denote.Ref.{now}
 use Rattle.feeding.specs.Replies.{read-none, read-frame, begins-none, begins-running, begins-ended}
 use borrow.Author.Needs.{needs}
 use Rattle.feeding.proofs.replying.reply_first.Statement.{statement}

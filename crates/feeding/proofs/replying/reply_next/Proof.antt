@@ -1,7 +1,6 @@
 -- The line is read; one that is no frame is answered with 1, and a frame is handed to the executive.
 use mathlib.Core.Path.{sym}
 use native.Mathlib.Omega.{arith}
-use denote.Ref.{now}
 use lib.Seq.{length-take-le}
 use Rattle.feeding.specs.Replies.{read-none, read-frame, goes-on-none, goes-on-frame}
 use borrow.Author.Needs.{needs}

@@ -1,7 +1,6 @@
 -- The messages are complete or the frame is not fed.
 use mathlib.Core.Path.{sym, _∙_}
 use borrow.Author.Tests.{not-true, not-false}
-use denote.Ref.{now}
 use Rattle.mcx11.specs.Feeding.{fed-bad, fed-good}
 use borrow.Author.Needs.{needs}
 use Rattle.mcx11.proofs.entries.feed.Statement.{statement}

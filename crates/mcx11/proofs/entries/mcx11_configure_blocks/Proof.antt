@@ -1,6 +1,5 @@
 -- The sizes, then the frame's number; 0 begins.
-use native.Mathlib.Omega.{arith}
-use mathlib.Core.Path.{_≡_, refl, sym, _∙_}
+use mathlib.Core.Path.{refl, sym, _∙_}
 use borrow.Author.Tests.{not-true, not-false}
 use denote.Ref.{now}
 use Rattle.mcx11.specs.Contract.{memory, fullSize}

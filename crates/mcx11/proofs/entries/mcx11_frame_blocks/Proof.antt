@@ -1,7 +1,6 @@
 -- The sizes, the block and the messages in turn; behind them the frame is fed.
-use mathlib.Core.Path.{_≡_, refl, sym, _∙_}
-use mathlib.Core.Bool.{true, false}
-use borrow.Author.Tests.{not-true, not-false, leb-true}
+use mathlib.Core.Path.{refl, sym, _∙_}
+use borrow.Author.Tests.{not-true, not-false}
 use denote.Ref.{now}
 use Rattle.configuration.specs.Block.{configured}
 use Rattle.mcx11.specs.Contract.{memory, fullSize}

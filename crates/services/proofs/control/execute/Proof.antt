@@ -1,6 +1,5 @@
 -- `execute` withdraws the task's wait, then sets the record of a task that begins.
 use native.Mathlib.Omega.{arith}
-use denote.Ref.{now}
 use Rattle.tables.specs.Layout.{still-fits}
 use Rattle.tables.specs.Decode.{viewBlocks, viewOutcome}
 use Rattle.ledger.specs.Ledger.{setSemaphores, task}

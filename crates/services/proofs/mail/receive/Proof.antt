@@ -1,6 +1,5 @@
 -- `receive` takes the first wanted message and shows it; where there is none the task waits for a message, request open.
 use native.Mathlib.Omega.{arith}
-use mathlib.Core.Path.{_≡_, sym, ap, _∙_}
 use denote.Ref.{now}
 use Rattle.tables.specs.Layout.{still-fits}
 use Rattle.tables.specs.Decode.{viewOutcome, viewRequest}

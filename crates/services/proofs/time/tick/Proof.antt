@@ -1,6 +1,6 @@
 -- `tick` advances the clock, then takes each due timer and signals for it: after k turns k of them have been drained.
 use native.Mathlib.Omega.{arith}
-use Prim.Native.Nat.{_-_, _≤_, _+_}
+use Prim.Native.Nat.{_-_, _≤_}
 use mathlib.Core.Path.{_≡_, refl}
 use lib.ListN.{length}
 use denote.Ref.{now}

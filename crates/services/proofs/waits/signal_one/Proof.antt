@@ -1,7 +1,6 @@
 -- `signal_one` goes by what the semaphore is: WAITING becomes PENDING and its task loses event wait, otherwise DONE.
 use native.Mathlib.Omega.{arith}
 use denote.Ref.{now}
-use mathlib.Core.Bool.{false}
 use Rattle.tables.specs.Layout.{still-fits}
 use Rattle.tables.specs.Decode.{viewSemaphore}
 use Rattle.ledger.specs.Ledger.{setSemaphore, PENDING}

@@ -1,6 +1,5 @@
 -- `wait_for` stores WAITING, then gives the task event wait.
 use native.Mathlib.Omega.{arith}
-use denote.Ref.{now}
 use Rattle.tables.specs.Layout.{still-fits}
 use Rattle.tables.specs.Decode.{viewSemaphore}
 use Rattle.ledger.specs.Ledger.{setSemaphore, WAITING}

@@ -1,5 +1,4 @@
 use native.Mathlib.Omega.{arith}
-use mathlib.Core.Path.{sym, ap, _∙_}
 use denote.Ref.{now}
 use Rattle.tables.specs.Layout.{waiting-in, still-fits}
 use Rattle.tables.specs.Waiting.{enqueue-waits}

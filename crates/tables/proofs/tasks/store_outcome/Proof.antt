@@ -1,5 +1,4 @@
 use native.Mathlib.Omega.{arith}
-use mathlib.Core.Path.{refl, sym, ap, _∙_}
 use denote.Ref.{now}
 use Rattle.tables.specs.Layout.{record-in}
 use Rattle.tables.specs.Stored.{outcome-lent}
