@@ -1,126 +1,201 @@
--- `completeIn`, record by record with the numbers seen so far, and the turns of the loop that tests it so.
+-- `completeIn`, record by record with the bits of the numbers seen so far, and the turns of the loop that tests it so.
 use mathlib.Core.Path.{_≡_, refl, sym, ap, ap₂, _∙_}
 use mathlib.Core.Bool.{Bool, true, false, not, _&&_, _||_, and-false}
 use mathlib.Core.List.{List, [], _∷_, map}
-use Prim.Native.Nat.{ℕ, zero, suc, _+_, _<_, _≤_}
+use Prim.Native.Nat.{ℕ, zero, suc, _+_, _-_, _^_, _<_, _≤_}
 use native.Mathlib.Numerals.{add-one}
 use native.Mathlib.Omega.{arith}
+use lib.Bits.{bitOr}
+use lib.Count.{ones}
 use lib.Dec.{leb, eqb}
-use lib.ListN.{length, getD, drop, set, replicate, length-replicate, length-set, drop-of-length-le}
+use lib.ListN.{length, getD, drop, set, replicate, length-replicate, length-set, length-map, drop-of-length-le}
 use lib.Seq.{drop-cons, getD-set-same, getD-set-other}
-use borrow.Author.Tests.{eqb-true, eqb-false, leb-true}
+use borrow.Author.Tests.{eq-eqb, ne-eqb, eqb-true, eqb-false, leb-true}
 use Rattle.ledger.specs.Lists.{within, any, all}
 use Rattle.messages.specs.Pending.{Pending, numberOf, pendingOf, pendingAt, pendingIn, inRange, distinct, completeIn}
-use Rattle.messages.specs.Lists.{and-right}
+use Rattle.messages.specs.Lists.{and-left, and-right}
 use Rattle.messages.specs.Records.{pending-length, pending-at}
+use Rattle.messages.specs.Marks.{bit, bit-low, wordOf, trues, word-set, word-none, ones-word, trues-set, trues-none}
 
--- ---- by the numbers seen so far
+-- ---- flag x - 1 is that of the number x
 
-module _ (tasks n : ℕ) where
-  abbrev goesOn : List Bool → List Pending → Bool
-  goesOn seen [] = true
-  goesOn seen (p ∷ ps) = inRange tasks n p && (not (getD seen (numberOf p) false) && goesOn (set seen (numberOf p) true) ps)
+abbrev flag : List Bool → ℕ → Bool
+flag f x = getD f (x - 1) false
 
--- no number of l has been seen
-abbrev unseen : List Bool → List Pending → Bool
-unseen seen l = all (λ p. not (getD seen (numberOf p) false)) l
+abbrev mark : List Bool → ℕ → List Bool
+mark f x = set f (x - 1) true
 
-seen-one : (seen : List Bool) (x y : ℕ) → x < length seen → getD (set seen x true) y false ≡ (eqb y x || getD seen y false)
-seen-one seen x y h = go (eqb y x) refl
-  where
-    go : (b : Bool) → eqb y x ≡ b → getD (set seen x true) y false ≡ (b || getD seen y false)
-    go true e = rw (eqb-true y x e) (getD-set-same seen x true false h)
-    go false e = getD-set-other seen x y true false (eqb-false y x e)
+abbrev marks : List Bool → List ℕ → List Bool
+marks f [] = f
+marks f (x ∷ xs) = marks (mark f x) xs
 
-unseen-one : (seen : List Bool) (x : ℕ) → x < length seen → (l : List Pending)
-    → unseen (set seen x true) l ≡ (not (any (λ y. eqb y x) (map numberOf l)) && unseen seen l)
-unfolding all any
-unseen-one seen x h [] = refl
-unseen-one seen x h (p ∷ ps) =
-    ap₂ (λ (a b : Bool). not a && b) (seen-one seen x (numberOf p) h) (unseen-one seen x h ps)
-    ∙ go (eqb (numberOf p) x) (getD seen (numberOf p) false) (any (λ y. eqb y x) (map numberOf ps)) (unseen seen ps)
-  where
-    go : (a b c d : Bool) → (not (a || b) && (not c && d)) ≡ (not (a || c) && (not b && d))
-    go true b c d = refl
-    go false true c d = sym (and-false (not c))
-    go false false c d = refl
+abbrev unseen : List Bool → List ℕ → Bool
+unseen f l = all (λ x. not (flag f x)) l
 
-shuffle : (s a m u d : Bool) → (s && (a && ((m && u) && d))) ≡ (a && ((s && u) && (m && d)))
-shuffle true a true u d = refl
-shuffle true a false u d = ap (λ (b : Bool). a && b) (sym (and-false u))
-shuffle false a m u d = sym (and-false a)
+pub record Number (n x : ℕ) : Type 0 where
+  pub from : 1 ≤ x
+  pub upto : x ≤ n
 
-module _ (tasks n : ℕ) where
-  pub range-number : (p : Pending) → inRange tasks n p ≡ true → numberOf p ≤ n
-  range-number p e =
-      let x : ℕ = numberOf p in
-      leb-true x n (and-right (leb 1 x) (leb x n) (and-right (within 1 tasks (p .to)) (within 1 n x) e))
+-- ---- numbers 1 to n, and n flags
 
-  goes-is : (seen : List Bool) (l : List Pending) → n < length seen
-      → goesOn tasks n seen l ≡ (all (inRange tasks n) l && (unseen seen l && distinct (map numberOf l)))
-  unfolding all distinct
-  goes-is seen [] h = refl
-  goes-is seen (p ∷ ps) h = go (inRange tasks n p) refl (goes-is (set seen (numberOf p) true) ps (rw length-set h))
-    where
-      go : (b : Bool) → inRange tasks n p ≡ b
-          → goesOn tasks n (set seen (numberOf p) true) ps ≡ (all (inRange tasks n) ps && (unseen (set seen (numberOf p) true) ps && distinct (map numberOf ps)))
-          → goesOn tasks n seen (p ∷ ps) ≡ (all (inRange tasks n) (p ∷ ps) && (unseen seen (p ∷ ps) && distinct (map numberOf (p ∷ ps))))
-      go true e ih =
-          let x : ℕ = numberOf p in
-          let s : Bool = not (getD seen x false) in
-          let a : Bool = all (inRange tasks n) ps in
-          let d : Bool = distinct (map numberOf ps) in
-          let m : Bool = not (any (λ y. eqb y x) (map numberOf ps)) in
-          let u : unseen (set seen x true) ps ≡ (m && unseen seen ps) = unseen-one seen x (omega (arith, range-number p e)) ps in
-          rw e (ap (λ (g : Bool). s && g) ih ∙ ap (λ (b : Bool). s && (a && (b && d))) u ∙ shuffle s a m (unseen seen ps) d)
-      go false e ih = rw e
+module _ (n : ℕ) where
+  number : (x : ℕ) → within 1 n x ≡ true → Number n x
+  number x e = record { from = leb-true 1 x (and-left (leb 1 x) (leb x n) e); upto = leb-true x n (and-right (leb 1 x) (leb x n) e) }
 
-  unseen-none : (k : ℕ) (l : List Pending) → unseen (replicate k false) l ≡ true
+  abbrev Numbers : List ℕ → Type 0
+  Numbers l = all (within 1 n) l ≡ true
+
+  first : (x : ℕ) (xs : List ℕ) → Numbers (x ∷ xs) → Number n x
   unfolding all
-  unseen-none k [] = refl
-  unseen-none k (p ∷ ps) = rw (nothing k (numberOf p)) (unseen-none k ps)
+  first x xs a = number x (and-left (within 1 n x) (all (within 1 n) xs) a)
+
+  rest : (x : ℕ) (xs : List ℕ) → Numbers (x ∷ xs) → Numbers xs
+  unfolding all
+  rest x xs a = and-right (within 1 n x) (all (within 1 n) xs) a
+
+  module _ (f : List Bool) (many : length f ≡ n) (x : ℕ) (hx : Number n x) where
+    flag-one : (y : ℕ) → Number n y → flag (mark f x) y ≡ (eqb y x || flag f y)
+    flag-one y hy = go (eqb y x) refl
+      where
+        go : (b : Bool) → eqb y x ≡ b → flag (mark f x) y ≡ (b || flag f y)
+        go true e = rw (eqb-true y x e) (getD-set-same f (x - 1) true false (omega (arith, hx .from, hx .upto, many)))
+        go false e = getD-set-other f (x - 1) (y - 1) true false (λ q. eqb-false y x e (omega (arith, q, hx .from, hy .from)))
+
+    unseen-one : (l : List ℕ) → Numbers l → unseen (mark f x) l ≡ (not (any (λ y. eqb y x) l) && unseen f l)
+    unfolding all any
+    unseen-one [] a = refl
+    unseen-one (y ∷ ys) a =
+        ap₂ (λ (a b : Bool). not a && b) (flag-one y (first y ys a)) (unseen-one ys (rest y ys a))
+        ∙ go (eqb y x) (flag f y) (any (λ z. eqb z x) ys) (unseen f ys)
+      where
+        go : (a b c d : Bool) → (not (a || b) && (not c && d)) ≡ (not (a || c) && (not b && d))
+        go true b c d = refl
+        go false true c d = sym (and-false (not c))
+        go false false c d = refl
+
+    trues-one : trues (mark f x) ≡ trues f + bit (not (flag f x))
+    trues-one = trues-set f (x - 1) (omega (arith, hx .from, hx .upto, many))
+
+    marked : length (mark f x) ≡ n
+    marked = length-set f (x - 1) true ∙ many
+
+  -- each number sets one flag at most, and each one just where none occurs twice
+  trues-most : (f : List Bool) → length f ≡ n → (l : List ℕ) → Numbers l → trues (marks f l) ≤ trues f + length l
+  trues-most f m [] a = omega arith
+  trues-most f m (x ∷ xs) a =
+      let h = first x xs a in
+      omega (arith, trues-one f m x h, bit-low (not (flag f x)), trues-most (mark f x) (marked f m x h) xs (rest x xs a))
+
+  trues-all : (f : List Bool) → length f ≡ n → (l : List ℕ) → Numbers l → eqb (trues (marks f l)) (trues f + length l) ≡ (unseen f l && distinct l)
+  unfolding all distinct
+  trues-all f m [] a = eq-eqb (trues f) (trues f + 0) (omega arith)
+  trues-all f m (x ∷ xs) a = go (flag f x) refl (trues-all (mark f x) (marked f m x (first x xs a)) xs (rest x xs a))
+    where
+      shuffle : (m u d : Bool) → ((m && u) && d) ≡ (u && (m && d))
+      shuffle true u d = refl
+      shuffle false u d = sym (and-false u)
+
+      go : (b : Bool) → flag f x ≡ b
+          → eqb (trues (marks (mark f x) xs)) (trues (mark f x) + length xs) ≡ (unseen (mark f x) xs && distinct xs)
+          → eqb (trues (marks (mark f x) xs)) (trues f + suc (length xs)) ≡ ((not b && unseen f xs) && (not (any (λ y. eqb y x) xs) && distinct xs))
+      go true e ih =
+          let h = first x xs a in
+          let o : trues (mark f x) ≡ trues f + 0 = trues-one f m x h ∙ rw e in
+          ne-eqb (trues (marks (mark f x) xs)) (trues f + suc (length xs)) (λ q. omega (arith, q, o, trues-most (mark f x) (marked f m x h) xs (rest x xs a)))
+      go false e ih =
+          let h = first x xs a in
+          let o : trues (mark f x) ≡ trues f + 1 = trues-one f m x h ∙ rw e in
+          let s : trues f + suc (length xs) ≡ trues (mark f x) + length xs = omega (arith, o) in
+          rw s (ih ∙ rw (unseen-one f m x h xs (rest x xs a)) (shuffle (not (any (λ y. eqb y x) xs)) (unseen f xs) (distinct xs)))
+
+  unseen-none : (l : List ℕ) → unseen (replicate n false) l ≡ true
+  unfolding all
+  unseen-none [] = refl
+  unseen-none (x ∷ xs) = rw (nothing n (x - 1)) (unseen-none xs)
     where
       nothing : (k i : ℕ) → getD (replicate k false) i false ≡ false
       nothing zero i = refl
       nothing (suc k) zero = refl
       nothing (suc k) (suc i) = nothing k i
 
-  complete-is : (k : ℕ) (l : List Pending) → n < k → goesOn tasks n (replicate k false) l ≡ completeIn tasks n l
-  unfolding completeIn
-  complete-is k l h = goes-is (replicate k false) l (rw length-replicate h) ∙ rw (unseen-none k l)
+  distinct-is : (l : List ℕ) → Numbers l → eqb (trues (marks (replicate n false) l)) (length l) ≡ distinct l
+  distinct-is l a =
+      let f : List Bool = replicate n false in
+      let e : length l ≡ trues f + length l = rw (trues-none n) (omega arith) in
+      ap (eqb (trues (marks f l))) e ∙ trues-all f (length-replicate n false) l a ∙ rw (unseen-none l)
 
 -- ---- a test that has come to record k
 
-pub record Checked (tasks most n k : ℕ) (seen : List Bool) (d : List ℕ) : Type 0 where
+and-assoc : (a b c : Bool) → ((a && b) && c) ≡ (a && (b && c))
+and-assoc true b c = refl
+and-assoc false b c = refl
+
+module _ (tasks most n : ℕ) where
+  abbrev goesOn : List Bool → List Pending → Bool
+  goesOn f l = all (inRange tasks most) l && eqb (trues (marks f (map numberOf l))) n
+
+  numbers : (l : List Pending) → all (inRange tasks most) l ≡ true → Numbers most (map numberOf l)
+  unfolding all
+  numbers [] a = refl
+  numbers (p ∷ ps) a =
+      let r : inRange tasks most p ≡ true = and-left (inRange tasks most p) (all (inRange tasks most) ps) a in
+      rw (and-right (within 1 tasks (p .to)) (within 1 most (numberOf p)) r) (numbers ps (and-right (inRange tasks most p) (all (inRange tasks most) ps) a))
+
+  complete-is : (l : List Pending) → length l ≡ n → goesOn (replicate most false) l ≡ completeIn tasks most l
+  unfolding completeIn
+  complete-is l h = go (all (inRange tasks most) l) refl
+    where
+      go : (b : Bool) → all (inRange tasks most) l ≡ b → (b && eqb (trues (marks (replicate most false) (map numberOf l))) n) ≡ (b && distinct (map numberOf l))
+      go true e = ap (eqb (trues (marks (replicate most false) (map numberOf l)))) (sym h ∙ sym (length-map l numberOf)) ∙ distinct-is most (map numberOf l) (numbers l e)
+      go false e = refl
+
+pub record Checked (tasks most n k seen : ℕ) (d : List ℕ) : Type 0 where
   pub inside : k ≤ n
-  pub places : length seen ≡ 65
-  pub so-far : goesOn tasks most seen (drop k (pendingIn n d)) ≡ completeIn tasks most (pendingIn n d)
+  flags : List Bool
+  many : length flags ≡ most
+  bits : seen ≡ wordOf flags
+  so-far : goesOn tasks most n flags (drop k (pendingIn n d)) ≡ completeIn tasks most (pendingIn n d)
 
 module _ (tasks most n : ℕ) (d : List ℕ) where
-  pub check-start : most ≤ 64 → Checked tasks most n 0 (replicate 65 false) d
-  check-start h = record { inside = omega arith; places = refl; so-far = complete-is tasks most 65 (pendingIn n d) (omega arith) }
+  pub check-start : Checked tasks most n 0 0 d
+  check-start = record {
+    inside = omega arith;
+    flags = replicate most false;
+    many = length-replicate most false;
+    bits = sym (word-none most);
+    so-far = complete-is tasks most n (pendingIn n d) (pending-length n d);
+  }
 
-  module _ (k : ℕ) (seen : List Bool) (s : Checked tasks most n k seen d) where
+  module _ (k seen : ℕ) (s : Checked tasks most n k seen d) where
     module _ (h : k < n) {u : Pending} (e : u ≡ pendingAt k d) {b : Bool} (t : b ≡ inRange tasks most u) where
-      next : completeIn tasks most (pendingIn n d) ≡ (b && (not (getD seen (numberOf u) false) && goesOn tasks most (set seen (numberOf u) true) (drop (k + 1) (pendingIn n d))))
+      next : completeIn tasks most (pendingIn n d) ≡ (b && goesOn tasks most n (mark (s .flags) (numberOf u)) (drop (k + 1) (pendingIn n d)))
+      unfolding all
       next =
           let l : List Pending = pendingIn n d in
           let c : drop k l ≡ u ∷ drop (k + 1) l =
           drop-cons l k (pendingOf []) (rw pending-length h) ∙ rw (add-one, pending-at n k d h, ← e) in
-          sym (s .so-far) ∙ ap (goesOn tasks most seen) c ∙ rw t
+          sym (s .so-far) ∙ ap (goesOn tasks most n (s .flags)) c ∙ rw (← t) (and-assoc b _ _)
 
       pub check-range : b ≡ false → false ≡ completeIn tasks most (pendingIn n d)
       check-range y = sym (next ∙ rw y)
 
       module _ (y : b ≡ true) where
-        pub check-number : numberOf u ≤ most
-        check-number = range-number tasks most u (sym t ∙ y)
+        pub check-number : Number most (numberOf u)
+        check-number = number most (numberOf u) (and-right (within 1 tasks (u .to)) (within 1 most (numberOf u)) (sym t ∙ y))
 
-        pub check-twice : getD seen (numberOf u) false ≡ true → false ≡ completeIn tasks most (pendingIn n d)
-        check-twice z = sym (next ∙ rw (y, z))
+        pub check-on : {w : ℕ} → w ≡ bitOr seen (2 ^ (numberOf u - 1)) → Checked tasks most n (k + 1) w d
+        check-on z =
+            let x = check-number in
+            record {
+              inside = omega arith;
+              flags = mark (s .flags) (numberOf u);
+              many = marked most (s .flags) (s .many) (numberOf u) x;
+              bits = z ∙ ap (λ (v : ℕ). bitOr v (2 ^ (numberOf u - 1))) (s .bits) ∙ word-set (s .flags) (numberOf u - 1) (omega (arith, x .from, x .upto, s .many));
+              so-far = sym (next ∙ rw y);
+            }
 
-        pub check-on : getD seen (numberOf u) false ≡ false → Checked tasks most n (k + 1) (set seen (numberOf u) true) d
-        check-on z = record { inside = omega arith; places = length-set seen (numberOf u) true ∙ s .places; so-far = sym (next ∙ rw (y, z)) }
-
-    pub check-end : n ≤ k → true ≡ completeIn tasks most (pendingIn n d)
-    check-end h = rw (drop-of-length-le (pendingIn n d) {i = k} (rw pending-length h)) at (s .so-far)
+    pub check-end : n ≤ k → eqb (ones seen) n ≡ completeIn tasks most (pendingIn n d)
+    unfolding all
+    check-end h =
+        let e : drop k (pendingIn n d) ≡ [] = drop-of-length-le (pendingIn n d) {i = k} (rw pending-length h) in
+        ap (λ (x : ℕ). eqb x n) (ap ones (s .bits) ∙ ones-word (s .flags)) ∙ sym (ap (goesOn tasks most n (s .flags)) e) ∙ s .so-far

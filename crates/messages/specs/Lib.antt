@@ -8,4 +8,5 @@ pub mod Records
 pub mod Complete
 pub mod Full
 -- The loop that tests for a complete table.
+pub mod Marks
 pub mod Checks

@@ -2,7 +2,8 @@
 // Promises what each search finds and what each change makes of every mailbox, in the ledger's own functions.
 // Rests on the crates ledger (what a mailbox is) and rows (records put in and taken out).
 ghost use mathlib.Core.Path.{_≡_};
-ghost use Prim.Native.Nat.{_+_, _-_, _*_, _<_, _≤_};
+ghost use Prim.Native.Nat.{_+_, _-_, _*_, _^_, _<_, _≤_};
+ghost use lib.Bits.{bitOr};
 ghost use lib.ListN.{length};
 ghost use Rattle.ledger.specs.Lists.{within, any};
 ghost use Rattle.rows.specs.Rows.{removeAt};
@@ -122,7 +123,7 @@ pub fn remove_all(b: &mut [u8], n: usize, to: u8) -> usize
 fn is_within(x: u8, top: usize) -> bool
     ensures { λ r. ⌜ r ≡ within 1 top x ⌝ }
 {
-    0 < x && x as usize <= top
+    std::num::wrapping_sub_usize(x as usize, 1) < top
 }
 
 // Whether a message is for one of the tasks, and has this number.
@@ -154,24 +155,28 @@ fn is_in_range(p: Pending, tasks: usize, most: usize) -> bool
     is_within(p.to, tasks) && is_within(p.number, most)
 }
 
-// Whether each of the n records is for one of the tasks, each number 1 to most, and no number there twice.
+// The numbers seen, bit x - 1 for x, with one more.
+fn with(seen: u64, x: usize) -> u64
+    requires { ⌜ (1 ≤ x) × (x ≤ 64) ⌝ }
+    ensures { λ r. ⌜ r ≡ bitOr seen (2 ^ (x - 1)) ⌝ }
+{
+    seen | 1u64 << (x - 1)
+}
+
+// Whether each of the n records is for one of the tasks, each number 1 to most, and no number there twice: n bits are set.
 pub fn complete(b: &[u8], n: usize, most: usize, tasks: usize) -> bool
     requires { ⌜ (n ≤ 64) × (most ≤ 64) × (n * 4 ≤ length (now b)) ⌝ }
     ensures { λ r. ⌜ r ≡ completeIn tasks most (pendingIn n (now (b .entry))) ⌝ }
 {
-    let mut seen = [false; 65];
+    let mut seen: u64 = 0;
     let mut k = 0;
     while k < n {
         let p = load(b, k);
         if !is_in_range(p, tasks, most) {
             return false;
         }
-        let x = p.number as usize;
-        if seen[x] {
-            return false;
-        }
-        seen[x] = true;
+        seen = with(seen, p.number as usize);
         k += 1;
     }
-    true
+    u64::count_ones(seen) == n as u32
 }

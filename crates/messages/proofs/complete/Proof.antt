@@ -1,10 +1,10 @@
--- Each turn tests one record by the numbers seen so far, which is what is left to test of the whole.
+-- Each turn tests one record and sets the bit of its number; as many bits as records are set just where none occurs twice.
 use Prim.Native.Nat.{_-_}
 use native.Mathlib.Omega.{arith}
 use borrow.Author.Needs.{needs}
 use borrow.Author.Tests.{not-true, not-false}
 use denote.Ref.{now}
-use Rattle.messages.specs.Checks.{Checked, check-start, check-range, check-number, check-twice, check-on, check-end}
+use Rattle.messages.specs.Checks.{Checked, check-start, check-range, check-number, check-on, check-end}
 use Rattle.messages.proofs.complete.Statement.{statement}
 use Rattle.messages.proofs.complete.Tie as tie
 
@@ -15,7 +15,7 @@ abbrev μ-loop : tie.MeasureT-loop
 μ-loop b n most tasks seen₀ k₀ seen k = n - k
 
 loop-holds : tie.Need-loop-holds Inv-loop μ-loop
-loop-holds c = let a = c .before .args in check-start (a .tasks) (a .most) (a .n) (now (a .b)) (c .before .pre .1)
+loop-holds c = let a = c .before .args in check-start (a .tasks) (a .most) (a .n) (now (a .b))
 
 load-requires : tie.Need-load-requires Inv-loop μ-loop
 load-requires c κs = omega arith
@@ -29,26 +29,15 @@ returns c =
     let l = c .before .before .before .before .loop in
     check-range (a .tasks) (a .most) (a .n) (now (a .b)) (l .k) (l .seen) (l .inv) (c .before .before .before .loop-test .taken) (c .before .before .load .ensures) (c .before .is-in-range .ensures) (not-true _ (c .if1 .taken))
 
-cast-x : tie.Need-cast-x Inv-loop μ-loop
-cast-x c = search needs
+cast-with : tie.Need-cast-with Inv-loop μ-loop
+cast-with c = search needs
 
-array-read-if2 : tie.Need-array-read-if2 Inv-loop μ-loop
-array-read-if2 c =
+with-requires : tie.Need-with-requires Inv-loop μ-loop
+with-requires c κs =
     let a = c .before .before .before .before .before .before .before .args in
     let l = c .before .before .before .before .before .loop in
-    omega (arith, check-number (a .tasks) (a .most) (a .n) (now (a .b)) (l .k) (l .seen) (l .inv) (c .before .before .before .before .loop-test .taken) (c .before .before .before .load .ensures) (c .before .before .is-in-range .ensures) (not-false _ (c .before .if1 .left)))
-
-returns-2 : tie.Need-returns-2 Inv-loop μ-loop
-returns-2 c =
-    let a = c .before .before .before .before .before .before .before .before .args in
-    let l = c .before .before .before .before .before .before .loop in
-    check-twice (a .tasks) (a .most) (a .n) (now (a .b)) (l .k) (l .seen) (l .inv) (c .before .before .before .before .before .loop-test .taken) (c .before .before .before .before .load .ensures) (c .before .before .before .is-in-range .ensures) (not-false _ (c .before .before .if1 .left)) (c .if2 .taken)
-
-array-write-seen : tie.Need-array-write-seen Inv-loop μ-loop
-array-write-seen c =
-    let a = c .before .before .before .before .before .before .before .before .args in
-    let l = c .before .before .before .before .before .before .loop in
-    omega (arith, check-number (a .tasks) (a .most) (a .n) (now (a .b)) (l .k) (l .seen) (l .inv) (c .before .before .before .before .before .loop-test .taken) (c .before .before .before .before .load .ensures) (c .before .before .before .is-in-range .ensures) (not-false _ (c .before .before .if1 .left)))
+    let x = check-number (a .tasks) (a .most) (a .n) (now (a .b)) (l .k) (l .seen) (l .inv) (c .before .before .before .before .loop-test .taken) (c .before .before .before .load .ensures) (c .before .before .is-in-range .ensures) (not-false _ (c .before .if1 .left)) in
+    (x .from, omega (arith, x .upto))
 
 add-k : tie.Need-add-k Inv-loop μ-loop
 add-k c = omega arith
@@ -60,10 +49,13 @@ loop-again : tie.Need-loop-again Inv-loop μ-loop
 loop-again c =
     let a = c .before .before .before .before .before .before .before .before .args in
     let l = c .before .before .before .before .before .before .loop in
-    check-on (a .tasks) (a .most) (a .n) (now (a .b)) (l .k) (l .seen) (l .inv) (c .before .before .before .before .before .loop-test .taken) (c .before .before .before .before .load .ensures) (c .before .before .before .is-in-range .ensures) (not-false _ (c .before .before .if1 .left)) (c .if2 .left)
+    check-on (a .tasks) (a .most) (a .n) (now (a .b)) (l .k) (l .seen) (l .inv) (c .before .before .before .before .before .loop-test .taken) (c .before .before .before .before .load .ensures) (c .before .before .before .is-in-range .ensures) (not-false _ (c .before .before .if1 .left)) (c .with .ensures)
 
-returns-3 : tie.Need-returns-3 Inv-loop μ-loop
-returns-3 c =
+cast-result : tie.Need-cast-result Inv-loop μ-loop
+cast-result c = search needs
+
+returns-2 : tie.Need-returns-2 Inv-loop μ-loop
+returns-2 c =
     let a = c .before .before .before .args in
     let l = c .before .loop in
     check-end (a .tasks) (a .most) (a .n) (now (a .b)) (l .k) (l .seen) (l .inv) (c .loop-test .left)
@@ -78,11 +70,10 @@ complete-spec =
     load-requires
     is-in-range-requires
     returns
-    cast-x
-    array-read-if2
-    returns-2
-    array-write-seen
+    cast-with
+    with-requires
     add-k
     loop-less
     loop-again
-    returns-3)
+    cast-result
+    returns-2)
