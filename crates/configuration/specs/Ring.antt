@@ -17,7 +17,7 @@ use Rattle.ledger.specs.Theorems.Checks.{and-left, and-right}
 use Rattle.tables.specs.declared.shape.Shape.{Shape}
 use Rattle.tables.specs.Shows.{bytesOf, begins, Of}
 use Rattle.queues.specs.Rings.{ringOf}
-use Rattle.configuration.specs.Block.{shaped, product, goodShapes, read, configured, configured-is}
+use Rattle.configuration.specs.Block.{shaped, product, read, configured, configured-is}
 use Rattle.configuration.specs.Room.{roomIn, room-sum}
 
 -- ---- shapes in pairs of bytes
@@ -57,10 +57,6 @@ unfolding sum
 sum-take zero l = omega arith
 sum-take (suc i) [] = omega arith
 sum-take (suc i) (x ∷ xs) = omega (arith, sum-take i xs)
-
-good-take : (i : ℕ) (l : List config.Shape) → all shaped l ≡ true → sum (map product l) ≤ 4096 → goodShapes (take i l) ≡ true
-unfolding goodShapes
-good-take i l a b = rw (all-take shaped i l a, le-leb (sum (map product (take i l))) 4096 (omega (arith, sum-take i l)))
 
 -- ---- of a block
 module _ (g : List ℕ) (s : Shape) (long : 198 ≤ length g) (o : Of (read g) s) (i : ℕ) (hi : i < s .queues) where
@@ -109,7 +105,7 @@ module _ (g : List ℕ) (s : Shape) (long : 198 ≤ length g) (o : Of (read g) s
       let x : here + 2 * i - here ≡ 2 * i = omega arith in
       let y : cut g here (here + 2 * i) ≡ take (2 * i) part = rw x (sym (take-take (2 * i) (here + 2 * s .queues - here) (drop here g) (omega arith))) in
       let p : shapesIn (take (2 * i) part) ≡ take i (read g .shapes) = pairs-take i part ∙ ap (take i) (sym shapes-are) in
-      ap (roomIn 0) y ∙ room-sum (take (2 * i) part) (ap goodShapes p ∙ good-take i (read g .shapes) sized small) ∙ ap (λ (z : List config.Shape). sum (map product z)) p
+      ap (roomIn 0) y ∙ room-sum (take (2 * i) part) (ap (all shaped) p ∙ all-take shaped i (read g .shapes) sized) ∙ ap (λ (z : List config.Shape). sum (map product z)) p
 
   front-low : roomIn 0 (cut g here (here + 2 * i)) ≤ 4096
   unfolding begins bytesOf

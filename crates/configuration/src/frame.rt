@@ -1,13 +1,14 @@
 // A configuration frame, accepted or refused; its tests serve the lent block too.
 ghost use mathlib.Core.Path.{_≡_};
 ghost use Prim.Native.Nat.{_+_, _*_, _≤_};
+ghost use mathlib.Core.Bool.{_&&_};
 ghost use lib.Dec.{leb};
 ghost use lib.ListN.{length};
-ghost use Rattle.ledger.specs.Lists.{all};
+ghost use Rattle.ledger.specs.Lists.{within, all};
 ghost use Rattle.ledger.specs.Config.{goodHead, configRefusal};
 ghost use Rattle.configuration.specs.Block.{read};
 ghost use Rattle.configuration.specs.Head.{headRule};
-ghost use Rattle.configuration.specs.Room.{roomOf, roomIn};
+ghost use Rattle.configuration.specs.Room.{roomIn};
 
 pub fn wide(x: u8) -> usize
     ensures { λ r. ⌜ r ≡ x ⌝ }
@@ -82,35 +83,44 @@ fn good_states(states: &[u8]) -> bool
     true
 }
 
-// The bytes of one queue, or 4,097 for a width or a depth that is none.
-fn room_of(width: u8, depth: u8) -> usize
-    ensures { λ r. ⌜ r ≡ roomOf width depth ⌝ }
+// Whether there is such a queue.
+fn is_shaped(width: u8, depth: u8) -> bool
+    ensures { λ r. ⌜ r ≡ (within 1 16 width && within 1 255 depth) ⌝ }
 {
     if width == 0 {
-        return 4097;
+        return false;
     }
     if width > 16 {
-        return 4097;
+        return false;
     }
     if depth == 0 {
-        return 4097;
+        return false;
     }
+    true
+}
+
+// The bytes of one queue.
+fn bytes_of(width: u8, depth: u8) -> usize
+    ensures { λ r. ⌜ r ≡ width * depth ⌝ }
+{
     wide(width) * wide(depth)
 }
 
-// The bytes of all queues, or 4,097 if one of them is none or there are more than 4,096.
+// The bytes of all queues, or 4,097 if there is no such queue as one of them.
 pub fn room(shapes: &[u8], queues: usize) -> usize
-    requires { ⌜ length (now shapes) ≡ 2 * queues ⌝ }
+    requires { ⌜ (length (now shapes) ≡ 2 * queues) × (queues ≤ 255) ⌝ }
     ensures { λ r. ⌜ r ≡ roomIn 0 (now (shapes .entry)) ⌝ }
 {
     let mut sum: usize = 0;
     let mut k: usize = 0;
     while k < queues {
         let i = 2 * k;
-        sum += room_of(shapes[i], shapes[i + 1]);
-        if sum > 4096 {
+        let width = shapes[i];
+        let depth = shapes[i + 1];
+        if !is_shaped(width, depth) {
             return 4097;
         }
+        sum += bytes_of(width, depth);
         k += 1;
     }
     sum

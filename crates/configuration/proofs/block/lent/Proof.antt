@@ -45,7 +45,7 @@ part-room-end : tie.Need-part-room-end
 part-room-end c = omega (arith, c .before .before .before .before .before .before .before .pre, lent-fits (now (c .before .before .before .before .before .before .before .args .config)) (sym (c .before .before .before .before .before .good-head .ensures) ∙ not-false _ (c .before .before .before .before .if1 .left)) _ _ (c .wide2 .ensures) (c .before .before .wide .ensures))
 
 room-requires : tie.Need-room-requires
-room-requires c κs = search needs
+room-requires c κs = (search needs, omega (arith, c .before .before .before .wide .ensures, c .before .before .before .before .shared-slice-known2 .given 2))
 
 returns-2 : tie.Need-returns-2
 returns-2 c = lent-room (now (c .before .before .before .before .before .before .before .before .before .before .args .config)) (sym (c .before .before .before .before .before .before .before .before .good-head .ensures) ∙ not-false _ (c .before .before .before .before .before .before .before .if1 .left)) _ _ (c .before .before .before .wide2 .ensures) (c .before .before .before .before .before .wide .ensures) (omega (arith, c .before .room .ensures))

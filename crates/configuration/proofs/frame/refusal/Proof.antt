@@ -71,7 +71,7 @@ part-room-end : tie.Need-part-room-end
 part-room-end c = search needs
 
 room-requires : tie.Need-room-requires
-room-requires c κs = search needs
+room-requires c κs = (search needs, omega (arith, c .before .before .before .before .before .before .before .wide .ensures, c .before .before .before .before .before .before .before .before .shared-slice-known2 .given 2))
 
 returns-5 : tie.Need-returns-5
 returns-5 c =

@@ -2,15 +2,16 @@
 use Prim.Native.Nat.{_+_, _*_, _-_, _≤_}
 use native.Mathlib.Omega.{arith}
 use mathlib.Core.Path.{_≡_, refl, sym, _∙_}
-use lib.ListN.{getD, drop}
+use lib.ListN.{drop}
 use denote.Ref.{now}
 use borrow.Author.Needs.{needs}
+use borrow.Author.Tests.{not-true, not-false}
 use Rattle.configuration.specs.Room.{roomIn, room-low, room-on, room-over, room-end}
 use Rattle.configuration.proofs.frame.room.Statement.{statement}
 use Rattle.configuration.proofs.frame.room.Tie as tie
 
 abbrev Inv-loop : tie.InvT-loop
-Inv-loop shapes queues sum₀ k₀ sum k = (k ≤ queues) × (sum ≤ 4096) × (roomIn 0 shapes ≡ roomIn sum (drop (2 * k) shapes))
+Inv-loop shapes queues sum₀ k₀ sum k = (k ≤ queues) × (sum ≤ 4080 * k) × (roomIn 0 shapes ≡ roomIn sum (drop (2 * k) shapes))
 
 abbrev μ-loop : tie.MeasureT-loop
 μ-loop shapes queues sum₀ k₀ sum k = queues - k
@@ -21,29 +22,32 @@ loop-holds c = (omega arith, omega arith, refl)
 mul-i : tie.Need-mul-i Inv-loop μ-loop
 mul-i c = omega arith
 
-shared-slice-read-room-of : tie.Need-shared-slice-read-room-of Inv-loop μ-loop
-shared-slice-read-room-of c = omega arith
+shared-slice-read-width : tie.Need-shared-slice-read-width Inv-loop μ-loop
+shared-slice-read-width c = omega arith
 
-add-room-of : tie.Need-add-room-of Inv-loop μ-loop
-add-room-of c = omega arith
+add-depth : tie.Need-add-depth Inv-loop μ-loop
+add-depth c = omega arith
 
-shared-slice-read-room-of-2 : tie.Need-shared-slice-read-room-of-2 Inv-loop μ-loop
-shared-slice-read-room-of-2 c = omega arith
+shared-slice-read-depth : tie.Need-shared-slice-read-depth Inv-loop μ-loop
+shared-slice-read-depth c = omega arith
 
-room-of-requires : tie.Need-room-of-requires Inv-loop μ-loop
-room-of-requires c κs = search needs
-
-add-sum : tie.Need-add-sum Inv-loop μ-loop
-add-sum c =
-    let l = c .before .before .before .before .loop in
-    let a = now (c .before .before .before .before .before .before .args .shapes) in
-    omega (arith, c .room-of .ensures, room-low (getD a (2 * l .k) 0) (getD a (2 * l .k + 1) 0) (omega (arith, c .before .shared-slice-known3 .given (2 * l .k + 1))))
+is-shaped-requires : tie.Need-is-shaped-requires Inv-loop μ-loop
+is-shaped-requires c κs = search needs
 
 returns : tie.Need-returns Inv-loop μ-loop
 returns c =
     let l = c .before .before .before .before .before .loop in
     let a = now (c .before .before .before .before .before .before .before .args .shapes) in
-    sym (l .inv .2 ∙ room-over (l .sum) (l .k) a _ (c .before .room-of .ensures) (omega arith) (omega arith))
+    sym (l .inv .2 ∙ room-over (l .sum) (l .k) a (omega arith) _ (c .before .is-shaped .ensures) (not-true _ (c .if1 .taken)))
+
+bytes-of-requires : tie.Need-bytes-of-requires Inv-loop μ-loop
+bytes-of-requires c κs = search needs
+
+add-sum : tie.Need-add-sum Inv-loop μ-loop
+add-sum c =
+    let l = c .before .before .before .before .before .before .loop in
+    let a = now (c .before .before .before .before .before .before .before .before .args .shapes) in
+    omega (arith, l .inv .1, room-low (l .sum) (l .k) a (omega arith) _ (c .before .before .is-shaped .ensures) (not-false _ (c .before .if1 .left)) _ (c .bytes-of .ensures))
 
 add-k : tie.Need-add-k Inv-loop μ-loop
 add-k c = omega arith
@@ -53,9 +57,11 @@ loop-less c = omega arith
 
 loop-again : tie.Need-loop-again Inv-loop μ-loop
 loop-again c =
-    let l = c .before .before .before .before .before .loop in
-    let a = now (c .before .before .before .before .before .before .before .args .shapes) in
-    (omega arith, omega arith, l .inv .2 ∙ room-on (l .sum) (l .k) a _ (c .before .room-of .ensures) (omega arith) (omega arith))
+    let l = c .before .before .before .before .before .before .loop in
+    let a = now (c .before .before .before .before .before .before .before .before .args .shapes) in
+    let b = c .before .before .is-shaped .ensures in
+    let t = not-false _ (c .before .if1 .left) in
+    (omega arith, omega (arith, l .inv .1, room-low (l .sum) (l .k) a (omega arith) _ b t _ (c .bytes-of .ensures)), l .inv .2 ∙ room-on (l .sum) (l .k) a (omega arith) _ b t _ (c .bytes-of .ensures))
 
 returns-2 : tie.Need-returns-2 Inv-loop μ-loop
 returns-2 c =
@@ -71,12 +77,13 @@ room-spec =
     μ-loop
     loop-holds
     mul-i
-    shared-slice-read-room-of
-    add-room-of
-    shared-slice-read-room-of-2
-    room-of-requires
-    add-sum
+    shared-slice-read-width
+    add-depth
+    shared-slice-read-depth
+    is-shaped-requires
     returns
+    bytes-of-requires
+    add-sum
     add-k
     loop-less
     loop-again
