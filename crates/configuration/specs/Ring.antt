@@ -1,24 +1,21 @@
--- The ring of a queue, read in the block: what the queues before it take is their room.
+-- The ring of a queue, read in the block: its entries begin behind the bytes of the queues before it.
 use mathlib.Core.Path.{_≡_, refl, sym, ap, _∙_, subst}
-use mathlib.Core.Bool.{Bool, true}
 use mathlib.Core.List.{List, [], _∷_, map}
 use Prim.Native.Nat.{ℕ, zero, suc, _+_, _-_, _*_, _<_, _≤_}
 use native.Mathlib.Omega.{arith}
 use lib.ListN.{length, getD, take, drop}
 use lib.Seq.{getD-take, getD-drop, take-take}
-use borrow.Author.Tests.{le-leb}
 use Rattle.rows.specs.Splice.{cut}
 use Rattle.rows.specs.Laws.{length-cut}
-use Rattle.ledger.specs.Lists.{at, byte, sum, all}
+use Rattle.ledger.specs.Lists.{at, byte, sum}
 use Rattle.ledger.specs.Config as config
 use Rattle.ledger.specs.Config.{Config, shapesIn}
 use Rattle.ledger.specs.Services.{shape}
-use Rattle.ledger.specs.Theorems.Checks.{and-left, and-right}
 use Rattle.tables.specs.declared.shape.Shape.{Shape}
 use Rattle.tables.specs.Shows.{bytesOf, begins, Of}
 use Rattle.queues.specs.Rings.{ringOf}
-use Rattle.configuration.specs.Block.{shaped, product, read, configured, configured-is}
-use Rattle.configuration.specs.Room.{roomIn, room-sum}
+use Rattle.configuration.specs.Block.{product, read, configured, configured-is}
+use Rattle.configuration.specs.Room.{bytesIn}
 
 -- ---- shapes in pairs of bytes
 
@@ -39,18 +36,7 @@ pairs-at (suc i) (w ∷ d ∷ r) h =
     let f : 2 * suc i + 1 ≡ suc (suc (2 * i + 1)) = omega arith in
     rw (f, e) (pairs-at i r (omega arith))
 
--- ---- the first of them keep the rule too
-
-all-from : (p : config.Shape → Bool) (z : config.Shape) (l : List config.Shape) → ((i : ℕ) → i < length l → p (getD l i z) ≡ true) → all p l ≡ true
-unfolding all
-all-from p z [] h = refl
-all-from p z (x ∷ xs) h = rw (h 0 (omega arith)) (all-from p z xs (λ i k. h (suc i) (omega arith)))
-
-all-take : (p : config.Shape → Bool) (i : ℕ) (l : List config.Shape) → all p l ≡ true → all p (take i l) ≡ true
-unfolding all
-all-take p zero l h = refl
-all-take p (suc i) [] h = refl
-all-take p (suc i) (x ∷ xs) h = rw (and-left (p x) (all p xs) h) (all-take p i xs (and-right (p x) (all p xs) h))
+-- ---- the first of them take no more
 
 sum-take : (i : ℕ) (l : List config.Shape) → sum (map product (take i l)) ≤ sum (map product l)
 unfolding sum
@@ -87,29 +73,21 @@ module _ (g : List ℕ) (s : Shape) (long : 198 ≤ length g) (o : Of (read g) s
   part-at : (j : ℕ) → j < 2 * s .queues → getD part j 0 ≡ getD g (here + j) 0
   part-at j h = getD-take (here + 2 * s .queues - here) (drop here g) j 0 (omega arith) ∙ getD-drop here g j 0
 
-  sized : all shaped (read g .shapes) ≡ true
-  unfolding shape at
-  sized =
-      all-from shaped (record { width = 0; depth = 0 }) (read g .shapes) (λ j h.
-      let w = o .widths (suc j) (omega arith) (omega (arith, o .shapes)) in
-      let d = o .depths (suc j) (omega arith) (omega (arith, o .shapes)) in
-      rw (le-leb 1 _ (w .0), le-leb _ 16 (w .1), le-leb 1 _ (d .0), le-leb _ 255 (d .1)))
-
   small : sum (map product (read g .shapes)) ≤ 4096
   unfolding bytesOf
   small = let l = o .laid in omega (arith, o .bodies)
 
-  front-room : roomIn 0 (cut g here (here + 2 * i)) ≡ begins (read g) i
-  unfolding begins bytesOf
-  front-room =
+  front-bytes : bytesIn (cut g here (here + 2 * i)) ≡ begins (read g) i
+  unfolding begins bytesOf bytesIn
+  front-bytes =
       let x : here + 2 * i - here ≡ 2 * i = omega arith in
       let y : cut g here (here + 2 * i) ≡ take (2 * i) part = rw x (sym (take-take (2 * i) (here + 2 * s .queues - here) (drop here g) (omega arith))) in
       let p : shapesIn (take (2 * i) part) ≡ take i (read g .shapes) = pairs-take i part ∙ ap (take i) (sym shapes-are) in
-      ap (roomIn 0) y ∙ room-sum (take (2 * i) part) (ap (all shaped) p ∙ all-take shaped i (read g .shapes) sized) ∙ ap (λ (z : List config.Shape). sum (map product z)) p
+      ap bytesIn y ∙ ap (λ (z : List config.Shape). sum (map product z)) p
 
-  front-low : roomIn 0 (cut g here (here + 2 * i)) ≤ 4096
+  front-low : bytesIn (cut g here (here + 2 * i)) ≤ 4096
   unfolding begins bytesOf
-  front-low = omega (arith, front-room, sum-take i (read g .shapes), small)
+  front-low = omega (arith, front-bytes, sum-take i (read g .shapes), small)
 
   pair-is : shape (read g) (suc i) ≡ record { width = getD g (here + 2 * i) 0; depth = getD g (here + 2 * i + 1) 0 }
   unfolding shape at
@@ -118,9 +96,9 @@ module _ (g : List ℕ) (s : Shape) (long : 198 ≤ length g) (o : Of (read g) s
       ap (λ (z : List config.Shape). getD z i (record { width = 0; depth = 0 })) shapes-are ∙ pairs-at i part (omega (arith, part-length))
       ∙ rw (part-at (2 * i) (omega arith), part-at (2 * i + 1) (omega arith), e)
 
-  ring-read : record { width = getD g (here + 2 * i) 0; depth = getD g (here + 2 * i + 1) 0; base = s .bodyat + roomIn 0 (cut g here (here + 2 * i)) } ≡ ringOf (read g) s (suc i)
+  ring-read : record { width = getD g (here + 2 * i) 0; depth = getD g (here + 2 * i + 1) 0; base = s .bodyat + bytesIn (cut g here (here + 2 * i)) } ≡ ringOf (read g) s (suc i)
   unfolding ringOf
-  ring-read = λ x. record { width = sym pair-is x .width; depth = sym pair-is x .depth; base = s .bodyat + front-room x }
+  ring-read = λ x. record { width = sym pair-is x .width; depth = sym pair-is x .depth; base = s .bodyat + front-bytes x }
 
 module _ (g : List ℕ) (s : Shape) (long : 198 ≤ length g) (o : Of (configured g) s) (q : ℕ) (lo : 1 ≤ q) (hi : q ≤ s .queues) where
   abbrev at-read : Of (read g) s
@@ -129,10 +107,10 @@ module _ (g : List ℕ) (s : Shape) (long : 198 ≤ length g) (o : Of (configure
   pub ring-inside : 8 + s .tasks + 2 * (q - 1) + 1 < length g
   ring-inside = ring-in g s long at-read (q - 1) (omega arith)
 
-  pub ring-base : s .bodyat + roomIn 0 (cut g (8 + s .tasks) (8 + s .tasks + 2 * (q - 1))) ≤ 7571
+  pub ring-base : s .bodyat + bytesIn (cut g (8 + s .tasks) (8 + s .tasks + 2 * (q - 1))) ≤ 7571
   ring-base = let l = o .laid in omega (arith, front-low g s long at-read (q - 1) (omega arith))
 
-  pub ring-is : (w d n : ℕ) → w ≡ getD g (8 + s .tasks + 2 * (q - 1)) 0 → d ≡ getD g (8 + s .tasks + 2 * (q - 1) + 1) 0 → n ≡ roomIn 0 (cut g (8 + s .tasks) (8 + s .tasks + 2 * (q - 1)))
+  pub ring-is : (w d n : ℕ) → w ≡ getD g (8 + s .tasks + 2 * (q - 1)) 0 → d ≡ getD g (8 + s .tasks + 2 * (q - 1) + 1) 0 → n ≡ bytesIn (cut g (8 + s .tasks) (8 + s .tasks + 2 * (q - 1)))
       → record { width = w; depth = d; base = s .bodyat + n } ≡ ringOf (configured g) s q
   ring-is w d n ew ed en =
       let e : suc (q - 1) ≡ q = omega arith in

@@ -4,7 +4,6 @@ use mathlib.Core.Bool.{Bool, true, false, cond, _&&_}
 use mathlib.Core.List.{List, [], _∷_, map}
 use Prim.Native.Nat.{ℕ, suc, _+_, _*_, _<_, _≤_}
 use native.Mathlib.Omega.{arith}
-use native.Mathlib.Nat.{mul-le-mul}
 use lib.ListN.{length, getD, drop, drop-of-length-le}
 use lib.Seq.{drop-cons}
 use borrow.Author.Tests.{le-leb, lt-leb}
@@ -42,22 +41,22 @@ module _ (w d : ℕ) where
 
 -- ---- what it is
 
-abbrev products : List Shape → ℕ
-products l = sum (map product l)
+unfoldable pub bytesIn : List ℕ → ℕ
+bytesIn l = sum (map product (shapesIn l))
 
-room-is : (a : ℕ) (l : List ℕ) → roomIn a l ≡ cond (all shaped (shapesIn l)) (a + products (shapesIn l)) 4097
-unfolding roomIn shapesIn all sum
+room-is : (a : ℕ) (l : List ℕ) → roomIn a l ≡ cond (all shaped (shapesIn l)) (a + bytesIn l) 4097
+unfolding roomIn bytesIn shapesIn all sum
 room-is a [] = omega arith
 room-is a (w ∷ []) = omega arith
 room-is a (w ∷ d ∷ r) = go (within 1 16 w && within 1 255 d) (room-is (a + w * d) r)
   where
-    go : (b : Bool) → roomIn (a + w * d) r ≡ cond (all shaped (shapesIn r)) (a + w * d + products (shapesIn r)) 4097
-        → cond b (roomIn (a + w * d) r) 4097 ≡ cond (b && all shaped (shapesIn r)) (a + (w * d + products (shapesIn r))) 4097
-    go true e = let x : a + (w * d + products (shapesIn r)) ≡ a + w * d + products (shapesIn r) = omega arith in rw x e
+    go : (b : Bool) → roomIn (a + w * d) r ≡ cond (all shaped (shapesIn r)) (a + w * d + bytesIn r) 4097
+        → cond b (roomIn (a + w * d) r) 4097 ≡ cond (b && all shaped (shapesIn r)) (a + (w * d + bytesIn r)) 4097
+    go true e = let x : a + (w * d + bytesIn r) ≡ a + w * d + bytesIn r = omega arith in rw x e
     go false e = refl
 
 module _ (l : List ℕ) where
-  pub room-sum : all shaped (shapesIn l) ≡ true → roomIn 0 l ≡ sum (map product (shapesIn l))
+  room-sum : all shaped (shapesIn l) ≡ true → roomIn 0 l ≡ bytesIn l
   room-sum e = room-is 0 l ∙ rw e (omega arith)
 
   room-none : all shaped (shapesIn l) ≡ false → roomIn 0 l ≡ 4097
@@ -65,12 +64,12 @@ module _ (l : List ℕ) where
 
   -- the rule holds just where the bytes are at most 4,096, and then they are the sum of the products
   pub room-good : roomIn 0 l ≤ 4096 → (goodShapes (shapesIn l) ≡ true) × (roomIn 0 l ≡ sum (map product (shapesIn l)))
-  unfolding goodShapes
-  room-good h = case (all shaped (shapesIn l)) (λ e. (rw (e, le-leb (products (shapesIn l)) 4096 (omega (arith, room-sum e))), room-sum e)) (λ e. absurd (omega (arith, room-none e)))
+  unfolding goodShapes bytesIn
+  room-good h = case (all shaped (shapesIn l)) (λ e. (rw (e, le-leb (bytesIn l) 4096 (omega (arith, room-sum e))), room-sum e)) (λ e. absurd (omega (arith, room-none e)))
 
   pub room-bad : 4096 < roomIn 0 l → goodShapes (shapesIn l) ≡ false
-  unfolding goodShapes
-  room-bad h = case (all shaped (shapesIn l)) (λ e. rw (e, lt-leb (products (shapesIn l)) 4096 (omega (arith, room-sum e)))) (λ e. rw e)
+  unfolding goodShapes bytesIn
+  room-bad h = case (all shaped (shapesIn l)) (λ e. rw (e, lt-leb (bytesIn l) 4096 (omega (arith, room-sum e)))) (λ e. rw e)
 
 -- ---- the loop's turns and its end
 
@@ -90,16 +89,17 @@ module _ (a k : ℕ) (l : List ℕ) where
     pub room-over : b ≡ false → roomIn a (drop (2 * k) l) ≡ 4097
     room-over f = next ∙ rw f
 
-    module _ (t : b ≡ true) (x : ℕ) (ex : x ≡ getD l (2 * k) 0 * getD l (2 * k + 1) 0) where
-      pub room-on : roomIn a (drop (2 * k) l) ≡ roomIn (a + x) (drop (2 * (k + 1)) l)
-      room-on = next ∙ rw (t, ex)
-
-      pub room-low : x ≤ 4080
-      room-low =
-          let z = sized (getD l (2 * k) 0) (getD l (2 * k + 1) 0) (sym e ∙ t) in
-          let m : getD l (2 * k) 0 * getD l (2 * k + 1) 0 ≤ 16 * 255 = mul-le-mul (z .narrow) (z .shallow) in
-          omega (arith, m, ex)
+    pub room-on : b ≡ true → (x : ℕ) → x ≡ getD l (2 * k) 0 * getD l (2 * k + 1) 0 → roomIn a (drop (2 * k) l) ≡ roomIn (a + x) (drop (2 * (k + 1)) l)
+    room-on t x ex = next ∙ rw (t, ex)
 
   pub room-end : length l ≤ 2 * k → roomIn a (drop (2 * k) l) ≡ a
   unfolding roomIn
   room-end h = ap (roomIn a) (drop-of-length-le l {i = 2 * k} h)
+
+  pub bytes-on : 2 * k + 1 < length l → (x : ℕ) → x ≡ getD l (2 * k) 0 * getD l (2 * k + 1) 0 → a + bytesIn (drop (2 * k) l) ≡ a + x + bytesIn (drop (2 * (k + 1)) l)
+  unfolding bytesIn shapesIn sum
+  bytes-on h x ex = ap (λ (r : List ℕ). a + bytesIn r) (pair h) ∙ rw (← ex) (omega arith)
+
+  pub bytes-end : length l ≤ 2 * k → a + bytesIn (drop (2 * k) l) ≡ a
+  unfolding bytesIn shapesIn sum
+  bytes-end h = ap (λ (r : List ℕ). a + bytesIn r) (drop-of-length-le l {i = 2 * k} h) ∙ omega arith

@@ -100,8 +100,8 @@ fn is_shaped(width: u8, depth: u8) -> bool
 }
 
 // The bytes of one queue.
-fn bytes_of(width: u8, depth: u8) -> usize
-    ensures { λ r. ⌜ r ≡ width * depth ⌝ }
+pub fn bytes_of(width: u8, depth: u8) -> usize
+    ensures { λ r. ⌜ (r ≡ width * depth) × (r ≤ 65025) ⌝ }
 {
     wide(width) * wide(depth)
 }

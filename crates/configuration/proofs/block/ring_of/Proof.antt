@@ -1,4 +1,4 @@
--- The block holds the pair of the queue, and the pairs before it, whose room is what they take.
+-- The block holds the pair of the queue, and the pairs before it, whose bytes are what they take.
 use native.Mathlib.Omega.{arith}
 use denote.Ref.{now}
 use Rattle.configuration.specs.Ring.{ring-inside, ring-base, ring-is}
@@ -24,26 +24,26 @@ add-here c =
     let a = s .args in
     omega (arith, ring-inside (now (a .config)) (a .shape) (s .pre .0) (s .pre .1) (a .q) (s .pre .2) (s .pre .3))
 
-sub-room : tie.Need-sub-room
-sub-room c = search needs
+sub-taken : tie.Need-sub-taken
+sub-taken c = search needs
 
-part-room-start : tie.Need-part-room-start
-part-room-start c = search needs
+part-taken-start : tie.Need-part-taken-start
+part-taken-start c = search needs
 
-part-room-end : tie.Need-part-room-end
-part-room-end c =
+part-taken-end : tie.Need-part-taken-end
+part-taken-end c =
     let s = c .before .before in
     let a = s .args in
     omega (arith, ring-inside (now (a .config)) (a .shape) (s .pre .0) (s .pre .1) (a .q) (s .pre .2) (s .pre .3))
 
-room-requires : tie.Need-room-requires
-room-requires c κs = search needs
+taken-requires : tie.Need-taken-requires
+taken-requires c κs = search needs
 
 add-base : tie.Need-add-base
 add-base c =
     let s = c .before .before .before .before .before in
     let a = s .args in
-    omega (arith, c .before .room .ensures, ring-base (now (a .config)) (a .shape) (s .pre .0) (s .pre .1) (a .q) (s .pre .2) (s .pre .3))
+    omega (arith, c .before .taken .ensures, ring-base (now (a .config)) (a .shape) (s .pre .0) (s .pre .1) (a .q) (s .pre .2) (s .pre .3))
 
 shared-slice-read-wide : tie.Need-shared-slice-read-wide
 shared-slice-read-wide c =
@@ -70,7 +70,7 @@ returns : tie.Need-returns
 returns c =
     let s = c .before .before .before .before .before .before .before .before .before in
     let a = s .args in
-    ring-is (now (a .config)) (a .shape) (s .pre .0) (s .pre .1) (a .q) (s .pre .2) (s .pre .3) _ _ _ (c .before .before .wide .ensures) (c .wide2 .ensures) (c .before .before .before .before .before .room .ensures)
+    ring-is (now (a .config)) (a .shape) (s .pre .0) (s .pre .1) (a .q) (s .pre .2) (s .pre .3) _ _ _ (c .before .before .wide .ensures) (c .wide2 .ensures) (c .before .before .before .before .before .taken .ensures)
 
 pub ring-of-spec : {M : Type 1} → statement M
 ring-of-spec =
@@ -80,10 +80,10 @@ ring-of-spec =
     add-at
     mul-here
     add-here
-    sub-room
-    part-room-start
-    part-room-end
-    room-requires
+    sub-taken
+    part-taken-start
+    part-taken-end
+    taken-requires
     add-base
     shared-slice-read-wide
     wide-requires

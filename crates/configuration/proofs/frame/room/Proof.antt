@@ -6,12 +6,12 @@ use lib.ListN.{drop}
 use denote.Ref.{now}
 use borrow.Author.Needs.{needs}
 use borrow.Author.Tests.{not-true, not-false}
-use Rattle.configuration.specs.Room.{roomIn, room-low, room-on, room-over, room-end}
+use Rattle.configuration.specs.Room.{roomIn, room-on, room-over, room-end}
 use Rattle.configuration.proofs.frame.room.Statement.{statement}
 use Rattle.configuration.proofs.frame.room.Tie as tie
 
 abbrev Inv-loop : tie.InvT-loop
-Inv-loop shapes queues sum₀ k₀ sum k = (k ≤ queues) × (sum ≤ 4080 * k) × (roomIn 0 shapes ≡ roomIn sum (drop (2 * k) shapes))
+Inv-loop shapes queues sum₀ k₀ sum k = (k ≤ queues) × (sum ≤ 65025 * k) × (roomIn 0 shapes ≡ roomIn sum (drop (2 * k) shapes))
 
 abbrev μ-loop : tie.MeasureT-loop
 μ-loop shapes queues sum₀ k₀ sum k = queues - k
@@ -44,10 +44,7 @@ bytes-of-requires : tie.Need-bytes-of-requires Inv-loop μ-loop
 bytes-of-requires c κs = search needs
 
 add-sum : tie.Need-add-sum Inv-loop μ-loop
-add-sum c =
-    let l = c .before .before .before .before .before .before .loop in
-    let a = now (c .before .before .before .before .before .before .before .before .args .shapes) in
-    omega (arith, l .inv .1, room-low (l .sum) (l .k) a (omega arith) _ (c .before .before .is-shaped .ensures) (not-false _ (c .before .if1 .left)) _ (c .bytes-of .ensures))
+add-sum c = omega (arith, c .before .before .before .before .before .before .loop .inv .1, c .bytes-of .ensures .1)
 
 add-k : tie.Need-add-k Inv-loop μ-loop
 add-k c = omega arith
@@ -61,7 +58,7 @@ loop-again c =
     let a = now (c .before .before .before .before .before .before .before .before .args .shapes) in
     let b = c .before .before .is-shaped .ensures in
     let t = not-false _ (c .before .if1 .left) in
-    (omega arith, omega (arith, l .inv .1, room-low (l .sum) (l .k) a (omega arith) _ b t _ (c .bytes-of .ensures)), l .inv .2 ∙ room-on (l .sum) (l .k) a (omega arith) _ b t _ (c .bytes-of .ensures))
+    (omega arith, omega (arith, l .inv .1, c .bytes-of .ensures .1), l .inv .2 ∙ room-on (l .sum) (l .k) a (omega arith) _ b t _ (c .bytes-of .ensures .0))
 
 returns-2 : tie.Need-returns-2 Inv-loop μ-loop
 returns-2 c =
