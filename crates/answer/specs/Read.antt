@@ -54,9 +54,9 @@ module _ (c : Config) (s : Shape) (L : Ledger) (d z w : List ℕ) (h : Shows c s
       subst (λ (k : ledger.Task). Short (shown (k .outcome))) (sym (shown-task c s L d z w h (suc t) (omega arith) hi))
       (view-short (record-is c s L d z w h (suc t) (omega arith) hi .outcome) (rowAt 16 (suc t - 1) z) (simp length-take (omega arith)))
 
-  -- so the block of 21 bytes has room for every answer. r is what `write` gives back
-  pub answer-short : (r : ℕ) → r ≤ s .tasks → r ≡ running L → (n m : ℕ) → (4 ≤ length (answer n m L)) × (length (answer n m L) ≤ 20)
+  -- so the block of 21 bytes has room for every answer
+  pub answer-short : running L ≤ s .tasks → (n m : ℕ) → (4 ≤ length (answer n m L)) × (length (answer n m L) ≤ 20)
   unfolding answer
-  answer-short r hi e n m =
-      let x : Short (shown (task L (running L) .outcome)) = task-short (running L) (omega arith) in
+  answer-short hi n m =
+      let x : Short (shown (task L (running L) .outcome)) = task-short (running L) hi in
       (omega (arith, x .0), omega (arith, x .1))

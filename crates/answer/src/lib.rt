@@ -1,6 +1,6 @@
 // The answer to a frame, written into a lent block: its length in byte 0, the answer from byte 1 on.
 // Promises: it is the ledger's answer, byte by byte, for every ledger that the memory shows; the bytes behind it stay.
-// Rests on tables for the running task and its outcome, and on rows for the copy of an entry.
+// Rests on tables for the running task's outcome, and on rows for the copy of an entry.
 use tables::shape::Shape;
 use tables::tasks::Outcome;
 ghost use mathlib.Core.Path.{_≡_};
@@ -11,7 +11,7 @@ ghost use Rattle.rows.specs.Splice.{splice};
 ghost use Rattle.rows.specs.Rows.{rowAt};
 ghost use Rattle.tables.specs.Decode.{viewOutcome};
 ghost use Rattle.tables.specs.Layout.{Fits};
-ghost use Rattle.tables.specs.Shows.{Shows, Tells};
+ghost use Rattle.tables.specs.Shows.{Shows};
 ghost use Rattle.ledger.specs.Config.{Config};
 ghost use Rattle.ledger.specs.Ledger as ledger;
 ghost use Rattle.ledger.specs.Ledger.{Ledger};
@@ -107,32 +107,31 @@ fn put_outcome(answer: &mut [u8], head: Head, o: Outcome, slots: &[u8], t: usize
     }
 }
 
-// The answer with the number that a frame was refused with, 0 if it was accepted. Gives the running task back.
+// The answer with the number that a frame was refused with, 0 if it was accepted.
 pub fn write(
     tables: &[u8],
     slots: &[u8],
     shape: Shape,
+    running: usize,
     number: u8,
     reissues: u8,
     answer: &mut [u8],
-) -> usize
-    requires { ⌜ Fits shape (length (now tables)) × (16 * shape .tasks ≤ length (now slots)) × (21 ≤ length (now answer)) ⌝ }
-    ensures { λ r. ⌜ (r ≤ shape .tasks) × Tells shape (now (tables .entry)) (λ c L. ledger.running L) r × ((c : Config) (L : Ledger) (w : List ℕ) → Shows c shape L (now (tables .entry)) (now (slots .entry)) w → now (answer .exit) ≡ written (session.answer number reissues L) (now (answer .entry))) ⌝ }
+)
+    requires { ⌜ Fits shape (length (now tables)) × (16 * shape .tasks ≤ length (now slots)) × (21 ≤ length (now answer)) × (running ≤ shape .tasks) ⌝ }
+    ensures { λ _. ⌜ ((c : Config) (L : Ledger) (w : List ℕ) → Shows c shape L (now (tables .entry)) (now (slots .entry)) w → running ≡ ledger.running L → now (answer .exit) ≡ written (session.answer number reissues L) (now (answer .entry))) ⌝ }
 {
-    let t = tables::tasks::running(tables, shape);
     let head = Head {
         number: number,
-        running: t as u8,
+        running: running as u8,
         reissues: reissues,
     };
-    if t == 0 {
+    if running == 0 {
         put_kind(answer, head, 0);
-        return t;
+        return;
     }
-    let k = tables::tasks::load(tables, shape, t);
+    let k = tables::tasks::load(tables, shape, running);
     let o = k.outcome;
-    put_outcome(answer, head, o, slots, t);
-    t
+    put_outcome(answer, head, o, slots, running);
 }
 
 // The answer to a refused configuration.

@@ -1,49 +1,76 @@
 -- The loop of settling over the memory: what holds for every ledger that the memory showed at the start.
-use mathlib.Core.Path.{_≡_, refl, sym, ap, _∙_, subst}
+use mathlib.Core.Path.{_≡_, sym, ap, _∙_}
 use mathlib.Core.Bool.{Bool, true, false}
 use mathlib.Core.List.{List}
-use Prim.Native.Nat.{ℕ, _+_, _*_, _<_, _≤_}
+use Prim.Native.Nat.{ℕ, _+_, _*_, _≤_}
 use native.Mathlib.Omega.{arith}
 use Rattle.tables.specs.declared.shape.Shape.{Shape}
-use Rattle.tables.specs.Shows.{Shows}
+use Rattle.tables.specs.Shows.{Shows, Tells}
 use Rattle.services.specs.Arms.{moved}
 use Rattle.ledger.specs.Config.{Config}
-use Rattle.ledger.specs.Ledger.{Ledger}
-use Rattle.ledger.specs.Session.{Settled, openRequest, isOpen, settle}
-use Rattle.executive.specs.Turns.{turned, turns, Rest, turns-one, rest-start, rest-next, rest-stop, rest-out}
+use Rattle.ledger.specs.Ledger.{Ledger, task, running}
+use Rattle.ledger.specs.Session as session
+use Rattle.ledger.specs.Session.{openRequest, isOpen, reissue, settle}
+use Rattle.executive.specs.declared.settling.Settled.{Settled}
+use Rattle.executive.specs.Turns.{turns, Rest, turns-one, rest-start, rest-next, rest-stop, rest-out}
+
+-- the task t runs, and whether its request is open is b
+abbrev pub Runs : Shape → (d : List ℕ) → (t : ℕ) (b : Bool) → Type 0
+Runs s d t b = Tells s d (λ c L. running L) t × Tells s d (λ c L. isOpen (openRequest L)) b
+
+pub runs-so : (s : Shape) (d : List ℕ) (t : ℕ) (r b : Bool) → Tells s d (λ c L. running L) t → Tells s d (λ c L. isOpen (task L t .request)) r → r ≡ b → Runs s d t b
+unfolding openRequest
+runs-so s d t r b e o k = (e, λ c L z w h. sym k ∙ o c L z w h ∙ ap (λ (x : ℕ). isOpen (task L x .request)) (e c L z w h))
+
+-- the running task t had an open request, which was issued again
+abbrev pub Reissues : Config → Shape → (d z d' z' : List ℕ) → (t : ℕ) → Type 0
+Reissues c s d z d' z' t = (L : Ledger) (w : List ℕ) → Shows c s L d z w → t ≡ running L → true ≡ isOpen (openRequest L) → Shows c s (reissue c L) d' z' w
+
+-- settled from the ledger M on
+pub record Ended (c : Config) (s : Shape) (M : Ledger) (d z w : List ℕ) (r : Settled) : Type 0 where
+  pub reissues : r .reissues ≡ settle (2 * c .T) c M .reissues
+  pub shows : Shows c s (settle (2 * c .T) c M .ledger) d z w
+  pub runs : r .running ≡ running (settle (2 * c .T) c M .ledger)
+
+abbrev pub Ends : Config → Shape → (d z d' z' : List ℕ) → Settled → Type 0
+Ends c s d z d' z' r = (r .running ≤ s .tasks) × (r .reissues ≤ 2 * s .tasks) × ((L : Ledger) (w : List ℕ) → Shows c s L d z w → Ended c s L d' z' w r)
 
 -- after n turns
 abbrev pub Kept : Config → Shape → (d z d' z' : List ℕ) → ℕ → Type 0
 Kept c s d z d' z' n = (L : Ledger) (w : List ℕ) → Shows c s L d z w → Shows c s (turns n c L) d' z' w × Rest c L n
 
-abbrev pub Turned : Config → Shape → (d z d' z' : List ℕ) → Bool → Type 0
-Turned c s d z d' z' r = (L : Ledger) (w : List ℕ) → Shows c s L d z w → (r ≡ isOpen (openRequest L)) × Shows c s (turned r c L) d' z' w
-
-abbrev pub Ends : Config → Shape → (d z d' z' : List ℕ) → ℕ → Type 0
-Ends c s d z d' z' n = (L : Ledger) (w : List ℕ) → Shows c s L d z w → (n ≡ settle (2 * c .T) c L .reissues) × Shows c s (settle (2 * c .T) c L .ledger) d' z' w
-
 pub kept-start : (c : Config) (s : Shape) (d z : List ℕ) → Kept c s d z d z 0
 unfolding turns
 kept-start c s d z L w h = (h, rest-start c L)
 
-module _ (c : Config) (s : Shape) (d z d₁ z₁ : List ℕ) (n : ℕ) (k : Kept c s d z d₁ z₁ n) where
-  pub kept-next : (d' z' : List ℕ) (r : Bool) → Turned c s d₁ z₁ d' z' r → r ≡ true → Kept c s d z d' z' (n + 1)
-  unfolding turned
-  kept-next d' z' r f e L w h =
+module _ (c : Config) (s : Shape) (d z d₁ z₁ : List ℕ) (n : ℕ) (k : Kept c s d z d₁ z₁ n) (t : ℕ) where
+  pub kept-next : Runs s d₁ t true → (d' z' : List ℕ) → Reissues c s d₁ z₁ d' z' t → Kept c s d z d' z' (n + 1)
+  kept-next r d' z' f L w h =
       let a = k L w h in
-      let t = f (turns n c L) w (a .0) in
-      (moved (turns-one c L n) (subst (λ (x : Bool). Shows c s (turned x c (turns n c L)) d' z' w) e (t .1)), rest-next c L n (a .1) (sym e ∙ t .0))
+      let M : Ledger = turns n c L in
+      let o : true ≡ isOpen (openRequest M) = r .1 c M z₁ w (a .0) in
+      (moved (turns-one c L n) (f M w (a .0) (r .0 c M z₁ w (a .0)) o), rest-next c L n (a .1) o)
 
-  pub kept-stop : (d' z' : List ℕ) (r : Bool) → Turned c s d₁ z₁ d' z' r → r ≡ false → n < 2 * s .tasks → Ends c s d z d' z' n
-  unfolding turned
-  kept-stop d' z' r f e l L w h =
-      let a = k L w h in
-      let t = f (turns n c L) w (a .0) in
-      let x : settle (2 * c .T) c L ≡ record { ledger = turns n c L; reissues = n } = rest-stop c L n (a .1) (2 * c .T) (omega (arith, h .of .tasks)) (sym e ∙ t .0) in
-      (sym (ap (λ (y : Settled). y .reissues) x), moved (sym (ap (λ (y : Settled). y .ledger) x)) (subst (λ (x : Bool). Shows c s (turned x c (turns n c L)) d' z' w) e (t .1)))
+  ended : (L : Ledger) (w : List ℕ) → Tells s d₁ (λ c L. running L) t → Shows c s (turns n c L) d₁ z₁ w → settle (2 * c .T) c L ≡ record { ledger = turns n c L; reissues = n }
+      → Ended c s L d₁ z₁ w (record { running = t; reissues = n })
+  ended L w r h x =
+      let e : turns n c L ≡ settle (2 * c .T) c L .ledger = sym (ap (λ (y : session.Settled). y .ledger) x) in
+      record { reissues = sym (ap (λ (y : session.Settled). y .reissues) x); shows = moved e h; runs = r c (turns n c L) z₁ w h ∙ ap running e }
 
-  pub kept-out : n ≤ 2 * s .tasks → 2 * s .tasks ≤ n → Ends c s d z d₁ z₁ n
-  kept-out l g L w h =
-      let a = k L w h in
-      let x : settle (2 * c .T) c L ≡ record { ledger = turns n c L; reissues = n } = rest-out c L n (a .1) (2 * c .T) (omega (arith, h .of .tasks)) (omega (arith, h .of .tasks)) in
-      (sym (ap (λ (y : Settled). y .reissues) x), moved (sym (ap (λ (y : Settled). y .ledger) x)) (a .0))
+  pub kept-stop : Runs s d₁ t false → t ≤ s .tasks → n ≤ 2 * s .tasks → Ends c s d z d₁ z₁ (record { running = t; reissues = n })
+  kept-stop r m l = (
+    m,
+    l,
+    λ L w h.
+        let a = k L w h in
+        ended L w (r .0) (a .0) (rest-stop c L n (a .1) (2 * c .T) (omega (arith, h .of .tasks)) (r .1 c (turns n c L) z₁ w (a .0))),
+  )
+
+  pub kept-out : Runs s d₁ t true → t ≤ s .tasks → n ≤ 2 * s .tasks → 2 * s .tasks ≤ n → Ends c s d z d₁ z₁ (record { running = t; reissues = n })
+  kept-out r m l g = (
+    m,
+    l,
+    λ L w h.
+        let a = k L w h in
+        ended L w (r .0) (a .0) (rest-out c L n (a .1) (2 * c .T) (omega (arith, h .of .tasks)) (omega (arith, h .of .tasks))),
+  )

@@ -28,6 +28,7 @@ use Rattle.ledger.specs.Ledger.{Ledger, task, running, queue, held, semaphoreOf
 use Rattle.ledger.specs.Services.{notEmpty, notFull, empty, full, issue}
 use Rattle.ledger.specs.Refusals.{onNotEmpty, onNotFull, wouldWaitOn, isWaiting, meets21}
 use Rattle.ledger.specs.Session.{openRequest, isOpen, refused21, issueAgain, reissue}
+use Rattle.executive.specs.Carried.{never}
 
 module _ (c : Config) (s : Shape) (L : Ledger) (d z w : List ℕ) (h : Shows c s L d z w) (q : ℕ) (lo : 1 ≤ q) (hi : q ≤ s .queues) (r : Ring) (er : r ≡ ringOf c s q)
     (b many : ℕ) (eb : b ≡ notFullOf s q) (em : many ≡ countIn s r d (q - 1)) where
@@ -70,20 +71,19 @@ pub receive-again : (c : Config) (t a : ℕ) (L : Ledger) → issue c t (ledger.
 unfolding issueAgain refused21
 receive-again c t a L = refl
 
--- ---- the running task's request
-pub null-closed : (L : Ledger) (t : ℕ) → t ≡ running L → t ≡ 0 → none ≡ openRequest L
-unfolding openRequest task at
-null-closed L t e n = sym (ap (λ (k : ℕ). task L k .request) (sym e ∙ n))
+-- ---- a task's request
+pub null-closed : (L : Ledger) (t : ℕ) → t ≡ 0 → false ≡ isOpen (task L t .request)
+unfolding task at isOpen
+null-closed L t n = ap (λ (k : ℕ). isOpen (task L k .request)) (sym n)
 
-pub open-is : (c : Config) (s : Shape) (L : Ledger) (d z w : List ℕ) → Shows c s L d z w → (t : ℕ) (x v : Request) → t ≡ running L → (t ≡ 0 → ⊥) → t ≤ s .tasks → x ≡ recordIn s d t .request → x ≡ v
-    → viewRequest c v (waitingIn s d t) ≡ openRequest L
-unfolding openRequest recordIn recordOf viewTask waitingIn
-open-is c s L d z w h t x v e n l p q =
-    let lo : 1 ≤ t = omega (arith, n) in
+pub request-is : (c : Config) (s : Shape) (L : Ledger) (d z w : List ℕ) → Shows c s L d z w → (t : ℕ) (x v : Request) → 1 ≤ t → t ≤ s .tasks → x ≡ recordIn s d t .request → x ≡ v
+    → viewRequest c v (waitingIn s d t) ≡ task L t .request
+unfolding recordIn recordOf viewTask waitingIn
+request-is c s L d z w h t x v lo l p q =
     let k = regions s d in
     ap (λ (y : Request). viewRequest c y (waitingIn s d t)) (sym q ∙ p)
     ∙ ap (λ (Q : ℕ). viewRequest c (recordOf Q (getD (k .blocks) (t - 1) 0) (rowAt 6 (t - 1) (k .records)) .request) (waitingIn s d t)) (h .of .queues)
-    ∙ sym (ap (λ (y : ledger.Task). y .request) (shown-task c s L d z w h t lo l)) ∙ ap (λ (k : ℕ). task L k .request) e
+    ∙ sym (ap (λ (y : ledger.Task). y .request) (shown-task c s L d z w h t lo l))
 
 pub reissue-is : (c : Config) (L : Ledger) (t : ℕ) (r : ledger.Request) → t ≡ running L → r ≡ openRequest L → issueAgain c t r (setRequest t none L) ≡ reissue c L
 unfolding reissue
@@ -94,21 +94,18 @@ reissue-is c L t r e p =
 pub entry-is : (E x : List ℕ) (width n : ℕ) → x ≡ E → width ≡ n → take (width - 0) (drop 0 x) ≡ take n E
 entry-is E x width n e k = let m : width - 0 ≡ n = omega arith in ap (λ (j : ℕ). take j x) m ∙ ap (take n) e
 
--- ---- a turn: what the arm's call did, and the request was open
-module _ (c : Config) (s : Shape) (L : Ledger) (d z w : List ℕ) (h : Shows c s L d z w) (t : ℕ) (x v : Request) (e : t ≡ running L) (n : t ≡ 0 → ⊥) (l : t ≤ s .tasks) (p : x ≡ recordIn s d t .request) (q : x ≡ v) where
-  pub turn-none : viewRequest c v (waitingIn s d t) ≡ none → (false ≡ isOpen (openRequest L)) × Shows c s L d z w
+-- ---- a turn: the running task's request was open, and the arm's call issued it again
+module _ (c : Config) (s : Shape) (L : Ledger) (d z w : List ℕ) (h : Shows c s L d z w) (t : ℕ) (x v : Request) (lo : 1 ≤ t) (l : t ≤ s .tasks) (p : x ≡ recordIn s d t .request) (q : x ≡ v) (e : t ≡ running L) where
+  open-is : viewRequest c v (waitingIn s d t) ≡ openRequest L
+  unfolding openRequest
+  open-is = request-is c s L d z w h t x v lo l p q ∙ ap (λ (k : ℕ). task L k .request) e
+
+  pub turn-none : {P : Type 0} → viewRequest c v (waitingIn s d t) ≡ none → true ≡ isOpen (openRequest L) → P
   unfolding isOpen
-  turn-none k = (ap isOpen (sym k ∙ open-is c s L d z w h t x v e n l p q), h)
+  turn-none k o = never (ap isOpen (sym k ∙ open-is) ∙ sym o)
 
-  pub turn-open : (true ≡ isOpen (viewRequest c v (waitingIn s d t))) → {d' z' : List ℕ}
-      → Shows c s (issueAgain c t (viewRequest c v (waitingIn s d t)) (setRequest t none L)) d' z' w → (true ≡ isOpen (openRequest L)) × Shows c s (reissue c L) d' z' w
-  turn-open k g =
-      let o : viewRequest c v (waitingIn s d t) ≡ openRequest L = open-is c s L d z w h t x v e n l p q in
-      (k ∙ ap isOpen o, moved (reissue-is c L t (viewRequest c v (waitingIn s d t)) e o) g)
-
-pub turn-null : (c : Config) (s : Shape) (L : Ledger) (d z w : List ℕ) → Shows c s L d z w → (t : ℕ) → t ≡ running L → t ≡ 0 → (false ≡ isOpen (openRequest L)) × Shows c s L d z w
-unfolding isOpen
-turn-null c s L d z w h t e n = (ap isOpen (null-closed L t e n), h)
+  pub turn-open : {d' z' : List ℕ} → Shows c s (issueAgain c t (viewRequest c v (waitingIn s d t)) (setRequest t none L)) d' z' w → Shows c s (reissue c L) d' z' w
+  turn-open g = moved (reissue-is c L t (viewRequest c v (waitingIn s d t)) e open-is) g
 
 pub asked : {Q q : ℕ} {x : Request} → x ≡ Dequeue q → Asked Q x → (1 ≤ q) × (q ≤ Q)
 asked {Q} e w = subst (Asked Q) e w

@@ -23,12 +23,9 @@ use Rattle.ledger.specs.Ledger.{Ledger, running, setTask, setOutcome}
 use Rattle.ledger.specs.Refusals.{inAMailbox, refusal}
 use Rattle.ledger.specs.Session as session
 use Rattle.ledger.specs.Session.{accept}
+use Rattle.executive.specs.declared.settling.Settled.{Settled}
+use Rattle.executive.specs.Kept.{Ended}
 use Rattle.executive.specs.Carried.{prepared, served, did-is}
-
--- settled from the ledger M on, in n reissues
-pub record Acted (c : Config) (s : Shape) (M : Ledger) (d z w : List ℕ) (n : ℕ) : Type 0 where
-  pub reissues : n ≡ session.settle (2 * c .T) c M .reissues
-  pub shows : Shows c s (session.settle (2 * c .T) c M .ledger) d z w
 
 -- the number, the memory and the answer are the ledger's; a refused frame changes the answer alone
 pub record Steps (c : Config) (s : Shape) (f d z w a d' z' w' a' : List ℕ) (r : ℕ) : Type 0 where
@@ -52,40 +49,35 @@ module _ (g f d z w a : List ℕ) (s : Shape) (q : Asked) (reads : Reads g f d w
   number-is : (L : Ledger) → Shows c s L d z w → n ≡ refusal c L f
   number-is L h = en ∙ reads .tells L z h .1
 
-  pub step-refused : (a' : List ℕ) → (n ≡ 0 → ⊥) → ((L : Ledger) → Shows c s L d z w → a' ≡ written (session.answer n 0 L) a) → Steps c s f d z w a d z w a' n
+  pub step-refused : (a' : List ℕ) → (n ≡ 0 → ⊥) → ((L : Ledger) → Shows c s L d z w → q .running ≡ running L → a' ≡ written (session.answer n 0 L) a) → Steps c s f d z w a d z w a' n
   step-refused a' ne e =
       record {
         tells = λ L h.
             let r = number-is L h in
             let x = refused-step c f L (λ k. ne (r ∙ k)) in
-            (r, moved (sym (ap (λ y. y .ledger) x)) h, e L h ∙ ap (λ (k : ℕ). written (session.answer k 0 L) a) r ∙ ap (λ y. written (y .answered) a) (sym x));
+            (r, moved (sym (ap (λ y. y .ledger) x)) h, e L h (reads .tells L z h .0) ∙ ap (λ (k : ℕ). written (session.answer k 0 L) a) r ∙ ap (λ y. written (y .answered) a) (sym x));
         unchanged = λ k. (refl, refl, refl);
       }
 
-  pub step-accepted : (d' z' w' a' : List ℕ) (m : ℕ) → n ≡ 0
-      → ((L : Ledger) → Free (q .command) c L → Shows c s L d z w → Acted c s (did (q .command) c (q .running) (drop 5 f) L) d' z' w' m)
-      → ((M : Ledger) → Shows c s M d' z' w' → a' ≡ written (session.answer 0 m M) a) → Steps c s f d z w a d' z' w' a' 0
-  step-accepted d' z' w' a' m e act told =
+  pub step-accepted : (d' z' w' a' : List ℕ) (k : Settled) → n ≡ 0
+      → ((L : Ledger) → Free (q .command) c L → Shows c s L d z w → Ended c s (did (q .command) c (q .running) (drop 5 f) L) d' z' w' k)
+      → ((M : Ledger) → Shows c s M d' z' w' → k .running ≡ running M → a' ≡ written (session.answer 0 (k .reissues) M) a) → Steps c s f d z w a d' z' w' a' 0
+  step-accepted d' z' w' a' k e act told =
       record {
         tells = λ L h.
             let r : 0 ≡ refusal c L f = sym e ∙ number-is L h in
             let t = reads .tells L z h in
-            let k : did (q .command) c (q .running) (drop 5 f) L ≡ accept c f L = ap (λ (x : ℕ). did (q .command) c x (drop 5 f) L) (t .0) ∙ sym (t .2 (sym r)) in
-            let y = act L (reads .free L z h) h in
+            let j : did (q .command) c (q .running) (drop 5 f) L ≡ accept c f L = ap (λ (x : ℕ). did (q .command) c x (drop 5 f) L) (t .0) ∙ sym (t .2 (sym r)) in
+            let y : Ended c s (accept c f L) d' z' w' k = subst (λ (X : Ledger). Ended c s X d' z' w' k) j (act L (reads .free L z h) h) in
             let x = accepted-step c f L (sym r) in
             let M : Ledger = session.settle (2 * c .T) c (accept c f L) .ledger in
-            let u : Shows c s M d' z' w' = moved (ap (λ (X : Ledger). session.settle (2 * c .T) c X .ledger) k) (y .shows) in
-            let v : m ≡ session.settle (2 * c .T) c (accept c f L) .reissues = y .reissues ∙ ap (λ (X : Ledger). session.settle (2 * c .T) c X .reissues) k in
-            (r, moved (sym (ap (λ y. y .ledger) x)) u, told M u ∙ ap (λ (j : ℕ). written (session.answer 0 j M) a) v ∙ ap (λ y. written (y .answered) a) (sym x));
+            (r, moved (sym (ap (λ y. y .ledger) x)) (y .shows), told M (y .shows) (y .runs) ∙ ap (λ (i : ℕ). written (session.answer 0 i M) a) (y .reissues) ∙ ap (λ y. written (y .answered) a) (sym x));
         unchanged = λ k. absurd (k refl);
       }
 
 -- what act's calls come to
-pub acted : (c : Config) (s : Shape) (r : Command) (self : ℕ) (e : List ℕ) (L : Ledger) (d z w : List ℕ) (n : ℕ)
-    → (n ≡ session.settle (2 * c .T) c (served r c self e (prepared r self L)) .reissues) × Shows c s (session.settle (2 * c .T) c (served r c self e (prepared r self L)) .ledger) d z w
-    → Acted c s (did r c self e L) d z w n
-acted c s r self e L d z w n h =
-    subst (λ (X : Ledger). Acted c s X d z w n) (sym (did-is r c self e L)) (record { reissues = h .0; shows = h .1 })
+pub acted : (c : Config) (s : Shape) (r : Command) (self : ℕ) (e : List ℕ) (L : Ledger) (d z w : List ℕ) (k : Settled) → Ended c s (served r c self e (prepared r self L)) d z w k → Ended c s (did r c self e L) d z w k
+acted c s r self e L d z w k h = subst (λ (X : Ledger). Ended c s X d z w k) (sym (did-is r c self e L)) h
 
 -- a plain outcome leaves the messages and the timers
 pub free-prepared : (r : Command) (c : Config) (self : ℕ) (L : Ledger) → Free r c L → Free r c (prepared r self L)

@@ -1,19 +1,13 @@
 -- Turns of settling: after n of them the rest of the ledger's settling is what is left of its fuel.
-use mathlib.Core.Path.{_≡_, refl, sym, ap, _∙_, subst}
-use mathlib.Core.Bool.{Bool, true, false, cond}
-use mathlib.Core.List.{List}
-use Prim.Native.Nat.{ℕ, zero, suc, _+_, _-_, _*_, _<_, _≤_}
+use mathlib.Core.Path.{_≡_, refl, sym, ap, _∙_}
+use mathlib.Core.Bool.{true, false}
+use Prim.Native.Nat.{ℕ, zero, suc, _+_, _-_, _≤_}
 use native.Mathlib.Nat.{zero-add, add-zero}
 use native.Mathlib.Numerals.{add-one}
 use native.Mathlib.Omega.{arith}
 use Rattle.ledger.specs.Config.{Config}
 use Rattle.ledger.specs.Ledger.{Ledger}
 use Rattle.ledger.specs.Session.{Settled, openRequest, isOpen, reissue, settle}
-
--- a turn, or none
-unfoldable pub turned : Bool → Config → Ledger → Ledger
-turned true c L = reissue c L
-turned false c L = L
 
 unfoldable pub turns : ℕ → Config → Ledger → Ledger
 turns zero c L = L

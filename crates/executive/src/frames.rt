@@ -1,4 +1,5 @@
 // A frame, fed to a memory whose configuration and shape are known.
+use crate::settling::Settled;
 use command::Asked;
 use command::Command;
 use tables::shape::Shape;
@@ -16,9 +17,10 @@ ghost use Rattle.command.specs.Reads.{Asker};
 ghost use Rattle.command.specs.Free.{Free};
 ghost use Rattle.ledger.specs.Ledger.{Ledger};
 ghost use Rattle.executive.specs.Lent.{Lends};
-ghost use Rattle.executive.specs.Stepped.{Acted, Steps};
+ghost use Rattle.executive.specs.Kept.{Ended};
+ghost use Rattle.executive.specs.Stepped.{Steps};
 
-// The effect of an accepted frame, and settling. Gives the number of reissues.
+// The effect of an accepted frame, and settling.
 fn act(
     c: Command,
     me: usize,
@@ -28,9 +30,9 @@ fn act(
     slots: &mut [u8],
     timers: &mut [u8],
     shape: Shape,
-) -> usize
+) -> Settled
     requires { ⌜ Fits shape (length (now tables)) × Lends (now config) shape × (16 * shape .tasks ≤ length (now slots)) × Holds shape (length (now timers)) × Asker c me × (me ≤ shape .tasks) × Valid (configured (now config)) shape (now frame) c ⌝ }
-    ensures { λ r. ⌜ (r ≤ 2 * shape .tasks) × ((L : Ledger) → Free c (configured (now (config .entry))) L → Shows (configured (now (config .entry))) shape L (now (tables .entry)) (now (slots .entry)) (now (timers .entry)) → Acted (configured (now (config .entry))) shape (did c (configured (now (config .entry))) me (drop 5 (now (frame .entry))) L) (now (tables .exit)) (now (slots .exit)) (now (timers .exit)) r) ⌝ }
+    ensures { λ r. ⌜ (r .running ≤ shape .tasks) × (r .reissues ≤ 2 * shape .tasks) × ((L : Ledger) → Free c (configured (now (config .entry))) L → Shows (configured (now (config .entry))) shape L (now (tables .entry)) (now (slots .entry)) (now (timers .entry)) → Ended (configured (now (config .entry))) shape (did c (configured (now (config .entry))) me (drop 5 (now (frame .entry))) L) (now (tables .exit)) (now (slots .exit)) (now (timers .exit)) r) ⌝ }
 {
     crate::carrying::prepare(tables, shape, me, c);
     crate::carrying::carry_out(c, me as u8, frame, config, tables, slots, timers, shape);
@@ -55,10 +57,12 @@ pub fn step(
     let me = asked.running;
     let number = crate::carrying::number_of(c);
     if number != 0 {
-        answer::write(tables, slots, shape, number, 0, answer);
+        answer::write(tables, slots, shape, me, number, 0, answer);
         return number;
     }
-    let n = act(c, me, frame, config, tables, slots, timers, shape);
-    answer::write(tables, slots, shape, 0, n as u8, answer);
+    let settled = act(c, me, frame, config, tables, slots, timers, shape);
+    let running = settled.running;
+    let reissues = settled.reissues as u8;
+    answer::write(tables, slots, shape, running, 0, reissues, answer);
     0
 }

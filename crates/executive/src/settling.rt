@@ -4,11 +4,12 @@ use tables::shape::Shape;
 use tables::tasks::Outcome;
 use tables::tasks::Request;
 ghost use mathlib.Core.Path.{_≡_};
+ghost use mathlib.Core.Bool.{true};
 ghost use mathlib.Core.List.{List};
 ghost use Prim.Native.Nat.{ℕ, _*_, _≤_};
 ghost use lib.ListN.{length, take};
 ghost use Rattle.tables.specs.Layout.{Fits};
-ghost use Rattle.tables.specs.Shows.{waitingIn, Shows, Does};
+ghost use Rattle.tables.specs.Shows.{waitingIn, Shows, Does, Tells};
 ghost use Rattle.queues.specs.Rings.{RingFits, ringOf};
 ghost use Rattle.configuration.specs.Block.{configured};
 ghost use Rattle.ledger.specs.Config.{Config};
@@ -17,7 +18,13 @@ ghost use Rattle.ledger.specs.Ledger.{Ledger};
 ghost use Rattle.ledger.specs.Services as ledger_services;
 ghost use Rattle.ledger.specs.Session as session;
 ghost use Rattle.executive.specs.Lent.{Lends};
-ghost use Rattle.executive.specs.Turns.{turned};
+ghost use Rattle.executive.specs.Kept.{Runs, Reissues, Ends};
+
+// The task that runs when settling ends, and the number of reissues.
+pub struct Settled {
+    pub running: usize,
+    pub reissues: usize,
+}
 
 // The ring of a queue, within the tables.
 pub fn ring(config: &[u8], shape: Shape, q: u8) -> Ring
@@ -90,12 +97,11 @@ fn enqueue_again(tables: &mut [u8], config: &[u8], shape: Shape, t: u8, q: u8)
     services::entries::enqueue(tables, shape, r, t, q, &entry[0..width]);
 }
 
-// Whether the running task had an open request, which then was issued again.
-fn turn(tables: &mut [u8], slots: &mut [u8], config: &[u8], shape: Shape) -> bool
-    requires { ⌜ Fits shape (length (now tables)) × Lends (now config) shape × (16 * shape .tasks ≤ length (now slots)) ⌝ }
-    ensures { λ r. ⌜ ((L : Ledger) (w : List ℕ) → Shows (configured (now (config .entry))) shape L (now (tables .entry)) (now (slots .entry)) w → (r ≡ session.isOpen (session.openRequest L)) × Shows (configured (now (config .entry))) shape (turned r (configured (now (config .entry))) L) (now (tables .exit)) (now (slots .exit)) w) ⌝ }
+// Whether task t has an open request; the null task has none.
+fn is_open(tables: &[u8], shape: Shape, t: usize) -> bool
+    requires { ⌜ Fits shape (length (now tables)) × (t ≤ shape .tasks) ⌝ }
+    ensures { λ r. ⌜ (r ≡ true → 1 ≤ t) × Tells shape (now (tables .entry)) (λ c L. session.isOpen (ledger.task L t .request)) r ⌝ }
 {
-    let t = tables::tasks::running(tables, shape);
     if t == 0 {
         return false;
     }
@@ -103,34 +109,68 @@ fn turn(tables: &mut [u8], slots: &mut [u8], config: &[u8], shape: Shape) -> boo
     let request = task.request;
     match request {
         Request::None => false,
-        Request::Receive(from) => {
-            receive_again(tables, shape, t as u8, from);
-            true
-        }
-        Request::Dequeue(q) => {
-            dequeue_again(tables, slots, config, shape, t as u8, q);
-            true
-        }
-        Request::Enqueue(q) => {
-            enqueue_again(tables, config, shape, t as u8, q);
-            true
-        }
+        Request::Receive(_) => true,
+        Request::Dequeue(_) => true,
+        Request::Enqueue(_) => true,
     }
 }
 
-// Gives the number of reissues.
-pub fn settle(tables: &mut [u8], slots: &mut [u8], config: &[u8], shape: Shape) -> usize
-    requires { ⌜ Fits shape (length (now tables)) × Lends (now config) shape × (16 * shape .tasks ≤ length (now slots)) ⌝ }
-    ensures { λ r. ⌜ (r ≤ 2 * shape .tasks) × ((L : Ledger) (w : List ℕ) → Shows (configured (now (config .entry))) shape L (now (tables .entry)) (now (slots .entry)) w → (r ≡ session.settle (2 * configured (now (config .entry)) .T) (configured (now (config .entry))) L .reissues) × Shows (configured (now (config .entry))) shape (session.settle (2 * configured (now (config .entry)) .T) (configured (now (config .entry))) L .ledger) (now (tables .exit)) (now (slots .exit)) w) ⌝ }
+// The open request of the running task, closed and issued again.
+fn reissue(tables: &mut [u8], slots: &mut [u8], config: &[u8], shape: Shape, running: usize)
+    requires { ⌜ Fits shape (length (now tables)) × Lends (now config) shape × (16 * shape .tasks ≤ length (now slots)) × (1 ≤ running) × (running ≤ shape .tasks) ⌝ }
+    ensures { λ _. ⌜ Reissues (configured (now (config .entry))) shape (now (tables .entry)) (now (slots .entry)) (now (tables .exit)) (now (slots .exit)) running ⌝ }
+{
+    let task = tables::tasks::load(tables, shape, running);
+    let request = task.request;
+    match request {
+        Request::None => {}
+        Request::Receive(from) => receive_again(tables, shape, running as u8, from),
+        Request::Dequeue(q) => dequeue_again(tables, slots, config, shape, running as u8, q),
+        Request::Enqueue(q) => enqueue_again(tables, config, shape, running as u8, q),
+    }
+}
+
+// The loop, where the first task to run has an open request. It stands apart, so that a frame without reissues does not pay for it.
+fn settle_open(
+    tables: &mut [u8],
+    slots: &mut [u8],
+    config: &[u8],
+    shape: Shape,
+    first: usize,
+) -> Settled
+    requires { ⌜ Fits shape (length (now tables)) × Lends (now config) shape × (16 * shape .tasks ≤ length (now slots)) × (1 ≤ first) × (first ≤ shape .tasks) × Runs shape (now tables) first true ⌝ }
+    ensures { λ r. ⌜ Ends (configured (now (config .entry))) shape (now (tables .entry)) (now (slots .entry)) (now (tables .exit)) (now (slots .exit)) r ⌝ }
 {
     let limit = 2 * shape.tasks;
     let mut n: usize = 0;
+    let mut running = first;
     while n < limit {
-        if turn(tables, slots, config, shape) {
-            n += 1;
-        } else {
-            return n;
+        reissue(tables, slots, config, shape, running);
+        n += 1;
+        running = tables::tasks::running(tables, shape);
+        if !is_open(tables, shape, running) {
+            return Settled {
+                running: running,
+                reissues: n,
+            };
         }
     }
-    n
+    Settled {
+        running: running,
+        reissues: n,
+    }
+}
+
+pub fn settle(tables: &mut [u8], slots: &mut [u8], config: &[u8], shape: Shape) -> Settled
+    requires { ⌜ Fits shape (length (now tables)) × Lends (now config) shape × (16 * shape .tasks ≤ length (now slots)) ⌝ }
+    ensures { λ r. ⌜ Ends (configured (now (config .entry))) shape (now (tables .entry)) (now (slots .entry)) (now (tables .exit)) (now (slots .exit)) r ⌝ }
+{
+    let running = tables::tasks::running(tables, shape);
+    if !is_open(tables, shape, running) {
+        return Settled {
+            running: running,
+            reissues: 0,
+        };
+    }
+    settle_open(tables, slots, config, shape, running)
 }

@@ -55,7 +55,8 @@ fn refuse_line(config: &[u8], tables: &[u8], slots: &[u8], answer: &mut [u8])
     match l {
         Lent::Bad => {}
         Lent::Good(shape) => {
-            answer::write(tables, slots, shape, 1, 0, answer);
+            let running = tables::tasks::running(tables, shape);
+            answer::write(tables, slots, shape, running, 1, 0, answer);
         }
     }
 }

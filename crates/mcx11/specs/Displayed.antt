@@ -1,6 +1,6 @@
 -- What a memory that shows a ledger gives: its bytes are the ledger's items, and with full sizes and the rule of the configuration it is lent well.
 use Prim.Native.Nat.{ℕ, _*_, _≤_}
-use mathlib.Core.Path.{_≡_, refl, ap, _∙_}
+use mathlib.Core.Path.{_≡_, ap, _∙_}
 use mathlib.Core.Logic.{_⊎_, inl, inr}
 use mathlib.Core.Bool.{Bool, true, false, cond, _&&_}
 use mathlib.Core.List.{List}
@@ -79,7 +79,7 @@ module _ (c : Config) (l : Ledger) (m : Memory) (h : Displays c l m) where
 
   pub answer-short : (n r : ℕ) → (4 ≤ length (answer n r l)) × (length (answer n r l) ≤ 20)
   unfolding Displays
-  answer-short n r = read.answer-short c (shapeOf c) l (m .tables) (m .slots) (m .timers) h (running l) running-most refl n r
+  answer-short n r = read.answer-short c (shapeOf c) l (m .tables) (m .slots) (m .timers) h running-most n r
 
 pub step-short : (c : Config) (f : List ℕ) (l : Ledger) (m : Memory) → Displays c (step c f l .ledger) m → length (step c f l .answered) ≤ 20
 unfolding step

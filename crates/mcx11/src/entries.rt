@@ -100,7 +100,8 @@ fn begin(
     match l {
         Lent::Bad => {}
         Lent::Good(shape) => {
-            answer::write(tables, slots, shape, 0, 0, answer);
+            let running = tables::tasks::running(tables, shape);
+            answer::write(tables, slots, shape, running, 0, 0, answer);
         }
     }
 }

@@ -7,11 +7,8 @@ use borrow.Author.Needs.{needs}
 use Rattle.answer.proofs.write.Statement.{statement}
 use Rattle.answer.proofs.write.Tie as tie
 
-running-requires : tie.Need-running-requires
-running-requires c κs = search needs
-
 cast-t11 : tie.Need-cast-t11
-cast-t11 c = let s = c .before .before .before .before in omega (arith, few (s .pre .0))
+cast-t11 c = let s = c .before .before .before in omega (arith, few (s .pre .0), s .pre .3)
 
 put-kind-requires : tie.Need-put-kind-requires
 put-kind-requires c κs = search needs
@@ -21,13 +18,9 @@ same-length c = search needs
 
 returns : tie.Need-returns
 returns c =
-    let a = c .before .before .before .before .before .before .before .before .before .args in
-    let r = c .before .before .before .before .before .running in (
-      r .ensures .0,
-      r .ensures .1,
-      λ g L w h.
-          answer-null g (a .shape) L (now (a .tables)) (now (a .slots)) w h _ (r .ensures .1 g L (now (a .slots)) w h) (now (a .answer)) _ (c .before .before .before .before .if1 .taken) (c .before .before .put-kind .ensures),
-    )
+    let a = c .before .before .before .before .before .before .before .before .args in
+    λ g L w h r.
+    answer-null g (a .shape) L (now (a .tables)) (now (a .slots)) w h _ r (now (a .answer)) _ (c .before .before .before .before .if1 .taken) (c .before .before .put-kind .ensures)
 
 load-requires : tie.Need-load-requires
 load-requires c κs = search needs
@@ -40,19 +33,15 @@ same-length-2 c = search needs
 
 returns-2 : tie.Need-returns-2
 returns-2 c =
-    let a = c .before .before .before .before .before .before .before .before .before .before .args in
-    let r = c .before .before .before .before .before .before .running in (
-      r .ensures .0,
-      r .ensures .1,
-      λ g L w h.
-          answer-task g (a .shape) L (now (a .tables)) (now (a .slots)) w h _ (r .ensures .1 g L (now (a .slots)) w h) (now (a .answer)) _ _ (omega arith) (r .ensures .0) (c .before .before .before .before .load .ensures .0) (c .before .before .put-outcome .ensures),
-    )
+    let s = c .before .before .before .before .before .before .before .before .before in
+    let a = s .args in
+    λ g L w h r.
+    answer-task g (a .shape) L (now (a .tables)) (now (a .slots)) w h _ r (now (a .answer)) _ _ (omega arith) (s .pre .3) (c .before .before .before .before .load .ensures .0) (c .before .before .put-outcome .ensures)
 
 pub write-spec : {M : Type 1} → statement M
 write-spec =
     tie.close
     (tie.spec
-    running-requires
     cast-t11
     put-kind-requires
     same-length

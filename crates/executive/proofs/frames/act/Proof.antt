@@ -34,14 +34,15 @@ same-length-3 c = search needs
 
 returns : tie.Need-returns
 returns c =
-    let s = c .before .before .before .before .before .before .before .before .before .before .before .before .before .before .before .before .before .before .before .before .before .before .before .before .before .before in
-    let a = s .args in
-    let g = configured (now (a .config)) in (
-      c .before .before .before .before .settle .ensures .0,
+    let a = c .before .before .before .before .before .before .before .before .before .before .before .before .before .before .before .before .before .before .before .before .before .before .before .before .before .before .args in
+    let g = configured (now (a .config)) in
+    let t = c .before .before .before .before .settle in (
+      t .ensures .0,
+      t .ensures .1,
       λ L f h.
           let P = prepared (a .c) (a .me) L in
           acted g (a .shape) (a .c) (a .me) (drop 5 (now (a .frame))) L _ _ _ _
-          (c .before .before .before .before .settle .ensures .1 (served (a .c) g (a .me) (drop 5 (now (a .frame))) P) _
+          (t .ensures .2 (served (a .c) g (a .me) (drop 5 (now (a .frame))) P) _
           (c .before .before .before .before .before .before .before .before .before .before .before .before .before .carry-out .ensures P (free-prepared (a .c) g (a .me) L f) (c .before .before .before .before .before .before .before .before .before .before .before .before .before .before .before .before .before .before .before .prepare .ensures g L _ _ h))),
     )
 

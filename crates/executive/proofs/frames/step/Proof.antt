@@ -1,4 +1,4 @@
--- `step` reads the command; refused, it writes the answer; accepted, it acts and answers what is then shown.
+-- `step` reads the command; refused, it writes the answer for the task that runs; accepted, it acts, and answers for the task that then runs.
 use native.Mathlib.Omega.{arith}
 use denote.Ref.{now}
 use Rattle.tables.specs.Layout.{still-fits, few}
@@ -32,19 +32,21 @@ same-length-4 c = search needs
 
 returns : tie.Need-returns
 returns c =
-    let s = c .before .before .before .before .before .before .before .before .before .before .before .before .before .before .before .before .before in
-    let a = s .args in
+    let a = c .before .before .before .before .before .before .before .before .before .before .before .before .before .before .before .before .before .args in
     step-refused (now (a .config)) (now (a .frame)) (now (a .tables)) (now (a .slots)) (now (a .timers)) (now (a .answer)) (a .shape) _ (c .before .before .before .before .before .before .before .before .read .ensures) _ (c .before .before .before .before .before .before .before .number-of .ensures) _ (c .before .before .before .before .before .before .if1 .taken)
-    (λ L h. c .before .before .write .ensures .2 (configured (now (a .config))) L _ h)
+    (λ L h r. c .before .before .write .ensures (configured (now (a .config))) L _ h r)
 
 act-requires : tie.Need-act-requires
 act-requires c κs = search needs
 
-cast-write : tie.Need-cast-write
-cast-write c = let s = c .before .before .before .before .before .before .before .before .before .before .before .before .before .before .before .before .before .before .before .before .before .before .before in omega (arith, few (s .pre .0), c .before .before .before .before .before .before .before .before .act .ensures .0)
+cast-reissues : tie.Need-cast-reissues
+cast-reissues c = omega (arith, few (c .before .before .before .before .before .before .before .before .before .before .before .before .before .before .before .before .before .before .before .before .before .before .pre .0), c .before .before .before .before .before .before .before .act .ensures .1)
 
 write-requires-2 : tie.Need-write-requires-2
-write-requires-2 c κs = let s = c .before .before .before .before .before .before .before .before .before .before .before .before .before .before .before .before .before .before .before .before .before .before .before .before in (still-fits (s .pre .0) (omega (arith, c .before .before .before .before .before .before .before .before .before .act .kept .1 .1 .1 .1 .0)), omega (arith, s .pre .2, c .before .before .before .before .before .before .before .before .before .act .kept .1 .1 .1 .1 .1 .0), s .pre .4)
+write-requires-2 c κs =
+    let s = c .before .before .before .before .before .before .before .before .before .before .before .before .before .before .before .before .before .before .before .before .before .before .before .before .before in
+    let t = c .before .before .before .before .before .before .before .before .before .before .act in
+    (still-fits (s .pre .0) (omega (arith, t .kept .1 .1 .1 .1 .0)), omega (arith, s .pre .2, t .kept .1 .1 .1 .1 .1 .0), s .pre .4, t .ensures .0)
 
 same-length-5 : tie.Need-same-length-5
 same-length-5 c = search needs
@@ -60,10 +62,9 @@ same-length-8 c = search needs
 
 returns-2 : tie.Need-returns-2
 returns-2 c =
-    let s = c .before .before .before .before .before .before .before .before .before .before .before .before .before .before .before .before .before .before .before .before .before .before .before .before .before .before .before in
-    let a = s .args in
-    step-accepted (now (a .config)) (now (a .frame)) (now (a .tables)) (now (a .slots)) (now (a .timers)) (now (a .answer)) (a .shape) _ (c .before .before .before .before .before .before .before .before .before .before .before .before .before .before .before .before .before .before .read .ensures) _ (c .before .before .before .before .before .before .before .before .before .before .before .before .before .before .before .before .before .number-of .ensures) _ _ _ _ _ (c .before .before .before .before .before .before .before .before .before .before .before .before .before .before .before .before .if1 .left)
-    (c .before .before .before .before .before .before .before .before .before .before .before .before .act .ensures .1) (λ M h. c .before .before .write2 .ensures .2 (configured (now (a .config))) M _ h)
+    let a = c .before .before .before .before .before .before .before .before .before .before .before .before .before .before .before .before .before .before .before .before .before .before .before .before .before .before .before .before .args in
+    step-accepted (now (a .config)) (now (a .frame)) (now (a .tables)) (now (a .slots)) (now (a .timers)) (now (a .answer)) (a .shape) _ (c .before .before .before .before .before .before .before .before .before .before .before .before .before .before .before .before .before .before .before .read .ensures) _ (c .before .before .before .before .before .before .before .before .before .before .before .before .before .before .before .before .before .before .number-of .ensures) _ _ _ _ _ (c .before .before .before .before .before .before .before .before .before .before .before .before .before .before .before .before .before .if1 .left)
+    (c .before .before .before .before .before .before .before .before .before .before .before .before .before .act .ensures .2) (λ M h r. c .before .before .write2 .ensures (configured (now (a .config))) M _ h r)
 
 pub step-spec : {M : Type 1} → statement M
 step-spec =
@@ -78,7 +79,7 @@ step-spec =
     same-length-4
     returns
     act-requires
-    cast-write
+    cast-reissues
     write-requires-2
     same-length-5
     same-length-6

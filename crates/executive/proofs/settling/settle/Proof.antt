@@ -1,85 +1,56 @@
--- `settle` takes turns while one was taken, 2T at most, as the ledger's fuel has it.
-use Prim.Native.Nat.{_*_, _-_, _≤_}
+-- `settle`: with no open request of the running task nothing is issued again; else the loop does it.
 use native.Mathlib.Omega.{arith}
-use mathlib.Core.Path.{_≡_, refl}
+use borrow.Author.Tests.{not-true, not-false}
 use denote.Ref.{now}
-use lib.ListN.{length}
-use Rattle.tables.specs.Layout.{still-fits, few}
 use Rattle.configuration.specs.Block.{configured}
-use Rattle.executive.specs.Kept.{Kept, kept-start, kept-next, kept-stop, kept-out}
+use Rattle.executive.specs.Kept.{runs-so, kept-start, kept-stop}
+use borrow.Author.Needs.{needs}
 use Rattle.executive.proofs.settling.settle.Statement.{statement}
 use Rattle.executive.proofs.settling.settle.Tie as tie
 
-abbrev Inv-loop : tie.InvT-loop
-Inv-loop tables₀ slots₀ config shape limit n₀ tables slots n = (n ≤ limit) × (length tables ≡ length tables₀) × (length slots ≡ length slots₀) × Kept (configured config) shape tables₀ slots₀ tables slots n
+running-requires : tie.Need-running-requires
+running-requires c κs = search needs
 
-abbrev μ-loop : tie.MeasureT-loop
-μ-loop tables₀ slots₀ config shape limit n₀ tables slots n = limit - n
+is-open-requires : tie.Need-is-open-requires
+is-open-requires c κs = search needs
 
-mul-limit : tie.Need-mul-limit Inv-loop μ-loop
-mul-limit c = omega (arith, few (c .before .before .before .before .pre .0))
+same-length : tie.Need-same-length
+same-length c = search needs
 
-loop-holds : tie.Need-loop-holds Inv-loop μ-loop
-loop-holds c =
-    let a = c .before .before .before .before .args in
-    (omega arith, refl, refl, kept-start (configured (now (a .config))) (a .shape) (now (a .tables)) (now (a .slots)))
-
-turn-requires : tie.Need-turn-requires Inv-loop μ-loop
-turn-requires c κs = let s = c .before .before .before .before .before .before .before .before in (still-fits (s .pre .0) (omega arith), s .pre .1, omega arith)
-
-add-n : tie.Need-add-n Inv-loop μ-loop
-add-n c = omega arith
-
-loop-less : tie.Need-loop-less Inv-loop μ-loop
-loop-less c = omega arith
-
-loop-again : tie.Need-loop-again Inv-loop μ-loop
-loop-again c =
-    let a = c .before .before .before .before .before .before .before .before .before .before .before .before .before .before .args in
-    let l = c .before .before .before .before .before .before .before .before .before .loop in
-    let t = c .before .before .before .before .before .turn in
-    (omega arith, omega arith, omega arith, kept-next (configured (now (a .config))) (a .shape) (now (a .tables)) (now (a .slots)) (l .tables) (l .slots) (l .n) (l .inv .3) _ _ _ (t .ensures) (c .if1 .taken))
-
-same-length : tie.Need-same-length Inv-loop μ-loop
-same-length c = omega arith
-
-same-length-2 : tie.Need-same-length-2 Inv-loop μ-loop
-same-length-2 c = omega arith
-
-returns : tie.Need-returns Inv-loop μ-loop
+returns : tie.Need-returns
 returns c =
-    let a = c .before .before .before .before .before .before .before .before .before .before .before .before .before .before .args in
-    let l = c .before .before .before .before .before .before .before .before .before .loop in
-    let t = c .before .before .before .before .before .turn in
-    (omega arith, kept-stop (configured (now (a .config))) (a .shape) (now (a .tables)) (now (a .slots)) (l .tables) (l .slots) (l .n) (l .inv .3) _ _ _ (t .ensures) (c .if1 .left) (omega arith))
+    let a = c .before .before .before .before .before .before .before .before .args in
+    let r = c .before .before .before .running in
+    let g = configured (now (a .config)) in
+    kept-stop g (a .shape) (now (a .tables)) (now (a .slots)) (now (a .tables)) (now (a .slots)) 0 (kept-start g (a .shape) (now (a .tables)) (now (a .slots))) _
+    (runs-so (a .shape) (now (a .tables)) _ _ _ (r .ensures .1) (c .before .is-open .ensures .1) (not-true _ (c .if1 .taken))) (r .ensures .0) (omega arith)
 
-same-length-3 : tie.Need-same-length-3 Inv-loop μ-loop
-same-length-3 c = omega arith
+settle-open-requires : tie.Need-settle-open-requires
+settle-open-requires c κs =
+    let s = c .before .before .before .before .before .before .before .before .before .before in
+    let r = c .before .before .before .before .before .running in
+    let o = c .before .before .before .is-open in
+    let e = not-false _ (c .before .before .if1 .left) in
+    (s .pre .0, s .pre .1, s .pre .2, o .ensures .0 e, r .ensures .0, runs-so (s .args .shape) (now (s .args .tables)) _ _ _ (r .ensures .1) (o .ensures .1) e)
 
-same-length-4 : tie.Need-same-length-4 Inv-loop μ-loop
-same-length-4 c = omega arith
+same-length-2 : tie.Need-same-length-2
+same-length-2 c = search needs
 
-returns-2 : tie.Need-returns-2 Inv-loop μ-loop
-returns-2 c =
-    let a = c .before .before .before .before .before .before .args in
-    let l = c .before .loop in
-    (omega arith, kept-out (configured (now (a .config))) (a .shape) (now (a .tables)) (now (a .slots)) (l .tables) (l .slots) (l .n) (l .inv .3) (omega arith) (omega arith))
+same-length-3 : tie.Need-same-length-3
+same-length-3 c = search needs
+
+returns-2 : tie.Need-returns-2
+returns-2 c = search needs
 
 pub settle-spec : {M : Type 1} → statement M
 settle-spec =
     tie.close
     (tie.spec
-    Inv-loop
-    μ-loop
-    mul-limit
-    loop-holds
-    turn-requires
-    add-n
-    loop-less
-    loop-again
+    running-requires
+    is-open-requires
     same-length
-    same-length-2
     returns
+    settle-open-requires
+    same-length-2
     same-length-3
-    same-length-4
     returns-2)

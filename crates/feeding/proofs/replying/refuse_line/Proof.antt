@@ -1,7 +1,6 @@
--- A block that is lent well lays out the tables, so the answer is written; another block is not asked of.
+-- A block that is lent well lays out the tables, so the answer is written, for the task that runs; another block is not asked of.
 use native.Mathlib.Omega.{arith}
 use mathlib.Core.Path.{sym, _∙_}
-use denote.Ref.{now}
 use Rattle.tables.specs.Layout.{fitting}
 use Rattle.executive.specs.Carried.{never}
 use Rattle.mcx11.specs.Feeding.{lent-bad, lent-good, begun-room}
@@ -19,12 +18,17 @@ enum-told c = search needs
 enum-known-l : tie.Need-enum-known-l
 enum-known-l c = search needs
 
+running-requires : tie.Need-running-requires
+running-requires c κs =
+    let g = lent-good _ (c .before .before .before .lent .ensures) (c .before .l .given .1) in
+    fitting (g .1 .laid) (omega (arith, begun-room (g .1) .0, c .before .before .before .before .before .before .before .before .pre .1))
+
 write-requires : tie.Need-write-requires
 write-requires c κs =
-    let p = c .before .before .before .before .before .before .before .before .before .pre in
-    let g = lent-good _ (c .before .before .before .before .lent .ensures) (c .before .before .l .given .1) in
+    let p = c .before .before .before .before .before .before .before .before .before .before .pre in
+    let g = lent-good _ (c .before .before .before .before .before .lent .ensures) (c .before .before .before .l .given .1) in
     let r = begun-room (g .1) in
-    (fitting (g .1 .laid) (omega (arith, r .0, p .1)), omega (arith, r .1, p .2), p .3)
+    (fitting (g .1 .laid) (omega (arith, r .0, p .1)), omega (arith, r .1, p .2), p .3, c .before .running .ensures .0)
 
 returns : tie.Need-returns
 returns c = λ l w h v. never (sym (lent-bad _ (c .before .before .lent .ensures) (c .enum-told .given .1)) ∙ h)
@@ -34,10 +38,10 @@ same-length c = search needs
 
 returns-2 : tie.Need-returns-2
 returns-2 c =
-    let g = lent-good _ (c .before .before .before .before .before .before .before .lent .ensures) (c .before .before .before .before .before .l .given .1) in
-    refuses-line _ _ _ _ _ _ (g .1) (c .before .before .write .ensures .2)
+    let g = lent-good _ (c .before .before .before .before .before .before .before .before .lent .ensures) (c .before .before .before .before .before .before .l .given .1) in
+    refuses-line _ _ _ _ _ _ (g .1) (λ x L w h. c .before .before .write .ensures x L w h (c .before .before .before .before .running .ensures .1 x L _ w h))
 
 pub refuse-line-spec : {M : Type 1} → statement M
 refuse-line-spec =
     tie.close
-    (tie.spec lent-requires enum-told enum-known-l write-requires returns same-length returns-2)
+    (tie.spec lent-requires enum-told enum-known-l running-requires write-requires returns same-length returns-2)

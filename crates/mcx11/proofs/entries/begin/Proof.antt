@@ -1,7 +1,5 @@
--- The block that the start leaves is good, so the answer is written.
+-- The block that the start leaves is good, so the answer is written, for the task that runs.
 use native.Mathlib.Omega.{arith}
-use mathlib.Core.Path.{sym, _∙_}
-use denote.Ref.{now}
 use Rattle.tables.specs.Layout.{fitting}
 use Rattle.mcx11.specs.Feeding.{lent-bad, lent-good, not-bad, begun-room, begun}
 use borrow.Author.Needs.{needs}
@@ -20,13 +18,18 @@ enum-told c = search needs
 enum-known-l : tie.Need-enum-known-l
 enum-known-l c = search needs
 
+running-requires : tie.Need-running-requires
+running-requires c κs =
+    let g = lent-good _ (c .before .before .before .before .lent .ensures) (c .before .before .l .given .1) in
+    fitting (g .1 .laid) (omega (arith, begun-room (g .1) .0, c .before .before .before .before .before .before .before .before .before .before .before .before .before .before .before .before .before .before .before .before .before .before .before .before .before .pre .2, c .before .before .before .before .before .before .before .before .before .before .before .before .before .before .start .kept .1 .1 .0))
+
 write-requires : tie.Need-write-requires
 write-requires c κs =
-    let s = c .before .before .before .before .before .before .before .before .before .before .before .before .before .before .before .before .before .before .before .before .before .before .before .before .before .before .before in
-    let k = c .before .before .before .before .before .before .before .before .before .before .before .before .before .before .before .before .start .kept in
-    let g = lent-good _ (c .before .before .before .before .before .before .lent .ensures) (c .before .before .before .before .l .given .1) in
+    let p = c .before .before .before .before .before .before .before .before .before .before .before .before .before .before .before .before .before .before .before .before .before .before .before .before .before .before .before .before .before .pre in
+    let k = c .before .before .before .before .before .before .before .before .before .before .before .before .before .before .before .before .before .before .start .kept in
+    let g = lent-good _ (c .before .before .before .before .before .before .before .before .lent .ensures) (c .before .before .before .before .before .before .l .given .1) in
     let r = begun-room (g .1) in
-    (fitting (g .1 .laid) (omega (arith, r .0, s .pre .2, k .1 .1 .0)), omega (arith, r .1, s .pre .3, k .1 .1 .1 .0), s .pre .5)
+    (fitting (g .1 .laid) (omega (arith, r .0, p .2, k .1 .1 .0)), omega (arith, r .1, p .3, k .1 .1 .1 .0), p .5, c .before .before .before .running .ensures .0)
 
 same-length : tie.Need-same-length
 same-length c = search needs
@@ -60,8 +63,8 @@ same-length-9 c = search needs
 
 returns-2 : tie.Need-returns-2
 returns-2 c =
-    let g = lent-good _ (c .before .before .before .before .before .before .before .before .before .lent .ensures) (c .before .before .before .before .before .before .before .l .given .1) in
-    begun _ _ _ _ _ _ _ _ (c .before .before .before .before .before .before .before .before .before .before .before .before .before .before .before .before .before .before .before .start .ensures) (g .1) (c .before .before .write .ensures .2)
+    let g = lent-good _ (c .before .before .before .before .before .before .before .before .before .before .before .lent .ensures) (c .before .before .before .before .before .before .before .before .before .l .given .1) in
+    begun _ _ _ _ _ _ _ _ (c .before .before .before .before .before .before .before .before .before .before .before .before .before .before .before .before .before .before .before .before .before .start .ensures) (g .1) (λ x L w h. c .before .before .write .ensures x L w h (c .before .before .before .before .before .before .running .ensures .1 x L _ w h))
 
 pub begin-spec : {M : Type 1} → statement M
 begin-spec =
@@ -71,6 +74,7 @@ begin-spec =
     lent-requires
     enum-told
     enum-known-l
+    running-requires
     write-requires
     same-length
     same-length-2
