@@ -1,20 +1,23 @@
 -- What an accepted frame says.
-use mathlib.Core.Path.{_≡_, refl, sym, ap, _∙_}
+use mathlib.Core.Path.{_≡_, refl, sym, ap, _∙_, subst}
 use mathlib.Core.Bool.{true, not, _&&_}
-use mathlib.Core.List.{List, [], _∷_, _++_}
+use mathlib.Core.List.{List, [], _∷_, _++_, map}
 use Prim.Native.Nat.{ℕ, _+_, _-_, _*_, _<_, _≤_}
 use native.Mathlib.Omega.{arith}
 use lib.Dec.{leb, ltb, eqb}
 use lib.ListN.{length, getD, take, drop, length-take, length-drop, List·getD-append}
-use lib.Seq.{take-at}
+use lib.Seq.{take-at, take-all}
 use borrow.Author.Tests.{eqb-true, not-false}
-use Rattle.ledger.specs.Lists.{_⇒_, byte, word, all}
+use Rattle.rows.specs.Splice.{cut}
+use Rattle.ledger.specs.Lists.{_⇒_, byte, word, sum, all}
 use Rattle.ledger.specs.Config.{configIn, goodHead, goodRest, configRefusal}
 use Rattle.ledger.specs.Theorems.Checks.{and-left, and-right, passes}
+use Rattle.tables.specs.declared.shape.Shape.{Shape}
 use Rattle.tables.specs.Shows.{Of}
-use Rattle.configuration.specs.Block.{front, configured, goodQueues, rule, rest-halves}
+use Rattle.configuration.specs.Block.{product, front, configured, goodQueues, rule, rest-halves}
 use Rattle.configuration.specs.Head.{Head}
-use Rattle.configuration.specs.Layout.{shapeOf, rule-head, of-shape}
+use Rattle.configuration.specs.Layout.{laidOut, shapeOf, rule-head, rule-room, of-shape}
+use Rattle.configuration.specs.Room.{bytesIn}
 use Rattle.configuration.specs.Lent.{shapes-length}
 
 pub record Accepted (f : List ℕ) : Type 0 where
@@ -53,6 +56,21 @@ module _ (f : List ℕ) (a : Accepted f) where
   -- the shape of its tables
   pub accepted-of : Of (configIn f) (shapeOf (configIn f))
   accepted-of = of-shape (configIn f) (a .rule) accepted-shapes
+
+  -- as it is laid out, with the bytes of the queues behind the t states
+  module _ (t n : ℕ) (et : t ≡ byte 0 f) (en : n ≡ bytesIn (cut f (8 + t) (length f))) where
+    bytes-are : n ≡ sum (map product (configIn f .shapes))
+    unfolding bytesIn configIn
+    bytes-are =
+        let e : cut f (8 + t) (length f) ≡ drop (8 + t) f = take-all (length f - (8 + t)) (drop (8 + t) f) (simp length-drop (omega arith)) in
+        en ∙ ap bytesIn e ∙ ap (λ (x : ℕ). bytesIn (drop (8 + x) f)) et
+
+    pub accepted-room : n ≤ 4096
+    accepted-room = omega (arith, bytes-are, rule-room (configIn f) (a .rule))
+
+    pub accepted-laid : (s : Shape) → s ≡ laidOut (byte 0 f) (byte 1 f) (byte 2 f) (byte 3 f) (byte 4 f) (byte 5 f) n → Of (configIn f) s
+    unfolding configIn shapeOf
+    accepted-laid s es = subst (Of (configIn f)) (sym (es ∙ ap (laidOut (byte 0 f) (byte 1 f) (byte 2 f) (byte 3 f) (byte 4 f) (byte 5 f)) bytes-are)) accepted-of
 
   -- a block that has it at its front
   module _ (g r : List ℕ) (e : g ≡ f ++ r) where

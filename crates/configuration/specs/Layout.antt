@@ -78,7 +78,7 @@ module _ (c : Config) (h : rule c ≡ true) where
   unfolding rule goodQueues goodShapes
   rule-shaped = and-left _ _ (and-right (goodHead c) (goodQueues c) h)
 
-  rule-room : sum (map product (c .shapes)) ≤ 4096
+  pub rule-room : sum (map product (c .shapes)) ≤ 4096
   unfolding rule goodQueues goodShapes
   rule-room = leb-true (sum (map product (c .shapes))) 4096 (and-right (all shaped (c .shapes)) _ (and-right (goodHead c) (goodQueues c) h))
 

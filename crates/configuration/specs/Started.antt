@@ -15,10 +15,9 @@ use Rattle.ledger.specs.Ledger.{fresh}
 use Rattle.tables.specs.declared.shape.Shape.{Shape}
 use Rattle.tables.specs.Layout.{Fits, fitting}
 use Rattle.tables.specs.Shows.{Of, Shows}
-use Rattle.configuration.specs.declared.Lent.the-variants.{Bad}
 use Rattle.configuration.specs.Block.{configured, rule}
-use Rattle.configuration.specs.Layout.{laidOut, laid-out, shapeOf, Lends, of-one, end-most}
-use Rattle.configuration.specs.Accepted.{Accepted, accepted, accepted-head, accepted-length, accepted-states, configured-in}
+use Rattle.configuration.specs.Layout.{of-one, end-most}
+use Rattle.configuration.specs.Accepted.{Accepted, accepted, accepted-length, accepted-states, configured-in}
 use Rattle.configuration.specs.Fresh.{FreshTables, fresh-shows}
 use Rattle.configuration.specs.Written.{splice-in, lent-part}
 
@@ -28,11 +27,6 @@ pub record Started (f g d z w : List ℕ) : Type 0 where
   pub keeps : rule (configured g) ≡ true
   pub shows : (s : Shape) → Of (configIn f) s → Shows (configIn f) s (fresh (configIn f)) d z w
 
--- the room of the entries is behind all that is fresh
-other-room : (t s q r g k n m x : ℕ) (states d : List ℕ) → FreshTables (laidOut t s q r g k n) x states d → FreshTables (laidOut t s q r g k m) x states d
-other-room t s q r g k n m x states d b =
-    record { ticks = b .ticks; messages = b .messages; blocks = b .blocks; kinds = b .kinds; requests = b .requests; semaphores = b .semaphores; rings = b .rings }
-
 module _ (f : List ℕ) (zero : configRefusal f ≡ 0) where
   abbrev ok : Accepted f
   ok = accepted f zero
@@ -40,39 +34,33 @@ module _ (f : List ℕ) (zero : configRefusal f ≡ 0) where
   pub frame-length : (8 ≤ length f) × (length f ≤ 198)
   frame-length = accepted-length f ok
 
-  module _ (s : Shape) (es : s ≡ laidOut (byte 0 f) (byte 1 f) (byte 2 f) (byte 3 f) (byte 4 f) (byte 5 f) 0) where
+  module _ (s : Shape) (o : Of (configIn f) s) where
+    t-is : s .tasks ≡ byte 0 f
+    unfolding configIn
+    t-is = o .tasks
+
     pub tasks-in : (s .tasks ≤ 126) × (8 + s .tasks ≤ length f)
-    tasks-in =
-        let h = accepted-head f ok in
-        let e : s .tasks ≡ byte 0 f = ap (λ (x : Shape). x .tasks) es in
-        (omega arith, omega (arith, ok .whole))
+    tasks-in = (o .laid .few, omega (arith, t-is, ok .whole))
 
     pub start-fits : (n : ℕ) → 7571 ≤ n → Fits s n
-    start-fits n h =
-        let k = accepted-head f ok in
-        subst (λ (x : Shape). Fits x n) (sym es) (fitting (laid-out (byte 0 f) (byte 1 f) (byte 2 f) (byte 3 f) (byte 4 f) (byte 5 f) _ 0 k (omega arith)) (omega arith))
+    start-fits n h = fitting (o .laid) (omega (arith, end-most (configIn f) s o))
 
     module _ (d : List ℕ) (b : FreshTables s (byte 5 f) (cut f 8 (8 + s .tasks)) d) where
       states-are : cut f 8 (8 + s .tasks) ≡ configIn f .states
       unfolding configIn
       states-are =
-          let e : 8 + s .tasks - 8 ≡ byte 0 f = omega (arith, ap (λ (x : Shape). x .tasks) es) in
+          let e : 8 + s .tasks - 8 ≡ byte 0 f = omega (arith, t-is) in
           ap (λ (n : ℕ). take n (drop 8 f)) e
 
-      fresh-here : FreshTables (shapeOf (configIn f)) (configIn f .K) (configIn f .states) d
-      unfolding shapeOf configIn
-      fresh-here =
+      fresh-here : (u : Shape) → Of (configIn f) u → FreshTables u (configIn f .K) (configIn f .states) d
+      unfolding configIn
+      fresh-here u p =
           let x : FreshTables s (byte 5 f) (configIn f .states) d = subst (λ (l : List ℕ). FreshTables s (byte 5 f) l d) states-are b in
-          let y : FreshTables (laidOut (byte 0 f) (byte 1 f) (byte 2 f) (byte 3 f) (byte 4 f) (byte 5 f) 0) (byte 5 f) (configIn f .states) d = subst (λ (u : Shape). FreshTables u (byte 5 f) (configIn f .states) d) es x in
-          other-room (byte 0 f) (byte 1 f) (byte 2 f) (byte 3 f) (byte 4 f) (byte 5 f) 0 _ (byte 5 f) (configIn f .states) d y
+          subst (λ (v : Shape). FreshTables v (byte 5 f) (configIn f .states) d) (of-one (configIn f) s o ∙ sym (of-one (configIn f) u p)) x
 
       module _ (z ys w : List ℕ) (ey : ys ≡ replicate (length (cut z 0 (16 * s .tasks))) 0) (ld : 7571 ≤ length d) (lz : 2016 ≤ length z) (lw : 641 ≤ length w) where
         abbrev z' : List ℕ
         z' = putMid 0 (16 * s .tasks - 0) z ys
-
-        t-is : s .tasks ≡ configIn f .T
-        unfolding configIn
-        t-is = ap (λ (x : Shape). x .tasks) es
 
         few : s .tasks ≤ 126
         few = tasks-in .0
@@ -91,8 +79,8 @@ module _ (f : List ℕ) (zero : configRefusal f ≡ 0) where
             let e : 0 + i ≡ i = omega arith in
             let m : length (cut z 0 (16 * s .tasks)) ≡ 16 * s .tasks - 0 = length-cut z 0 (16 * s .tasks) (omega (arith, few)) in
             ap (λ (x : List ℕ). getD x i 0) z-is ∙ ap (λ (x : ℕ). getD (splice z 0 ys) x 0) (sym e)
-            ∙ splice-in z ys 0 (omega (arith, length-ys, few)) i (omega (arith, length-ys, t-is)) ∙ ap (λ (x : List ℕ). getD x i 0) ey
-            ∙ getD-replicate (length (cut z 0 (16 * s .tasks))) i 0 0 (omega (arith, t-is))
+            ∙ splice-in z ys 0 (omega (arith, length-ys, few)) i (omega (arith, length-ys, o .tasks)) ∙ ap (λ (x : List ℕ). getD x i 0) ey
+            ∙ getD-replicate (length (cut z 0 (16 * s .tasks))) i 0 0 (omega (arith, o .tasks))
 
         pub started : (g₀ g : List ℕ) → g ≡ splice g₀ 0 f → Started f g d z' (set w 0 0)
         started g₀ g eg =
@@ -101,13 +89,8 @@ module _ (f : List ℕ) (zero : configRefusal f ≡ 0) where
             record {
               holds = h;
               keeps = ap rule h ∙ ok .rule;
-              shows = λ u o.
-                  let l = o .laid in
-                  fresh-shows c u o d z' (set w 0 0) (accepted-states f ok) (ok .states)
-                  (subst (λ (x : Shape). FreshTables x (c .K) (c .states) d) (sym (of-one c u o)) fresh-here)
-                  (omega (arith, length-z, few, t-is)) zeros (getD-set-same w 0 0 0 (omega arith)) (omega (arith, end-most c u o)) (simp length-set (omega (arith, o .timers)));
+              shows = λ u p.
+                  let l = p .laid in
+                  fresh-shows c u p d z' (set w 0 0) (accepted-states f ok) (ok .states) (fresh-here u p)
+                  (omega (arith, length-z, few, o .tasks)) zeros (getD-set-same w 0 0 0 (omega arith)) (omega (arith, end-most c u p)) (simp length-set (omega (arith, p .timers)));
             }
-
--- ---- as a caller finds it: the block that it is lent is good, and its shape is the one of the fresh tables
-pub not-bad : (c : Config) → rule c ≡ true → Lends c Bad → ⊥
-not-bad c h e = let z : _≡_ {A = ℕ} 0 1 = cc in omega arith

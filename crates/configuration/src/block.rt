@@ -9,6 +9,7 @@ use tables::shape::Shape;
 ghost use mathlib.Core.Path.{_≡_};
 ghost use Prim.Native.Nat.{_*_, _≤_};
 ghost use lib.ListN.{length};
+ghost use Rattle.ledger.specs.Config.{configIn, configRefusal};
 ghost use Rattle.tables.specs.Shows.{Of};
 ghost use Rattle.queues.specs.Rings.{ringOf};
 ghost use Rattle.configuration.specs.Block.{configured};
@@ -49,6 +50,40 @@ pub fn lay(t: u8, s: u8, q: u8, r: u8, g: u8, k: u8, room: usize) -> Shape
     }
 }
 
+// The bytes of all queues, where the rule for them has been tested.
+fn taken(shapes: &[u8], queues: usize) -> usize
+    requires { ⌜ (length (now shapes) ≡ 2 * queues) × (queues ≤ 255) ⌝ }
+    ensures { λ r. ⌜ r ≡ bytesIn (now (shapes .entry)) ⌝ }
+{
+    let mut sum: usize = 0;
+    let mut k: usize = 0;
+    while k < queues {
+        let i = 2 * k;
+        sum += bytes_of(shapes[i], shapes[i + 1]);
+        k += 1;
+    }
+    sum
+}
+
+// The shape that an accepted frame asks for.
+pub fn shape_of(frame: &[u8]) -> Shape
+    requires { ⌜ configRefusal (now frame) ≡ 0 ⌝ }
+    ensures { λ r. ⌜ Of (configIn (now (frame .entry))) r ⌝ }
+{
+    let queues = wide(frame[2]);
+    let at = 8 + wide(frame[0]);
+    let sum = taken(&frame[at..], queues);
+    lay(
+        frame[0],
+        frame[1],
+        frame[2],
+        frame[3],
+        frame[4],
+        frame[5],
+        sum,
+    )
+}
+
 // The structure rule of number 11, and the shape of a block that keeps it.
 pub fn lent(config: &[u8]) -> Lent
     requires { ⌜ 198 ≤ length (now config) ⌝ }
@@ -74,21 +109,6 @@ pub fn lent(config: &[u8]) -> Lent
         sum,
     );
     Lent::Good(shape)
-}
-
-// The bytes of all queues. The structure rule has been tested.
-fn taken(shapes: &[u8], queues: usize) -> usize
-    requires { ⌜ (length (now shapes) ≡ 2 * queues) × (queues ≤ 255) ⌝ }
-    ensures { λ r. ⌜ r ≡ bytesIn (now (shapes .entry)) ⌝ }
-{
-    let mut sum: usize = 0;
-    let mut k: usize = 0;
-    while k < queues {
-        let i = 2 * k;
-        sum += bytes_of(shapes[i], shapes[i + 1]);
-        k += 1;
-    }
-    sum
 }
 
 // The ring of queue q. Its entries lie behind those of the queues before it.

@@ -1,11 +1,11 @@
 // The fresh memory of an accepted configuration.
-use crate::block::lay;
 use tables::shape::Shape;
 ghost use mathlib.Core.Path.{_≡_};
 ghost use Prim.Native.Nat.{_*_, _≤_};
 ghost use lib.ListN.{length, replicate};
-ghost use Rattle.ledger.specs.Config.{configRefusal};
+ghost use Rattle.ledger.specs.Config.{configIn, configRefusal};
 ghost use Rattle.tables.specs.Layout.{Fits};
+ghost use Rattle.tables.specs.Shows.{Of};
 ghost use Rattle.configuration.specs.Fresh.{kindOf, FreshTables};
 ghost use Rattle.configuration.specs.Written.{Begun};
 ghost use Rattle.configuration.specs.Started.{Started};
@@ -63,20 +63,12 @@ pub fn start(
     tables: &mut [u8],
     slots: &mut [u8],
     timers: &mut [u8],
+    shape: Shape,
 )
-    requires { ⌜ (configRefusal (now frame) ≡ 0) × (198 ≤ length (now config)) × (7571 ≤ length (now tables)) × (2016 ≤ length (now slots)) × (641 ≤ length (now timers)) ⌝ }
+    requires { ⌜ (configRefusal (now frame) ≡ 0) × Of (configIn (now frame)) shape × (198 ≤ length (now config)) × (7571 ≤ length (now tables)) × (2016 ≤ length (now slots)) × (641 ≤ length (now timers)) ⌝ }
     ensures { λ _. ⌜ Started (now (frame .entry)) (now (config .exit)) (now (tables .exit)) (now (slots .exit)) (now (timers .exit)) ⌝ }
 {
     rows::copy_in(frame, config, 0);
-    let shape = lay(
-        frame[0],
-        frame[1],
-        frame[2],
-        frame[3],
-        frame[4],
-        frame[5],
-        0,
-    );
     let at = 8 + shape.tasks;
     fresh_tables(&frame[8..at], frame[5], tables, shape);
     let end = 16 * shape.tasks;

@@ -127,17 +127,13 @@ pub record Begun (f a g' d' z' w' a' : List ℕ) : Type 0 where
   pub started : Started f g' d' z' w'
   pub answered : a' ≡ written (session.answer 0 0 (fresh (configIn f))) a
 
--- the block that a start leaves is good
-pub not-bad : {f g d z w : List ℕ} {P : Type 0} → Started f g d z w → rule (configured g) ≡ false → P
-not-bad s e = never (sym e ∙ s .keeps)
-
 pub begun-room : {c : Config} {s : Shape} → Of c s → (s .end ≤ 7571) × (s .tasks ≤ 126)
 begun-room {c} {s} o = (end-most c s o, o .laid .few)
 
-pub begun : (f a g' d' z' w' a' : List ℕ) (s : Shape) → Started f g' d' z' w' → Of (configured g') s
+pub begun : (f a g' d' z' w' a' : List ℕ) (s : Shape) → Started f g' d' z' w' → Of (configIn f) s
     → ((c : Config) (L : Ledger) (w : List ℕ) → Shows c s L d' z' w → a' ≡ written (session.answer 0 0 L) a) → Begun f a g' d' z' w' a'
 begun f a g' d' z' w' a' s h o tells =
-    record { started = h; answered = tells (configIn f) (fresh (configIn f)) w' (h .shows s (subst (λ (c : Config). Of c s) (h .holds) o)) }
+    record { started = h; answered = tells (configIn f) (fresh (configIn f)) w' (h .shows s o) }
 
 sound-so : (c : Config) (d : List ℕ) {l : Ledger} {z w : List ℕ} → Shows c (shapeOf c) l d z w → messagesSound c d ≡ true
 unfolding messagesSound

@@ -95,15 +95,10 @@ fn begin(
     requires { ⌜ (configRefusal (now frame) ≡ 0) × (198 ≤ length (now config)) × (7571 ≤ length (now tables)) × (2016 ≤ length (now slots)) × (641 ≤ length (now timers)) × (21 ≤ length (now answer)) ⌝ }
     ensures { λ _. ⌜ Begun (now (frame .entry)) (now (answer .entry)) (now (config .exit)) (now (tables .exit)) (now (slots .exit)) (now (timers .exit)) (now (answer .exit)) ⌝ }
 {
-    configuration::fresh::start(frame, config, tables, slots, timers);
-    let l = configuration::block::lent(config);
-    match l {
-        Lent::Bad => {}
-        Lent::Good(shape) => {
-            let running = tables::tasks::running(tables, shape);
-            answer::write(tables, slots, shape, running, 0, 0, answer);
-        }
-    }
+    let shape = configuration::block::shape_of(frame);
+    configuration::fresh::start(frame, config, tables, slots, timers, shape);
+    let running = tables::tasks::running(tables, shape);
+    answer::write(tables, slots, shape, running, 0, 0, answer);
 }
 
 // Configures. Gives the configuration's number: 0 accepted, 11 where a lent block is short (then nothing is written).

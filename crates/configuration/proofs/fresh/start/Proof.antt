@@ -10,29 +10,8 @@ use Rattle.configuration.proofs.fresh.start.Tie as tie
 copy-in-requires : tie.Need-copy-in-requires
 copy-in-requires c κs = omega (arith, frame-length (now (c .before .before .before .before .before .before .args .frame)) (c .before .before .before .before .before .before .pre .0))
 
-shared-slice-read-lay : tie.Need-shared-slice-read-lay
-shared-slice-read-lay c = omega (arith, frame-length (now (c .before .before .before .before .before .before .before .before .before .before .args .frame)) (c .before .before .before .before .before .before .before .before .before .before .pre .0))
-
-shared-slice-read-lay-2 : tie.Need-shared-slice-read-lay-2
-shared-slice-read-lay-2 c = omega (arith, frame-length (now (c .before .before .before .before .before .before .before .before .before .before .before .args .frame)) (c .before .before .before .before .before .before .before .before .before .before .before .pre .0))
-
-shared-slice-read-lay-3 : tie.Need-shared-slice-read-lay-3
-shared-slice-read-lay-3 c = omega (arith, frame-length (now (c .before .before .before .before .before .before .before .before .before .before .before .before .args .frame)) (c .before .before .before .before .before .before .before .before .before .before .before .before .pre .0))
-
-shared-slice-read-lay-4 : tie.Need-shared-slice-read-lay-4
-shared-slice-read-lay-4 c = omega (arith, frame-length (now (c .before .before .before .before .before .before .before .before .before .before .before .before .before .args .frame)) (c .before .before .before .before .before .before .before .before .before .before .before .before .before .pre .0))
-
-shared-slice-read-lay-5 : tie.Need-shared-slice-read-lay-5
-shared-slice-read-lay-5 c = omega (arith, frame-length (now (c .before .before .before .before .before .before .before .before .before .before .before .before .before .before .args .frame)) (c .before .before .before .before .before .before .before .before .before .before .before .before .before .before .pre .0))
-
-shared-slice-read-lay-6 : tie.Need-shared-slice-read-lay-6
-shared-slice-read-lay-6 c = omega (arith, frame-length (now (c .before .before .before .before .before .before .before .before .before .before .before .before .before .before .before .args .frame)) (c .before .before .before .before .before .before .before .before .before .before .before .before .before .before .before .pre .0))
-
-lay-requires : tie.Need-lay-requires
-lay-requires c κs = search needs
-
 add-at : tie.Need-add-at
-add-at c = omega (arith, tasks-in (now (c .before .before .before .before .before .before .before .before .before .before .before .before .before .before .before .before .before .args .frame)) (c .before .before .before .before .before .before .before .before .before .before .before .before .before .before .before .before .before .pre .0) _ (c .before .lay .ensures))
+add-at c = omega (arith, tasks-in (now (c .before .before .before .before .before .before .before .before .before .before .args .frame)) (c .before .before .before .before .before .before .before .before .before .before .pre .0) (c .before .before .before .before .before .before .before .before .before .before .args .shape) (c .before .before .before .before .before .before .before .before .before .before .pre .1))
 
 sub-fresh-tables : tie.Need-sub-fresh-tables
 sub-fresh-tables c = search needs
@@ -41,20 +20,20 @@ part-fresh-tables-start : tie.Need-part-fresh-tables-start
 part-fresh-tables-start c = search needs
 
 part-fresh-tables-end : tie.Need-part-fresh-tables-end
-part-fresh-tables-end c = omega (arith, tasks-in (now (c .before .before .before .before .before .before .before .before .before .before .before .before .before .before .before .before .before .args .frame)) (c .before .before .before .before .before .before .before .before .before .before .before .before .before .before .before .before .before .pre .0) _ (c .before .lay .ensures))
+part-fresh-tables-end c = omega (arith, tasks-in (now (c .before .before .before .before .before .before .before .before .before .before .args .frame)) (c .before .before .before .before .before .before .before .before .before .before .pre .0) (c .before .before .before .before .before .before .before .before .before .before .args .shape) (c .before .before .before .before .before .before .before .before .before .before .pre .1))
 
 shared-slice-read-fresh-tables : tie.Need-shared-slice-read-fresh-tables
-shared-slice-read-fresh-tables c = omega (arith, frame-length (now (c .before .before .before .before .before .before .before .before .before .before .before .before .before .before .before .before .before .before .before .args .frame)) (c .before .before .before .before .before .before .before .before .before .before .before .before .before .before .before .before .before .before .before .pre .0))
+shared-slice-read-fresh-tables c = omega (arith, frame-length (now (c .before .before .before .before .before .before .before .before .before .before .before .before .args .frame)) (c .before .before .before .before .before .before .before .before .before .before .before .before .pre .0))
 
 fresh-tables-requires : tie.Need-fresh-tables-requires
 fresh-tables-requires c κs =
-    let s = c .before .before .before .before .before .before .before .before .before .before .before .before .before .before .before .before .before .before .before .before in
-    let f = now (s .args .frame) in
-    let t = tasks-in f (s .pre .0) _ (c .before .before .before .before .lay .ensures) in
-    (start-fits f (s .pre .0) _ (c .before .before .before .before .lay .ensures) _ (s .pre .2), simp (length-take, length-drop) (omega arith))
+    let s = c .before .before .before .before .before .before .before .before .before .before .before .before .before in
+    let a = s .args in
+    let t = tasks-in (now (a .frame)) (s .pre .0) (a .shape) (s .pre .1) in
+    (start-fits (now (a .frame)) (s .pre .0) (a .shape) (s .pre .1) _ (s .pre .3), simp (length-take, length-drop) (omega arith))
 
 mul-end : tie.Need-mul-end
-mul-end c = omega (arith, tasks-in (now (c .before .before .before .before .before .before .before .before .before .before .before .before .before .before .before .before .before .before .before .before .before .before .before .before .args .frame)) (c .before .before .before .before .before .before .before .before .before .before .before .before .before .before .before .before .before .before .before .before .before .before .before .before .pre .0) _ (c .before .before .before .before .before .before .before .before .lay .ensures))
+mul-end c = omega (arith, tasks-in (now (c .before .before .before .before .before .before .before .before .before .before .before .before .before .before .before .before .before .args .frame)) (c .before .before .before .before .before .before .before .before .before .before .before .before .before .before .before .before .before .pre .0) (c .before .before .before .before .before .before .before .before .before .before .before .before .before .before .before .before .before .args .shape) (c .before .before .before .before .before .before .before .before .before .before .before .before .before .before .before .before .before .pre .1))
 
 sub-fill : tie.Need-sub-fill
 sub-fill c = search needs
@@ -63,16 +42,16 @@ part-fill-start : tie.Need-part-fill-start
 part-fill-start c = search needs
 
 part-fill-end : tie.Need-part-fill-end
-part-fill-end c = omega (arith, c .before .before .before .before .before .before .before .before .before .before .before .before .before .before .before .before .before .before .before .before .before .before .before .before .pre .3, tasks-in (now (c .before .before .before .before .before .before .before .before .before .before .before .before .before .before .before .before .before .before .before .before .before .before .before .before .args .frame)) (c .before .before .before .before .before .before .before .before .before .before .before .before .before .before .before .before .before .before .before .before .before .before .before .before .pre .0) _ (c .before .before .before .before .before .before .before .before .lay .ensures))
+part-fill-end c = omega (arith, c .before .before .before .before .before .before .before .before .before .before .before .before .before .before .before .before .before .pre .4, tasks-in (now (c .before .before .before .before .before .before .before .before .before .before .before .before .before .before .before .before .before .args .frame)) (c .before .before .before .before .before .before .before .before .before .before .before .before .before .before .before .before .before .pre .0) (c .before .before .before .before .before .before .before .before .before .before .before .before .before .before .before .before .before .args .shape) (c .before .before .before .before .before .before .before .before .before .before .before .before .before .before .before .before .before .pre .1))
 
 fill-requires : tie.Need-fill-requires
 fill-requires c κs = search needs
 
 slice-write-timers : tie.Need-slice-write-timers
-slice-write-timers c = omega (arith, c .before .before .before .before .before .before .before .before .before .before .before .before .before .before .before .before .before .before .before .before .before .before .before .before .before .before .before .before .pre .4)
+slice-write-timers c = search needs
 
 same-length : tie.Need-same-length
-same-length c = omega (arith, c .before .before .before .before .before .before .before .before .before .before .before .before .before .before .before .before .before .before .before .before .before .copy-in .kept)
+same-length c = search needs
 
 same-length-2 : tie.Need-same-length-2
 same-length-2 c = search needs
@@ -85,22 +64,15 @@ same-length-4 c = search needs
 
 returns : tie.Need-returns
 returns c =
-    let s = c .before .before .before .before .before .before .before .before .before .before .before .before .before .before .before .before .before .before .before .before .before .before .before .before .before .before .before .before in
+    let s = c .before .before .before .before .before .before .before .before .before .before .before .before .before .before .before .before .before .before .before .before .before in
     let a = s .args in
-    started (now (a .frame)) (s .pre .0) _ (c .before .before .before .before .before .before .before .before .before .before .before .before .lay .ensures) _ (c .before .before .before .before .before .before .before .fresh-tables .ensures) (now (a .slots)) _ (now (a .timers)) (c .before .before .fill .ensures) (omega (arith, s .pre .2, c .before .before .before .before .before .before .before .fresh-tables .kept)) (s .pre .3) (s .pre .4) (now (a .config)) _ (c .before .before .before .before .before .before .before .before .before .before .before .before .before .before .before .before .before .before .before .before .before .copy-in .ensures)
+    started (now (a .frame)) (s .pre .0) (a .shape) (s .pre .1) _ (c .before .before .before .before .before .before .before .fresh-tables .ensures) (now (a .slots)) _ (now (a .timers)) (c .before .before .fill .ensures) (omega (arith, s .pre .3, c .before .before .before .before .before .before .before .fresh-tables .kept)) (s .pre .4) (s .pre .5) (now (a .config)) _ (c .before .before .before .before .before .before .before .before .before .before .before .before .before .before .copy-in .ensures)
 
 pub start-spec : {M : Type 1} → statement M
 start-spec =
     tie.close
     (tie.spec
     copy-in-requires
-    shared-slice-read-lay
-    shared-slice-read-lay-2
-    shared-slice-read-lay-3
-    shared-slice-read-lay-4
-    shared-slice-read-lay-5
-    shared-slice-read-lay-6
-    lay-requires
     add-at
     sub-fresh-tables
     part-fresh-tables-start
