@@ -62,6 +62,9 @@ semaphores-in (fitting l r) = (omega arith, omega arith)
 pub few : {s : Shape} {n : ℕ} → Fits s n → s .tasks ≤ 126
 few (fitting l r) = l .few
 
+pub block-sets-in : {s : Shape} {n : ℕ} → Fits s n → 2 + s .tasks ≤ n
+block-sets-in (fitting l r) = omega arith
+
 pub blocks-in : {s : Shape} {n : ℕ} → Fits s n → (t : ℕ) → 1 ≤ t → t ≤ s .tasks → 2 + (t - 1) < n
 blocks-in (fitting l r) t lo hi = omega arith
 

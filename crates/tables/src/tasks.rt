@@ -2,12 +2,14 @@
 use crate::shape::Shape;
 ghost use mathlib.Core.Path.{_≡_};
 ghost use mathlib.Core.List.{List};
-ghost use Prim.Native.Nat.{ℕ, _≤_};
+ghost use mathlib.Core.Bool.{true};
+ghost use Prim.Native.Nat.{ℕ, _+_, _<_, _≤_};
 ghost use lib.ListN.{length, getD};
 ghost use Rattle.rows.specs.Splice.{splice};
 ghost use Rattle.tables.specs.Decode.{free, bit, blocksOf, blocksByte, outcomeOf, outcomeKind, outcomeFirst, outcomeSecond, outcomeThird, requestOf, requestKind, requestArgument, outcomeBytes, requestBytes, viewBlocks, viewOutcome, viewRequest};
 ghost use Rattle.tables.specs.Layout.{Fits};
 ghost use Rattle.tables.specs.Back.{Asked};
+ghost use Rattle.tables.specs.Running.{anyFree, Passed};
 ghost use Rattle.tables.specs.Shows.{recordIn, waitingIn, Shows, Does, Tells};
 ghost use Rattle.ledger.specs.Config.{Config};
 ghost use Rattle.ledger.specs.Ledger as ledger;
@@ -285,19 +287,69 @@ fn is_free(b: Blocks) -> bool
     true
 }
 
+// Whether a task with this block set is runnable.
+fn is_runnable(x: u8) -> bool
+    ensures { λ r. ⌜ r ≡ free (blocksOf x) ⌝ }
+{
+    let b = blocks_of(x);
+    is_free(b)
+}
+
+// Whether one of the sixteen tasks from i on is runnable. It looks at all of them, so that they are compared at once.
+fn any_of_sixteen(blocks: &[u8], i: usize) -> bool
+    requires { ⌜ i + 16 ≤ length (now blocks) ⌝ }
+    ensures { λ r. ⌜ r ≡ anyFree 16 i (now (blocks .entry)) ⌝ }
+{
+    let mut any = false;
+    let mut j: usize = 0;
+    while j < 16 {
+        let at = i + j;
+        any = any | is_runnable(blocks[at]);
+        j += 1;
+    }
+    any
+}
+
+// Passes sixteen tasks at a time while none of them is runnable.
+fn pass_sixteens(blocks: &[u8]) -> usize
+    ensures { λ r. ⌜ (r ≤ length (now (blocks .entry))) × Passed (now (blocks .entry)) r ⌝ }
+{
+    let n = blocks.len();
+    let mut i: usize = 0;
+    while n - i >= 16 {
+        if any_of_sixteen(blocks, i) {
+            return i;
+        }
+        i += 16;
+    }
+    i
+}
+
+// The lowest runnable task, counted from 0, else the number of tasks.
+fn first_runnable(blocks: &[u8]) -> usize
+    ensures { λ r. ⌜ (r ≤ length (now (blocks .entry))) × Passed (now (blocks .entry)) r × (r < length (now (blocks .entry)) → free (blocksOf (getD (now (blocks .entry)) r 0)) ≡ true) ⌝ }
+{
+    let n = blocks.len();
+    let mut i = pass_sixteens(blocks);
+    while i < n {
+        if is_runnable(blocks[i]) {
+            return i;
+        }
+        i += 1;
+    }
+    i
+}
+
 // The lowest runnable task, else 0.
 pub fn running(tables: &[u8], shape: Shape) -> usize
     requires { ⌜ Fits shape (length (now tables)) ⌝ }
     ensures { λ r. ⌜ (r ≤ shape .tasks) × Tells shape (now (tables .entry)) (λ c L. ledger.running L) r ⌝ }
 {
     let n = shape.tasks;
-    let mut t: usize = 1;
-    while t <= n {
-        let b = load_blocks(tables, shape, t);
-        if is_free(b) {
-            return t;
-        }
-        t += 1;
+    let end = 2 + n;
+    let i = first_runnable(&tables[2..end]);
+    if i < n {
+        return i + 1;
     }
     0
 }

@@ -1,66 +1,52 @@
--- `running` passes the tasks from the first on: none of those passed is runnable.
-use Prim.Native.Nat.{ℕ, _+_, _-_, _<_, _≤_}
+-- `running` searches the block sets, which are the ledger's tasks' in order.
 use native.Mathlib.Omega.{arith}
-use mathlib.Core.Bool.{false}
-use mathlib.Core.Path.{_≡_, sym, ap, _∙_}
 use denote.Ref.{now}
-use Rattle.tables.specs.Decode.{free}
-use Rattle.tables.specs.Layout.{few}
-use Rattle.tables.specs.Shows.{recordIn}
-use Rattle.tables.specs.Running.{runs, none-runs, passed-on}
+use Rattle.tables.specs.Layout.{few, block-sets-in}
+use Rattle.tables.specs.Running.{as-many, runs, none-runs}
 use borrow.Author.Needs.{needs}
 use Rattle.tables.proofs.tasks.running.Statement.{statement}
 use Rattle.tables.proofs.tasks.running.Tie as tie
 
-abbrev Inv-loop : tie.InvT-loop
-Inv-loop tables shape n t₀ t = (1 ≤ t) × ((k : ℕ) → 1 ≤ k → k < t → free (recordIn shape tables k .blocks) ≡ false)
+add-end : tie.Need-add-end
+add-end c = omega (arith, few (c .before .pre))
 
-abbrev μ-loop : tie.MeasureT-loop
-μ-loop tables shape n t₀ t = n + 1 - t
+sub-first-runnable : tie.Need-sub-first-runnable
+sub-first-runnable c = search needs
 
-loop-holds : tie.Need-loop-holds Inv-loop μ-loop
-loop-holds c = (omega arith, λ k a l. absurd (omega arith))
+part-first-runnable-start : tie.Need-part-first-runnable-start
+part-first-runnable-start c = search needs
 
-load-blocks-requires : tie.Need-load-blocks-requires Inv-loop μ-loop
-load-blocks-requires c κs = search needs
+part-first-runnable-end : tie.Need-part-first-runnable-end
+part-first-runnable-end c = block-sets-in (c .before .pre)
 
-is-free-requires : tie.Need-is-free-requires Inv-loop μ-loop
-is-free-requires c κs = search needs
+first-runnable-requires : tie.Need-first-runnable-requires
+first-runnable-requires c κs = search needs
 
-returns : tie.Need-returns Inv-loop μ-loop
+add-result : tie.Need-add-result
+add-result c = search needs
+
+returns : tie.Need-returns
 returns c =
-    let s = c .before .before .before .before .before .before in
-    let l = c .before .before .before .before .loop in
-    (omega arith, runs (s .args .shape) (now (s .args .tables)) (l .t) (l .inv .1) (omega arith) (omega arith) (ap free (sym (c .before .before .load-blocks .ensures)) ∙ sym (c .before .is-free .ensures) ∙ c .if1 .taken))
+    let s = c .before .before .before .before in
+    let d = now (s .args .tables) in
+    let r = c .before .first-runnable in
+    (omega arith, runs (s .args .shape) d (s .pre) (r .result) (r .ensures .1) (c .if1 .taken) (r .ensures .2 (omega (arith, c .if1 .taken, as-many (s .args .shape) d (s .pre)))))
 
-add-t : tie.Need-add-t Inv-loop μ-loop
-add-t c = omega (arith, few (c .before .before .before .before .before .before .pre))
-
-loop-less : tie.Need-loop-less Inv-loop μ-loop
-loop-less c = omega arith
-
-loop-again : tie.Need-loop-again Inv-loop μ-loop
-loop-again c =
-    let s = c .before .before .before .before .before .before in
-    let l = c .before .before .before .before .loop in
-    (omega arith, passed-on (s .args .shape) (now (s .args .tables)) (l .t) (l .inv .1) (ap free (sym (c .before .before .load-blocks .ensures)) ∙ sym (c .before .is-free .ensures) ∙ c .if1 .left))
-
-returns-2 : tie.Need-returns-2 Inv-loop μ-loop
+returns-2 : tie.Need-returns-2
 returns-2 c =
-    let s = c .before .before .before in
-    (omega arith, none-runs (s .args .shape) (now (s .args .tables)) (c .before .loop .t) (c .before .loop .inv .1) (omega arith))
+    let s = c .before .before .before .before in
+    let r = c .before .first-runnable in
+    (omega arith, none-runs (s .args .shape) (now (s .args .tables)) (s .pre) (r .result) (r .ensures .1) (c .if1 .left))
 
 pub running-spec : {M : Type 1} → statement M
 running-spec =
     tie.close
     (tie.spec
-    Inv-loop
-    μ-loop
-    loop-holds
-    load-blocks-requires
-    is-free-requires
+    add-end
+    sub-first-runnable
+    part-first-runnable-start
+    part-first-runnable-end
+    first-runnable-requires
+    add-result
     returns
-    add-t
-    loop-less
-    loop-again
     returns-2)
