@@ -10,7 +10,7 @@ use borrow.Author.Tests.{le-leb, lt-leb}
 use Rattle.tables.specs.Back.{case}
 use Rattle.ledger.specs.Theorems.Checks.{and-left, and-right, within-numbered}
 use Rattle.ledger.specs.Lists.{within, sum, all}
-use Rattle.ledger.specs.Config.{Shape, shapesIn}
+use Rattle.ledger.specs.Config.{shapesIn}
 use Rattle.configuration.specs.Block.{shaped, product, goodShapes}
 
 unfoldable pub roomIn : ℕ → List ℕ → ℕ

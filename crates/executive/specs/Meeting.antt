@@ -2,7 +2,7 @@
 use mathlib.Core.Path.{_≡_, refl, sym, ap, _∙_, subst}
 use mathlib.Core.Bool.{Bool, true, false, cond}
 use mathlib.Core.List.{List}
-use Prim.Native.Nat.{ℕ, _+_, _-_, _*_, _<_, _≤_}
+use Prim.Native.Nat.{ℕ, _-_, _<_, _≤_}
 use native.Mathlib.Omega.{arith}
 use lib.Dec.{eqb}
 use lib.ListN.{length, getD, take, drop, length-take}
@@ -14,7 +14,7 @@ use Rattle.tables.specs.declared.tasks.Request.{Request}
 use Rattle.tables.specs.declared.tasks.Request.the-variants.{Dequeue, Enqueue}
 use Rattle.tables.specs.Decode.{viewRequest, viewTask, recordOf}
 use Rattle.tables.specs.Back.{Asked}
-use Rattle.tables.specs.Shows.{recordIn, waitingIn, Shows, Does}
+use Rattle.tables.specs.Shows.{recordIn, waitingIn, Shows}
 use Rattle.tables.specs.Stored.{shown-task}
 use Rattle.queues.specs.declared.Ring.{Ring}
 use Rattle.queues.specs.Rings.{ringOf, countIn}
@@ -25,8 +25,8 @@ use Rattle.ledger.specs.Lists.{at}
 use Rattle.ledger.specs.Config.{Config}
 use Rattle.ledger.specs.Ledger as ledger
 use Rattle.ledger.specs.Ledger.{Ledger, task, running, queue, held, semaphoreOf, setOutcome, setRequest, none, refused}
-use Rattle.ledger.specs.Services.{notEmpty, notFull, empty, full, issue}
-use Rattle.ledger.specs.Refusals.{onNotEmpty, onNotFull, wouldWaitOn, isWaiting, meets21}
+use Rattle.ledger.specs.Services.{empty, full, issue}
+use Rattle.ledger.specs.Refusals.{wouldWaitOn, isWaiting, meets21}
 use Rattle.ledger.specs.Session.{openRequest, isOpen, refused21, issueAgain, reissue}
 use Rattle.executive.specs.Carried.{never}
 

@@ -2,8 +2,7 @@
 use super::Stage;
 use configuration::Lent;
 use line::Written;
-ghost use mathlib.Core.Path.{_≡_};
-ghost use Prim.Native.Nat.{_+_, _≤_};
+ghost use Prim.Native.Nat.{_≤_};
 ghost use lib.ListN.{length};
 ghost use Rattle.ledger.specs.Lines.{frameOf};
 ghost use Rattle.mcx11.specs.Contract.{memory};

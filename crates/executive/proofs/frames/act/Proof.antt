@@ -4,7 +4,6 @@ use denote.Ref.{now}
 use lib.ListN.{drop}
 use Rattle.tables.specs.Layout.{still-fits, few}
 use Rattle.configuration.specs.Block.{configured}
-use Rattle.clock.specs.Held.{still-holds}
 use Rattle.executive.specs.Carried.{prepared, served}
 use Rattle.executive.specs.Stepped.{acted, free-prepared}
 use borrow.Author.Needs.{needs}
