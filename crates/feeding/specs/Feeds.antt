@@ -17,7 +17,7 @@ use Rattle.feeding.specs.declared.Reached.{Reached}
 use Rattle.feeding.specs.declared.gathering.Gathered.{Gathered}
 use Rattle.feeding.specs.Input.{Stands, first, runs, over, print, printing, configures, steps, Said, lineFed, Fed, behind, fed, last}
 use Rattle.feeding.specs.Whole.{parts}
-use Rattle.feeding.specs.Line.{most, Keeps, keeps-none, Gathers, line-cut}
+use Rattle.feeding.specs.Line.{most, Keeps, keeps-none, Gathers, line-cut, cut-none}
 use Rattle.feeding.specs.Replies.{At, stageNumber, Answers, Begins, GoesOn}
 
 -- nothing is fed yet
@@ -128,13 +128,11 @@ pub feeds-none : (input : List ℕ) (from : ℕ) (r : Reached) (x : Lent) → Fe
 unfolding fed
 feeds-none input from r x = record {
   tells = λ s l a k.
-      let z : from - from ≡ 0 = omega arith in
-      let e : cut input from from ≡ [] = ap (λ (n : ℕ). take n (drop from input)) z in
-      fed-as r r x x (cut input from from) s l (record { stand = s; line = l; text = [] }) (ap (fed s l) e) a k (sym (append-nil (take (r .printed) (x .out))));
+      fed-as r r x x (cut input from from) s l (record { stand = s; line = l; text = [] }) (ap (fed s l) (cut-none input from)) a k (sym (append-nil (take (r .printed) (x .out))));
 }
 
-cut-cut : (input : List ℕ) (a b c : ℕ) → a ≤ b → b ≤ c → cut input a c ≡ cut input a b ++ cut input b c
-cut-cut input a b c h k =
+cut-append : (input : List ℕ) (a b c : ℕ) → a ≤ b → b ≤ c → cut input a c ≡ cut input a b ++ cut input b c
+cut-append input a b c h k =
     let e : c - a ≡ (b - a) + (c - b) = omega arith in
     let f : a + (b - a) ≡ b = omega arith in
     ap (λ (n : ℕ). take n (drop a input)) e ∙ take-add (b - a) (c - b) (drop a input) ∙ ap (λ (d : List ℕ). cut input a b ++ take (c - b) d) (drop-drop (b - a) a input ∙ ap (λ (n : ℕ). drop n input) f)
@@ -151,7 +149,7 @@ feeds-on input r r₁ r₂ x x₁ x₂ a b h h' = record {
       let v = h' .tells (f .stand) (f .line) (u .0) (u .1) in
       let g = fed (f .stand) (f .line) q in
       fed-as r r₂ x x₂ (cut input (r .next) (r₂ .next)) s l (behind (f .text) g)
-      (ap (fed s l) (cut-cut input (r .next) (r₁ .next) (r₂ .next) a b) ∙ parts s l p q) (v .0) (v .1)
+      (ap (fed s l) (cut-append input (r .next) (r₁ .next) (r₂ .next) a b) ∙ parts s l p q) (v .0) (v .1)
       (v .2 ∙ ap (λ (t : List ℕ). t ++ g .text) (u .2) ∙ append-assoc (take (r .printed) (x .out)) (f .text) (g .text));
 }
 

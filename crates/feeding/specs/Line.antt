@@ -85,7 +85,7 @@ module _ {l : List ℕ} {held : ℕ} {line : List ℕ} (b : ℕ) (k : Keeps l he
       let f : take most (l ++ (b ∷ [])) ≡ take most l = take-append-le most l (b ∷ []) n in
       record { many = k .many ∙ ap length (sym f); bytes = k .bytes ∙ sym f }
 
-cut-none : (input : List ℕ) (from : ℕ) → cut input from from ≡ []
+pub cut-none : (input : List ℕ) (from : ℕ) → cut input from from ≡ []
 cut-none input from = let e : from - from ≡ 0 = omega arith in rw e
 
 cut-more : (input : List ℕ) (from i : ℕ) → from ≤ i → i < length input → cut input from (i + 1) ≡ cut input from i ++ (getD input i 0 ∷ [])
