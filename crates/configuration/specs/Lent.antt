@@ -44,11 +44,11 @@ module _ (g : List ℕ) where
     unfolding read
     shapes-are = rw (et, eq)
 
-    pub lent-room : 4096 < roomIn 0 part → rule (configured g) ≡ false
+    pub lent-room : 4096 < roomIn part → rule (configured g) ≡ false
     unfolding rule goodQueues
     lent-room h = ap rule (configured-is g) ∙ ap (λ (b : Bool). goodHead (read g) && b) (ap goodShapes shapes-are ∙ room-bad part h) ∙ and-no (goodHead (read g))
 
-    module _ (long : 198 ≤ length g) (n : ℕ) (en : n ≡ roomIn 0 part) (h : n ≤ 4096) where
+    module _ (long : 198 ≤ length g) (n : ℕ) (en : n ≡ roomIn part) (h : n ≤ 4096) where
       keeps : rule (read g) ≡ true
       unfolding rule goodQueues
       keeps = rw head (ap goodShapes shapes-are ∙ room-good part (omega arith) .0)

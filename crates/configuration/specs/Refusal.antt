@@ -48,12 +48,12 @@ module _ (f : List ℕ) where
         unfolding first
         bad-state e = sym (by-rest false (halves ∙ rw e))
 
-        pub bad-room : 4096 < roomIn 0 (cut f (8 + t) (8 + t + 2 * q)) → 3 ≡ configRefusal f
+        pub bad-room : 4096 < roomIn (cut f (8 + t) (8 + t + 2 * q)) → 3 ≡ configRefusal f
         unfolding first
         bad-room e =
             let s : Bool = all (λ s. leb s 1) (cut f 8 (8 + t)) in
             sym (by-rest false (halves ∙ ap (λ (b : Bool). s && b) (room-bad (cut f (8 + t) (8 + t + 2 * q)) e) ∙ and-no s))
 
-        pub accepted : all (λ s. leb s 1) (cut f 8 (8 + t)) ≡ true → roomIn 0 (cut f (8 + t) (8 + t + 2 * q)) ≤ 4096 → 0 ≡ configRefusal f
+        pub accepted : all (λ s. leb s 1) (cut f 8 (8 + t)) ≡ true → roomIn (cut f (8 + t) (8 + t + 2 * q)) ≤ 4096 → 0 ≡ configRefusal f
         unfolding first
         accepted e h = sym (by-rest true (halves ∙ rw (e, room-good (cut f (8 + t) (8 + t + 2 * q)) h .0)))

@@ -1,20 +1,19 @@
 // What the lent configuration block says. It holds the accepted frame at its front; the bytes behind are free.
 use crate::Lent;
-use crate::frame::bytes_of;
 use crate::frame::good_head;
 use crate::frame::room;
+use crate::frame::taken;
 use crate::frame::wide;
 use queues::Ring;
 use tables::shape::Shape;
 ghost use mathlib.Core.Path.{_≡_};
-ghost use Prim.Native.Nat.{_*_, _≤_};
+ghost use Prim.Native.Nat.{_≤_};
 ghost use lib.ListN.{length};
 ghost use Rattle.ledger.specs.Config.{configIn, configRefusal};
 ghost use Rattle.tables.specs.Shows.{Of};
 ghost use Rattle.queues.specs.Rings.{ringOf};
 ghost use Rattle.configuration.specs.Block.{configured};
 ghost use Rattle.configuration.specs.Layout.{laidOut, Lends};
-ghost use Rattle.configuration.specs.Room.{bytesIn};
 
 // The regions of the tables, one behind the other.
 pub fn lay(t: u8, s: u8, q: u8, r: u8, g: u8, k: u8, room: usize) -> Shape
@@ -50,21 +49,6 @@ pub fn lay(t: u8, s: u8, q: u8, r: u8, g: u8, k: u8, room: usize) -> Shape
     }
 }
 
-// The bytes of all queues, where the rule for them has been tested.
-fn taken(shapes: &[u8], queues: usize) -> usize
-    requires { ⌜ (length (now shapes) ≡ 2 * queues) × (queues ≤ 255) ⌝ }
-    ensures { λ r. ⌜ r ≡ bytesIn (now (shapes .entry)) ⌝ }
-{
-    let mut sum: usize = 0;
-    let mut k: usize = 0;
-    while k < queues {
-        let i = 2 * k;
-        sum += bytes_of(shapes[i], shapes[i + 1]);
-        k += 1;
-    }
-    sum
-}
-
 // The shape that an accepted frame asks for.
 pub fn shape_of(frame: &[u8]) -> Shape
     requires { ⌜ configRefusal (now frame) ≡ 0 ⌝ }
@@ -80,7 +64,7 @@ pub fn shape_of(frame: &[u8]) -> Shape
         frame[3],
         frame[4],
         frame[5],
-        sum,
+        sum as usize,
     )
 }
 
@@ -106,7 +90,7 @@ pub fn lent(config: &[u8]) -> Lent
         config[3],
         config[4],
         config[5],
-        sum,
+        sum as usize,
     );
     Lent::Good(shape)
 }
@@ -119,7 +103,7 @@ pub fn ring_of(config: &[u8], shape: Shape, q: usize) -> Ring
     let before = q - 1;
     let at = 8 + shape.tasks;
     let here = at + 2 * before;
-    let base = shape.bodyat + taken(&config[at..here], before);
+    let base = shape.bodyat + taken(&config[at..here], before) as usize;
     Ring {
         width: wide(config[here]),
         depth: wide(config[here + 1]),

@@ -1,14 +1,14 @@
 // A configuration frame, accepted or refused; its tests serve the lent block too.
 ghost use mathlib.Core.Path.{_≡_};
-ghost use Prim.Native.Nat.{_+_, _*_, _≤_};
+ghost use Prim.Native.Nat.{_+_, _*_, _/_, _%_, _≤_};
 ghost use mathlib.Core.Bool.{_&&_};
 ghost use lib.Dec.{leb};
-ghost use lib.ListN.{length};
-ghost use Rattle.ledger.specs.Lists.{within, all};
+ghost use lib.ListN.{length, getD};
+ghost use Rattle.ledger.specs.Lists.{all};
 ghost use Rattle.ledger.specs.Config.{goodHead, configRefusal};
 ghost use Rattle.configuration.specs.Block.{read};
 ghost use Rattle.configuration.specs.Head.{headRule};
-ghost use Rattle.configuration.specs.Room.{roomIn};
+ghost use Rattle.configuration.specs.Room.{bytesOrNone, roomIn, bytesIn};
 
 pub fn wide(x: u8) -> usize
     ensures { λ r. ⌜ r ≡ x ⌝ }
@@ -83,44 +83,58 @@ fn good_states(states: &[u8]) -> bool
     true
 }
 
-// Whether there is such a queue.
-fn is_shaped(width: u8, depth: u8) -> bool
-    ensures { λ r. ⌜ r ≡ (within 1 16 width && within 1 255 depth) ⌝ }
+// Width and depth of a queue in one number, the depth high: two bytes that are loaded at once, so that the loops below go in vectors.
+fn pair(shapes: &[u8], i: usize) -> u16
+    requires { ⌜ i + 2 ≤ length (now shapes) ⌝ }
+    ensures { λ r. ⌜ (r % 256 ≡ getD (now (shapes .entry)) i 0) × (r / 256 ≡ getD (now (shapes .entry)) (i + 1) 0) ⌝ }
 {
-    if width == 0 {
-        return false;
-    }
-    if width > 16 {
-        return false;
-    }
-    if depth == 0 {
-        return false;
-    }
-    true
+    word(shapes[i + 1], shapes[i])
 }
 
 // The bytes of one queue.
-pub fn bytes_of(width: u8, depth: u8) -> usize
-    ensures { λ r. ⌜ (r ≡ width * depth) × (r ≤ 65025) ⌝ }
+fn bytes_of(pair: u16) -> u32
+    ensures { λ r. ⌜ (r ≡ pair % 256 * (pair / 256)) × (r ≤ 65025) ⌝ }
 {
-    wide(width) * wide(depth)
+    ((pair % 256) as u32) * ((pair / 256) as u32)
 }
 
-// The bytes of all queues, or 4,097 if there is no such queue as one of them.
-pub fn room(shapes: &[u8], queues: usize) -> usize
-    requires { ⌜ (length (now shapes) ≡ 2 * queues) × (queues ≤ 255) ⌝ }
-    ensures { λ r. ⌜ r ≡ roomIn 0 (now (shapes .entry)) ⌝ }
+// The bytes of one queue, or 4,097 if there is no such queue.
+fn bytes_or_none(pair: u16) -> u32
+    ensures { λ r. ⌜ (r ≡ bytesOrNone (pair % 256) (pair / 256)) × (r ≤ 4097) ⌝ }
 {
-    let mut sum: usize = 0;
+    let bytes = bytes_of(pair);
+    if pair % 256 > 16 {
+        return 4097;
+    }
+    if bytes == 0 {
+        return 4097;
+    }
+    bytes
+}
+
+// The bytes of all queues, above 4,096 if there is no such queue as one of them. No test ends the sum early.
+pub fn room(shapes: &[u8], queues: usize) -> u32
+    requires { ⌜ (length (now shapes) ≡ 2 * queues) × (queues ≤ 255) ⌝ }
+    ensures { λ r. ⌜ r ≡ roomIn (now (shapes .entry)) ⌝ }
+{
+    let mut sum: u32 = 0;
     let mut k: usize = 0;
     while k < queues {
-        let i = 2 * k;
-        let width = shapes[i];
-        let depth = shapes[i + 1];
-        if !is_shaped(width, depth) {
-            return 4097;
-        }
-        sum += bytes_of(width, depth);
+        sum += bytes_or_none(pair(shapes, 2 * k));
+        k += 1;
+    }
+    sum
+}
+
+// The bytes of all queues, where the rule for them has been tested.
+pub fn taken(shapes: &[u8], queues: usize) -> u32
+    requires { ⌜ (length (now shapes) ≡ 2 * queues) × (queues ≤ 255) ⌝ }
+    ensures { λ r. ⌜ r ≡ bytesIn (now (shapes .entry)) ⌝ }
+{
+    let mut sum: u32 = 0;
+    let mut k: usize = 0;
+    while k < queues {
+        sum += bytes_of(pair(shapes, 2 * k));
         k += 1;
     }
     sum

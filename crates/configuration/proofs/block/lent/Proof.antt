@@ -68,6 +68,9 @@ shared-slice-read-lay-5 c = search needs
 shared-slice-read-lay-6 : tie.Need-shared-slice-read-lay-6
 shared-slice-read-lay-6 c = search needs
 
+cast-lay : tie.Need-cast-lay
+cast-lay c = search needs
+
 lay-requires : tie.Need-lay-requires
 lay-requires c κs = search needs
 
@@ -98,5 +101,6 @@ lent-spec =
     shared-slice-read-lay-4
     shared-slice-read-lay-5
     shared-slice-read-lay-6
+    cast-lay
     lay-requires
     returns-3)

@@ -6,8 +6,8 @@ use lib.ListN.{drop}
 use denote.Ref.{now}
 use borrow.Author.Needs.{needs}
 use Rattle.configuration.specs.Room.{bytesIn, bytes-on, bytes-end}
-use Rattle.configuration.proofs.block.taken.Statement.{statement}
-use Rattle.configuration.proofs.block.taken.Tie as tie
+use Rattle.configuration.proofs.frame.taken.Statement.{statement}
+use Rattle.configuration.proofs.frame.taken.Tie as tie
 
 abbrev Inv-loop : tie.InvT-loop
 Inv-loop shapes queues sum₀ k₀ sum k = (k ≤ queues) × (sum ≤ 65025 * k) × (bytesIn shapes ≡ sum + bytesIn (drop (2 * k) shapes))
@@ -18,23 +18,17 @@ abbrev μ-loop : tie.MeasureT-loop
 loop-holds : tie.Need-loop-holds Inv-loop μ-loop
 loop-holds c = (omega arith, omega arith, omega arith)
 
-mul-i : tie.Need-mul-i Inv-loop μ-loop
-mul-i c = omega arith
+mul-pair : tie.Need-mul-pair Inv-loop μ-loop
+mul-pair c = omega arith
 
-shared-slice-read-bytes-of : tie.Need-shared-slice-read-bytes-of Inv-loop μ-loop
-shared-slice-read-bytes-of c = omega arith
-
-add-bytes-of : tie.Need-add-bytes-of Inv-loop μ-loop
-add-bytes-of c = omega arith
-
-shared-slice-read-bytes-of-2 : tie.Need-shared-slice-read-bytes-of-2 Inv-loop μ-loop
-shared-slice-read-bytes-of-2 c = omega arith
+pair-requires : tie.Need-pair-requires Inv-loop μ-loop
+pair-requires c κs = omega arith
 
 bytes-of-requires : tie.Need-bytes-of-requires Inv-loop μ-loop
 bytes-of-requires c κs = search needs
 
 add-sum : tie.Need-add-sum Inv-loop μ-loop
-add-sum c = omega (arith, c .before .before .before .before .loop .inv .1, c .bytes-of .ensures .1)
+add-sum c = omega (arith, c .before .before .before .loop .inv .1, c .bytes-of .ensures .1)
 
 add-k : tie.Need-add-k Inv-loop μ-loop
 add-k c = omega arith
@@ -44,9 +38,10 @@ loop-less c = omega arith
 
 loop-again : tie.Need-loop-again Inv-loop μ-loop
 loop-again c =
-    let l = c .before .before .before .before .loop in
-    let a = now (c .before .before .before .before .before .before .args .shapes) in
-    (omega arith, omega (arith, l .inv .1, c .bytes-of .ensures .1), l .inv .2 ∙ bytes-on (l .sum) (l .k) a (omega arith) _ (c .bytes-of .ensures .0))
+    let l = c .before .before .before .loop in
+    let a = now (c .before .before .before .before .before .args .shapes) in
+    let x = c .before .pair .ensures in
+    (omega arith, omega (arith, l .inv .1, c .bytes-of .ensures .1), l .inv .2 ∙ bytes-on (l .sum) (l .k) a (omega arith) _ (x .0) (x .1) _ (c .bytes-of .ensures .0))
 
 returns : tie.Need-returns Inv-loop μ-loop
 returns c =
@@ -55,19 +50,4 @@ returns c =
     sym (l .inv .2 ∙ bytes-end (l .sum) (l .k) a (omega arith))
 
 pub taken-spec : {M : Type 1} → statement M
-taken-spec =
-    tie.close
-    (tie.spec
-    Inv-loop
-    μ-loop
-    loop-holds
-    mul-i
-    shared-slice-read-bytes-of
-    add-bytes-of
-    shared-slice-read-bytes-of-2
-    bytes-of-requires
-    add-sum
-    add-k
-    loop-less
-    loop-again
-    returns)
+taken-spec = tie.close (tie.spec Inv-loop μ-loop loop-holds mul-pair pair-requires bytes-of-requires add-sum add-k loop-less loop-again returns)
