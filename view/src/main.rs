@@ -59,7 +59,7 @@ fn begin(file: &str, input: &[u8]) -> Replay {
     Replay::begin(first).unwrap_or_else(|why| match why {
         Stop::Refused(number) => {
             let rule = configuration_rule(first, number);
-            stop(REFUSED, &format!("{file}: line 1, the configuration, is refused with {number}: {rule}"))
+            stop(REFUSED, &format!("{file}: line 1, the configuration, is refused with {number}, so the session ends: {rule}"))
         }
         Stop::Differs(what) => stop(DIFFERS, &format!("{file}: line 1: {what}. Report this with the file")),
     })

@@ -182,14 +182,15 @@ impl Met<'_> {
 
     fn waiting(&self) -> String {
         let configuration = self.words.configuration;
-        let (number, what) = match self.code {
-            DEQUEUE => (configuration.not_empty(self.a), format!("an entry of {}, which is empty", self.words.queue(self.a))),
-            ENQUEUE => (configuration.not_full(self.a), format!("room in {}, which is full", self.words.queue(self.a))),
-            DELAY => (self.number(self.of_a()), self.semaphore(self.of_a())),
-            _ => (self.number(self.own), self.semaphore(self.own)),
+        let queue = self.words.queue(self.a);
+        let (number, why, what) = match self.code {
+            DEQUEUE => (configuration.not_empty(self.a), format!("{queue} is empty, and "), "an entry".to_string()),
+            ENQUEUE => (configuration.not_full(self.a), format!("{queue} is full, and "), "room".to_string()),
+            DELAY => (self.number(self.of_a()), String::new(), self.semaphore(self.of_a())),
+            _ => (self.number(self.own), String::new(), self.semaphore(self.own)),
         };
         match self.executive.semaphore(number) {
-            Semaphore::Waiting(task) => format!("{} waits for {what} already", self.words.task(task)),
+            Semaphore::Waiting(task) => format!("{why}{} waits for {what} already", self.words.task(task)),
             _ => SHORT[usize::from(SEMAPHORE_WAITING)].to_string(),
         }
     }
