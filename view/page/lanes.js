@@ -81,12 +81,15 @@ class Strip {
   }
 }
 
+// Stretches that are wide enough end at whole pixels.
 function paintSteps(strip, steps, axis) {
   const [first, last] = axis.seen();
+  let from = LEFT;
   for (let place = steps.place(first); place < steps.from.length && steps.from[place] < last; place++) {
     const end = place + 1 < steps.from.length ? Math.min(steps.from[place + 1], last) : last;
-    const [from, to] = [Math.max(LEFT, axis.x(Math.max(steps.from[place], first))), Math.min(axis.width, axis.x(end))];
-    if (to > from) strip.add(from, to, steps.value[place]);
+    const exact = Math.min(axis.width, axis.x(end));
+    const to = exact - from > 3 ? Math.round(exact) : exact;
+    if (to > from) strip.add(from, to, steps.value[place]), from = to;
   }
   strip.flush();
 }
@@ -128,11 +131,27 @@ class Lanes {
       paintSteps(new Strip(pen, paint, top, LANE_HEIGHT), session.lanes[task], axis);
       this.name(pen, paint, task, top, subject === `t${task}`);
     });
-    drawArrows(pen, paint, this);
     pen.fillStyle = paint.panel;
     pen.fillRect(0, 0, axis.width, MARKS_HEIGHT - 2);
     drawMarks(pen, paint, axis, session);
+    drawArrows(pen, paint, this);
+    this.firstDifference(pen, paint, height);
     this.cursor(pen, paint, frame, height);
+  }
+
+  // Of two sessions: a dashed line where they part.
+  firstDifference(pen, paint, height) {
+    const { axis, app } = this.view;
+    if (app.parts === undefined || app.parts >= axis.session.count) return;
+    const x = Math.round(axis.x(app.parts)) + 0.5;
+    if (x < LEFT || x > axis.width) return;
+    pen.strokeStyle = paint.refused;
+    pen.setLineDash([6, 4]);
+    pen.beginPath();
+    pen.moveTo(x, 0);
+    pen.lineTo(x, height);
+    pen.stroke();
+    pen.setLineDash([]);
   }
 
   name(pen, paint, task, top, chosen) {

@@ -89,6 +89,7 @@ class App {
     const box = document.getElementById("differences");
     box.hidden = false;
     const told = { frame: "First frame that differs", answer: "First answer that differs", item: "First item that differs" };
+    if (about.differences.length) this.parts = Math.min(...about.differences.map(({ frame }) => frame));
     for (const { what, frame, how } of about.differences) {
       const line = element("p", "", `${told[what]}: `);
       line.dataset.what = what;
@@ -278,7 +279,7 @@ class App {
 
 async function begin() {
   const about = JSON.parse(document.getElementById("page-about").textContent);
-  const texts = [...document.querySelectorAll("script.session")].map((script) => script.textContent);
+  const texts = [...document.querySelectorAll("script.packed")].map((script) => script.textContent);
   const began = performance.now();
   const sessions = await Promise.all(texts.map((text) => Session.read(text)));
   window.page = new App(sessions, about);

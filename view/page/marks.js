@@ -1,8 +1,10 @@
 // What stands above the lanes, the arrows between them, the legend, and the overview of the whole session.
 
+const OVERVIEW_HEIGHT = 44;
 const MARK_ROW = 16;
 const MARKS_HEIGHT = 5 * MARK_ROW + 6;
 const ARROWS_FROM = 3; // pixels a frame
+const CROWDED = 2; // pixels a frame; below it marks are counted
 
 const ROWS = { scale: 0, clock: 1, interrupts: 2, refusals: 3, reissues: 4 };
 const middleOf = (row) => 2 + row * MARK_ROW + MARK_ROW / 2;
@@ -35,20 +37,32 @@ function drawScale(pen, paint, axis, session) {
   }
 }
 
-// One mark for each frame of a list, at most one a pixel.
+// A mark for each frame of a list; where they lie too close, how many there are.
 function drawRow(pen, paint, axis, name, row, colour, frames, mark) {
   const y = middleOf(row);
   pen.fillStyle = paint.quiet;
   pen.fillText(name, 8, y);
   pen.fillStyle = pen.strokeStyle = colour;
   const [first, last] = axis.seen();
-  let before = -1;
-  for (let place = after(frames, first - 1); place < frames.length && frames[place] < last; place++) {
-    const x = (axis.x(frames[place]) + axis.x(frames[place] + 1)) / 2;
-    if (x < LEFT || x - before < 1) continue;
-    before = x;
-    mark(x, y);
+  const [from, to] = [after(frames, first - 1), after(frames, last - 1)];
+  const middle = (frame) => (axis.x(frame) + axis.x(frame + 1)) / 2;
+  if ((axis.width - LEFT) / (last - first) < CROWDED) return drawCounts(pen, axis, y, frames.slice(from, to), middle);
+  for (let place = from; place < to; place++) if (middle(frames[place]) >= LEFT) mark(middle(frames[place]), y);
+}
+
+// A bar for each pixel, as high as it has marks beside the pixel that has most.
+function drawCounts(pen, axis, y, frames, middle) {
+  const counts = new Uint32Array(Math.ceil(axis.width) + 1);
+  let most = 1;
+  for (const frame of frames) {
+    const x = Math.floor(middle(frame));
+    if (x >= LEFT && ++counts[x] > most) most = counts[x];
   }
+  const full = MARK_ROW - 3;
+  counts.forEach((count, x) => {
+    const height = Math.max(2, full * count / most);
+    if (count) pen.fillRect(x, y + full / 2 - height, 1, height);
+  });
 }
 
 function triangle(pen, x, y) {
@@ -88,9 +102,9 @@ function drawArrows(pen, paint, lanes) {
   for (let place = after(frame, first - 1); place < frame.length && frame[place] < last; place++) {
     const x = (axis.x(frame[place]) + axis.x(frame[place] + 1)) / 2;
     if (x < LEFT) continue;
-    const start = from[place] > 0 ? lanes.topOf(from[place]) + LANE_HEIGHT / 2
-      : middleOf(from[place] === -0x11 ? ROWS.interrupts : ROWS.clock);
-    arrow(pen, x, start, lanes.topOf(to[place]), from[place] > 0);
+    const start = from[place] > 0 ? Math.max(MARKS_HEIGHT, lanes.topOf(from[place]) + LANE_HEIGHT / 2)
+      : middleOf(from[place] === -0x11 ? ROWS.interrupts : ROWS.clock) + 5;
+    if (lanes.topOf(to[place]) >= MARKS_HEIGHT) arrow(pen, x, start, lanes.topOf(to[place]), from[place] > 0);
   }
 }
 
@@ -140,7 +154,7 @@ class Overview {
   // The part that does not change with the window.
   paintStill(paint) {
     const { axis, session } = this.view;
-    const [width, height] = [this.canvas.clientWidth, this.canvas.clientHeight];
+    const [width, height] = [this.canvas.clientWidth, OVERVIEW_HEIGHT];
     const key = [width, height, axis.window.kind, paint.text].join();
     if (key === this.key) return;
     this.key = key;
@@ -171,7 +185,7 @@ class Overview {
   draw(paint) {
     this.paintStill(paint);
     const { axis, frame } = this.view;
-    const [width, height] = [this.canvas.clientWidth, this.canvas.clientHeight];
+    const [width, height] = [this.canvas.clientWidth, OVERVIEW_HEIGHT];
     const pen = drawOn(this.canvas, width, height);
     pen.drawImage(this.still, 0, 0, width, height);
     const [from, to] = [axis.window.from * this.scale, axis.window.to * this.scale];

@@ -17,7 +17,7 @@ class Summary {
     const table = element("table");
     table.dataset.title = title;
     const head = table.createTHead().insertRow();
-    for (const column of columns) head.append(element("th", "", column));
+    columns.forEach((column, place) => head.append(element("th", isNumber(rows[0][place]) ? "number" : "", column)));
     const body = table.createTBody();
     for (const row of rows) {
       const line = body.insertRow();
@@ -28,7 +28,7 @@ class Summary {
 
   // #12 leads to that frame.
   cell(cell, text) {
-    if (/^[\d,.]+( %)?$/.test(text)) cell.className = "number";
+    if (isNumber(text)) cell.className = "number";
     for (const part of text.split(/(#\d+)/)) cell.append(/^#\d+$/.test(part) ? frameLink(Number(part.slice(1))) : part);
   }
 
@@ -52,6 +52,8 @@ class Summary {
     this.box.append(line);
   }
 }
+
+const isNumber = (text) => /^[\d,.]+( %)?$/.test(text);
 
 // What a frame is worth: one if it is accepted and no tick, and its reissues.
 function busiestStretch(session, width) {

@@ -145,7 +145,7 @@ class Tables {
     if (session.refusal(frame)) asked.classList.add("refused");
     const { ticks, milliseconds } = session.configuration;
     const seconds = ((state.tocks + state.ticks / ticks) * milliseconds / 1000).toLocaleString("en");
-    const digits = element("p", "quiet", `frame ${frame} of ${session.frames}, tock ${state.tocks}, tick ${state.ticks} of ${ticks}, ${seconds} s: `);
+    const digits = element("p", "quiet", `frame ${frame.toLocaleString("en")} of ${session.frames.toLocaleString("en")}, tock ${state.tocks.toLocaleString("en")}, tick ${state.ticks} of ${ticks}, ${seconds} s: `);
     digits.append(element("span", "digits", `${session.askedDigits(frame)} \u2192 ${session.answerDigits(frame)}`));
     const answer = element("p", "answer", session.answerWords(frame));
     answer.prepend("\u2192 ");
@@ -186,12 +186,13 @@ class Tables {
       const cell = line.insertCell();
       cell.textContent = text;
       if (name === "queues" && place === 1) cell.className = "entries";
+      if (name === "tasks" && place === 0) cell.className = "state";
       if (name === "tasks" && place === 4) cell.className = "digits";
       if (!before || before.cells[place] !== text) cell.classList.add("changed"), cell.title = before ? `before: ${before.cells[place]}` : "new";
       const theirs = other && other.get(key);
       if (other && !row.gone && (theirs ? theirs.cells[place] : "") !== text) cell.classList.add("differs");
       if (row.bar !== undefined && place === 0) line.insertCell().append(bar(row.bar));
-      if (name === "tasks" && place === 1) line.insertCell().append(...this.since(Number(key.slice(1)), state));
+      if (name === "tasks" && place === 1) this.since(line.insertCell(), Number(key.slice(1)), state);
     });
   }
 
@@ -204,11 +205,14 @@ class Tables {
     });
   }
 
-  since(task, state) {
-    if (!(state.blocks[task] & WAITS)) return [];
+  // Since which frame a task waits, and how long that is.
+  since(cell, task, state) {
+    cell.className = "since";
+    if (!(state.blocks[task] & WAITS)) return;
     const { session, frame } = this.view;
-    const tocks = state.tocks - session.tocks[state.since[task]];
-    return [frameLink(state.since[task]), ` (${counted(frame - state.since[task], "frame")}, ${counted(tocks, "tock")})`];
+    const [tocks, frames] = [state.tocks - session.tocks[state.since[task]], frame - state.since[task]];
+    cell.title = `${counted(frames, "frame")}, ${counted(tocks, "tock")}`;
+    cell.append(frameLink(state.since[task]), ` (${tocks ? counted(tocks, "tock") : counted(frames, "frame")})`);
   }
 }
 

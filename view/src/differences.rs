@@ -7,7 +7,7 @@ use plain_executive::session::lines;
 use crate::json::Json;
 use crate::names::Names;
 use crate::replay::Replay;
-use crate::words::{hex, Words};
+use crate::words::Words;
 
 /// One frame, and what is different there.
 type First = Option<(usize, String)>;
@@ -28,7 +28,7 @@ pub fn between(first: &[u8], second: &[u8], names: &Names) -> Differences {
     let configuration = one.other().configuration().clone();
     let words = Words { configuration: &configuration, names };
     if head != other_head {
-        let told = format!("{} and {}", String::from_utf8_lossy(head), String::from_utf8_lossy(other_head));
+        let told = format!("{} | {}", String::from_utf8_lossy(head), String::from_utf8_lossy(other_head));
         found.frame = Some((0, told));
     }
     let same_shape = configuration == *other.other().configuration();
@@ -49,11 +49,12 @@ pub fn between(first: &[u8], second: &[u8], names: &Names) -> Differences {
             return found;
         };
         if line != other_line {
-            let told = || (number, format!("{}; {}", words.asked(&step), words.asked(&other_step)));
+            let told = || (number, format!("{} | {}", words.asked(&step), words.asked(&other_step)));
             found.frame.get_or_insert_with(told);
         }
         if step.answer != other_step.answer {
-            found.answer.get_or_insert_with(|| (number, format!("{} and {}", hex(step.answer), hex(other_step.answer))));
+            let told = || (number, format!("{} | {}", words.answered(&step), words.answered(&other_step)));
+            found.answer.get_or_insert_with(told);
         }
         if found.item.is_none() && same_shape {
             let items = (step.other.items(), other_step.other.items());

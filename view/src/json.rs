@@ -2,6 +2,8 @@
 
 pub enum Json {
     Number(u64),
+    /// true, false or null
+    Word(&'static str),
     Text(String),
     List(Vec<Json>),
     Object(Vec<(&'static str, Json)>),
@@ -41,6 +43,7 @@ impl std::fmt::Display for Json {
     fn fmt(&self, out: &mut std::fmt::Formatter) -> std::fmt::Result {
         match self {
             Json::Number(number) => write!(out, "{number}"),
+            Json::Word(word) => write!(out, "{word}"),
             Json::Text(text) => write_text(text, out),
             Json::List(list) => {
                 write_all(out, '[', ']', list, |item, out| write!(out, "{item}"))

@@ -37,7 +37,7 @@ pub fn make(sessions: &[(&str, &[u8])], names: &Names, names_file: Option<&str>)
         let recording = Recording::of(file, input, names).map_err(|(line, why)| (file.to_string(), line, why))?;
         frames += recording.frames;
         let data = base64::write(&deflate::write(&recording.bytes()));
-        packed += &format!("<script type=\"application/octet-stream\" class=\"session\">{data}</script>\n");
+        packed += &format!("<script type=\"application/octet-stream\" class=\"packed\">{data}</script>\n");
     }
     let differences = match sessions {
         [(_, first), (_, second)] => differences::between(first, second, names).json(),

@@ -178,9 +178,9 @@ impl Summary {
         let row = |((task, cause), longest): (&(u8, Cause), &Longest)| {
             let Longest { times, frames, tocks, from, to } = longest;
             let open = still[usize::from(*task)].is_some_and(|wait| wait.from == *from && wait.cause == *cause);
-            let end = if open { "still waits".to_string() } else { format!("#{to}") };
+            let when = if open { format!("since #{from}") } else { format!("#{from} to #{to}") };
             let (task, cause) = (words.task(*task), caused(words, *cause));
-            vec![task, cause, grouped(*frames), tocks.to_string(), format!("#{from} to {end}"), grouped(*times)]
+            vec![task, cause, grouped(*frames), grouped(*tocks as usize), when, grouped(*times)]
         };
         let columns = ["who", "waits for", "frames", "tocks", "longest", "waits"];
         let note = "The longest wait of each task for each cause, and how many such waits there were.";
