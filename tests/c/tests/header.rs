@@ -17,12 +17,12 @@ use plain_executive::{line, session};
 use std::collections::BTreeSet;
 use std::fmt::Write;
 use std::process::Command;
-use tools::{built, languages, printed, repository, scratch, stories, text, two_languages};
+use tools::{built, frames_of, languages, printed, repository, scratch, stories, text, two_languages};
 
 // ---- the calls by names, and the trace hook
 
 fn sessions() -> Vec<Vec<u8>> {
-    let stories = stories().into_iter().map(|story| text(&format!("examples/{story}.session")).into_bytes());
+    let stories = stories().into_iter().map(|story| frames_of(&story));
     let random = (0..60).map(|seed| Generator::new(seed).script(1..=20, 300).lines());
     stories.chain(random).collect()
 }

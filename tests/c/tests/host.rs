@@ -11,7 +11,7 @@ use plain_executive::tasks::SLOT_BYTES;
 use std::fs;
 use std::os::unix::fs::symlink;
 use std::process::Command;
-use tools::{built, languages, printed, repository, run, scratch, stories, text};
+use tools::{built, frames_of, languages, printed, repository, run, scratch, stories, text};
 
 // ---- the header
 
@@ -22,11 +22,7 @@ fn every_language_replays_the_stories_and_random_sessions() {
         .map(|seed| (format!("seed {seed}"), Generator::new(seed).script(1..=20, 200).lines()))
         .chain([("a refused configuration".to_string(), b"00\n".to_vec())])
         .collect();
-    for story in stories() {
-        let input = text(&format!("examples/{story}.session")).into_bytes();
-        assert_eq!(text(&format!("examples/{story}.answers")).as_bytes(), session::run(&input), "{story}");
-        sessions.push((story, input));
-    }
+    sessions.extend(stories().into_iter().map(|story| (story.clone(), frames_of(&story))));
     for language in languages() {
         let program = built(&folder, "replay.c", language, &[]);
         for (name, input) in &sessions {

@@ -112,3 +112,10 @@ pub fn stories() -> Vec<String> {
     assert!(!stories.is_empty(), "no stories in examples/");
     stories
 }
+
+/// A story's session, without the lines that are no frames: what a host in C can be fed.
+pub fn frames_of(story: &str) -> Vec<u8> {
+    let session = text(&format!("examples/{story}.session"));
+    let frames = session.lines().filter(|line| plain_executive::line::read(line.as_bytes()).is_ok());
+    frames.flat_map(|frame| [frame.as_bytes(), b"\n"].concat()).collect()
+}
