@@ -9,7 +9,6 @@ use plain_executive::line::{MOST_BYTES, MOST_DIGITS};
 use plain_executive::session;
 use plain_executive::tasks::SLOT_BYTES;
 use std::fs;
-use std::os::unix::fs::symlink;
 use std::process::Command;
 use tools::{built, frames_of, languages, printed, repository, run, scratch, stories, text};
 
@@ -161,24 +160,9 @@ fn the_page_has_every_number() {
     let row = |line: &str| {
         let cells: Vec<&str> = line.trim_matches('|').split('|').map(str::trim).collect();
         assert!(cells.len() == 4 && cells.iter().all(|cell| !cell.is_empty()), "{line}");
-        (cells[1].trim_matches('`').to_string(), cells[0].parse().expect("a number"))
+        let number: u32 = cells[0].split(' ').next().expect("a number").parse().expect("a number");
+        assert_eq!(cells[0], format!("{number} (${number:02X})"));
+        (cells[1].trim_matches('`').to_string(), number)
     };
     assert_eq!(rows.take_while(|line| line.starts_with('|')).map(row).collect::<Vec<_>>(), numbers());
-}
-
-#[test]
-fn the_pages_first_host_prints_what_the_page_says() {
-    let page = text("docs/HOST.md");
-    let between = |from: &str, to: &str| {
-        let rest = page.split(from).nth(1).unwrap_or_else(|| panic!("docs/HOST.md: {from}"));
-        rest.split(to).next().unwrap().to_string()
-    };
-    let folder = scratch("first");
-    fs::write(folder.join("first.c"), between("```c\n", "```")).unwrap();
-    for linked in ["host", "target"] {
-        symlink(fs::canonicalize(repository().join(linked)).unwrap(), folder.join(linked)).unwrap();
-    }
-    let command = format!("gcc {}", between("\n    gcc ", "\n"));
-    let output = printed(Command::new("sh").arg("-c").arg(&command).current_dir(&folder), b"");
-    assert_eq!(output, format!("{}\n", between("Its output is `", "`")));
 }
