@@ -1,0 +1,4 @@
+pub mod Demand3
+pub mod OneCall
+pub mod Runs
+pub mod EveryRun
