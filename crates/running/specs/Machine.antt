@@ -10,22 +10,24 @@ use mathlib.Core.List.{List, [], _∷_, _++_}
 use lib.ListN.{length, drop}
 use mir.Syntax.{w8}
 use mir.Val.{Val}
-use base.Logic.{SProp, ent, sep, emp, via, comm∗, assoc′, emp∗, monoR}
+use base.Logic.{SProp, ent, sep, ex, emp, via, comm∗, assoc′, emp∗, mono∗, monoR, fst∗, exI, exE}
+use base.Fml.{Fml}
 use prog.Memory.{Memory}
 use prog.Machine.{done as ended}
 use prog.Model.{AllFit}
 use prog.AdequacyRun.{startMem}
 use prog.Routine.{Routine}
 use ghost.Model as closed
-use ghost.Atoms.{Atoms}
+use ghost.Atoms.{Atoms, sem}
 use types.Kit.{Given}
 use contract.Running.{Running, givenOf, real}
 use contract.BorrowModel.{ghost₀}
+use contract.Monad.{fact, fact-mono}
 use contract.Adequate.{Satisfies, sat-weaken}
 use denote.RattleType.{RattleType}
 use denote.Laws.{Is}
 use denote.Triple.Statement.{Contract, Triple}
-use Rattle.running.specs.Slices.{Kind, Slice, Ids, LastValues, afters, Rooms, SameLengths, AreBytes, cellsAt, cellsOf}
+use Rattle.running.specs.Slices.{Kind, Slice, Ids, LastValues, afters, Rooms, SameLengths, AreBytes, leftsOf, cellsAt, cellsOf, toksOf}
 use Rattle.running.specs.Calls as any
 use Rattle.running.specs.Memories as memories
 use Rattle.running.specs.Memories.{LoadsAll, sideBySide, joined, AllBytes}
@@ -71,6 +73,31 @@ Leaves L T = any.Leaves closed.𝓤 closed.H closed.model A₀ W₀ L T
 -- a contract with no `requires`
 pub asks-nothing : (P : Pr) → ent closed.𝓤 P (P ∗ emp closed.𝓤)
 asks-nothing P = via closed.𝓤 (emp closed.𝓤 ∗ P) (emp∗ closed.𝓤 P) (comm∗ closed.𝓤 (emp closed.𝓤) P)
+
+-- whatever is owned can be let go
+pub drops : (P : Pr) → ent closed.𝓤 P (emp closed.𝓤)
+drops P = via closed.𝓤 (emp closed.𝓤 ∗ P) (emp∗ closed.𝓤 P) (fst∗ closed.𝓤 (emp closed.𝓤) P)
+
+-- a contract about values too: what it says at exit, with a last value for each of its parameters, is brought to the slices'
+module _ (L : List Slice) (T : RattleType) (Φ : T .Denot → LastValues L → Type 0) (ids : Ids L) (v : Val) (X : Type 0) (lefts : X → Fml) (Ψ : T .Denot → X → Type 0)
+    (to : X → LastValues L) (left : (ws : X) → ent closed.𝓤 (sem closed.𝓤 closed.H A₀ (lefts ws)) (sem closed.𝓤 closed.H A₀ (leftsOf L ids (to ws))))
+    (says : (r : T .Denot) (ws : X) → Ψ r ws → Φ r (to ws)) where
+  abbrev Back : T .Denot → Pr
+  Back r = toksOf closed.𝓤 closed.H A₀ W₀ L ids ∗ sem closed.𝓤 closed.H A₀ (T .own r (v ∷ []))
+
+  abbrev Theirs : T .Denot → X → Pr
+  Theirs r ws = sem closed.𝓤 closed.H A₀ (lefts ws) ∗ fact closed.𝓤 (Ψ r ws)
+
+  abbrev Ours : T .Denot → LastValues L → Pr
+  Ours r ws = sem closed.𝓤 closed.H A₀ (leftsOf L ids ws) ∗ fact closed.𝓤 (Φ r ws)
+
+  brought : (r : T .Denot) → ent closed.𝓤 (ex closed.𝓤 (Theirs r)) (ex closed.𝓤 (Ours r))
+  brought r = exE closed.𝓤 (Theirs r) (λ ws. via closed.𝓤 (Ours r (to ws)) (mono∗ closed.𝓤 (left ws) (fact-mono closed.𝓤 (Ψ r ws) (Φ r (to ws)) (says r ws))) (exI closed.𝓤 (Ours r) (to ws)))
+
+  pub leaves-by : ent closed.𝓤 (closed.H .⇛ (ex closed.𝓤 (λ (r : T .Denot). Back r ∗ ex closed.𝓤 (Theirs r)))) (Leaves L T Φ ids v)
+  leaves-by =
+      closed.model .⇛-mono (ex closed.𝓤 (λ (r : T .Denot). Back r ∗ ex closed.𝓤 (Theirs r))) (ex closed.𝓤 (λ (r : T .Denot). Back r ∗ ex closed.𝓤 (Ours r)))
+      (exE closed.𝓤 (λ (r : T .Denot). Back r ∗ ex closed.𝓤 (Theirs r)) (λ r. via closed.𝓤 (Back r ∗ ex closed.𝓤 (Ours r)) (monoR closed.𝓤 (Back r) (brought r)) (exI closed.𝓤 (λ (r : T .Denot). Back r ∗ ex closed.𝓤 (Ours r)) r)))
 
 -- the routine ρ was run on the machine values vs, with the slices L, from σ, and ended so: what is in `loads` is what the
 -- machine loads afterwards, and F is as it was

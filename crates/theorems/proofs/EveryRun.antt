@@ -73,7 +73,7 @@ placesOf m = record {
 abbrev pub othersAt : Memory → List ℕ → ℕ
 othersAt m d = placesOf m .buffer .1 + length d
 
-room : {d : List ℕ} → Lendable d → Room u8 (length d)
+pub room : {d : List ℕ} → Lendable d → Room u8 (length d)
 room {d} h = (omega (arith, h .size), omega (arith, h .size))
 
 module _ (m : Memory) (d o : List ℕ) (b : Begins m d o) where

@@ -2,3 +2,4 @@ pub mod Demand3
 pub mod OneCall
 pub mod Runs
 pub mod EveryRun
+pub mod LineRuns
