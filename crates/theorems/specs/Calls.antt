@@ -1,13 +1,9 @@
--- A list of calls for frames, each by its contract alone: every call is lent the memory as the call before it left it, and only the frame is new.
-use Prim.Native.Nat.{ℕ, _+_}
+-- A list of calls for frames, each by its contract alone: every call is lent the memory as the call before it left it, and
+-- only the frame is new.
+use Prim.Native.Nat.{ℕ}
 use mathlib.Core.List.{List, [], _∷_}
-use lib.ListN.{getD}
-use Rattle.rows.specs.Splice.{cut}
 use Rattle.mcx11.specs.Contract.{Memory, Frames}
-
--- the answer that the memory holds: its first byte is the length, and the answer lies behind it
-unfoldable pub answerOf : Memory → List ℕ
-answerOf m = cut (m .answer) 1 (1 + getD (m .answer) 0 0)
+use Rattle.mcx11.specs.Answer.{answerOf}
 
 -- from the memory m by the frames, with these answers and numbers, to the memory m'. The list may be empty
 pub data FrameCalls : (m : Memory) (frames answers : List (List ℕ)) (numbers : List ℕ) (m' : Memory) → Type 0 where

@@ -1,4 +1,5 @@
--- Demand 3 about `mcx11_configure_blocks` and `mcx11_frame_blocks` themselves: a call is what the checker says that a caller of the function learns, and that is the contract of specs/Contract.
+-- Demand 3 about `mcx11_configure_blocks` and `mcx11_frame_blocks` themselves: a call is what the checker says that a caller
+-- of the function learns, and that is the contract in mcx11.
 use Prim.Native.Nat.{ℕ}
 use mathlib.Core.Path.{_≡_}
 use mathlib.Core.Bool.{true}
@@ -9,16 +10,16 @@ use borrow.Fn.World.{ArgsD, ResD}
 use borrow.Fn.Kinds.{endedOf}
 use denote.Triple.Clauses.{Lasts, atExit}
 use Rattle.ledger.specs.Config.{configRefusal}
 use Rattle.mcx11.specs.Contract.{Memory, memory, fullSize, Configures, Frames}
-use Rattle.mcx11.specs.Calls as calls
-use Rattle.mcx11.specs.Calls.{answerOf}
-use Rattle.mcx11.specs.Whole.{Same, every-list}
+use Rattle.theorems.specs.Calls as calls
+use Rattle.mcx11.specs.Answer.{answerOf}
+use Rattle.theorems.specs.Same.{Same, every-list}
 use Rattle.mcx11.proofs.entries.mcx11_configure_blocks as configure
 use Rattle.mcx11.proofs.entries.mcx11_configure_blocks.Kinds as configure-kinds
 use Rattle.mcx11.proofs.entries.mcx11_configure_blocks.Reads as configure-reads
 use Rattle.mcx11.proofs.entries.mcx11_frame_blocks as frame
 use Rattle.mcx11.proofs.entries.mcx11_frame_blocks.Kinds as frame-kinds
 use Rattle.mcx11.proofs.entries.mcx11_frame_blocks.Reads as frame-reads
 
 -- One call of `mcx11_configure_blocks` with the bytes g, lent the memory m and leaving m', that returned r: the arguments x, the last values w of the
 -- `&mut` slices, the result n, and what a caller learns of them

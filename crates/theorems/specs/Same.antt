@@ -1,4 +1,5 @@
--- Demand 3, of every list of calls by their contracts: the answers, the numbers and the items are the ledger's, and what is proved of the ledger holds of them.
+-- Demand 3, of every list of calls by their contracts: the answers, the numbers and the items are the ledger's, and what is
+-- proved of the ledger holds of them.
 use Prim.Native.Nat.{ℕ, _*_, _≤_}
 use mathlib.Core.Path.{_≡_, ap, ap₂, sym, _∙_, subst}
 use mathlib.Core.Logic.{_⊎_}
@@ -15,11 +16,12 @@ use Rattle.ledger.specs.Theorems.Lowest.{TaskRuns, NullRuns}
 use Rattle.ledger.specs.Theorems.Shown.{lowest-shown, reissues-shown}
 use Rattle.ledger.specs.Theorems.HandedOut.{handed-out}
 use Rattle.configuration.specs.Block.{configured}
 use Rattle.mcx11.specs.Contract.{Memory, fullSize, lentWell, Displays, answering, Configures}
-use Rattle.mcx11.specs.Calls.{answerOf, FrameCalls}
-use Rattle.mcx11.specs.Numbers.{numbers, Not11, none-11, configuration-never-11}
+use Rattle.theorems.specs.Calls.{FrameCalls}
+use Rattle.mcx11.specs.Answer.{answerOf, answer-is}
+use Rattle.theorems.specs.Numbers.{numbers, Not11, none-11, configuration-never-11}
 use Rattle.mcx11.specs.Displayed.{itemsIn, items-shown}
-use Rattle.mcx11.specs.Follows.{answer-is, Follows, follows}
+use Rattle.theorems.specs.Follows.{Follows, follows}
 
 -- the calls for the configuration g and the frames fs, with these answers and numbers, those of the configuration first, left the memory m
 pub record Same (g : List ℕ) (fs answered : List (List ℕ)) (returned : List ℕ) (m : Memory) : Type 0 where

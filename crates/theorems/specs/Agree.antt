@@ -8,11 +8,11 @@ use Rattle.ledger.specs.Config.{Config, configIn, configRefusal}
 use Rattle.ledger.specs.Ledger.{Ledger, fresh}
 use Rattle.ledger.specs.Session.{Items, items, step, runFrom}
 use Rattle.configuration.specs.Block.{configured}
 use Rattle.mcx11.specs.Contract.{Memory, fullSize, lentWell, Displays, Configures, Frames}
-use Rattle.mcx11.specs.Calls.{FrameCalls}
+use Rattle.theorems.specs.Calls.{FrameCalls}
 use Rattle.mcx11.specs.Displayed.{itemsIn, items-shown}
-use Rattle.mcx11.specs.Some.{ledgerIn, displays-some}
-use Rattle.mcx11.specs.Follows.{follows}
+use Rattle.theorems.specs.SomeLedger.{ledgerIn, displays-some}
+use Rattle.theorems.specs.Follows.{follows}
 
 -- the items of a memory, by its own configuration
 unfoldable pub itemsOf : Memory → Items

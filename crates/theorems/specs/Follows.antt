@@ -1,27 +1,19 @@
--- A list of calls goes as the ledger goes, from any ledger that the memory shows: each call finds the memory lent well and showing the ledger, and leaves it so.
-use Prim.Native.Nat.{ℕ, _+_}
+-- A list of calls goes as the ledger goes, from any ledger that the memory shows: each call finds the memory lent well and
+-- showing the ledger, and leaves it so.
+use Prim.Native.Nat.{ℕ}
 use mathlib.Core.Path.{_≡_, refl, ap, ap₂, sym, _∙_, subst}
 use mathlib.Core.Bool.{true}
 use mathlib.Core.List.{List, _∷_}
-use lib.ListN.{getD}
-use Rattle.rows.specs.Splice.{cut}
 use Rattle.ledger.specs.Config.{Config}
 use Rattle.ledger.specs.Ledger.{Ledger}
 use Rattle.ledger.specs.Session.{step, runFrom}
-use Rattle.answer.specs.Written.{written}
-use Rattle.answer.specs.Read.{read-length, read-answer}
 use Rattle.configuration.specs.Block.{configured, rule}
 use Rattle.mcx11.specs.Contract.{Memory, lentWell, Displays}
-use Rattle.mcx11.specs.Calls.{answerOf, FrameCalls, none, call}
-use Rattle.mcx11.specs.Numbers.{numbersFrom}
+use Rattle.theorems.specs.Calls.{FrameCalls, none, call}
+use Rattle.mcx11.specs.Answer.{answerOf, answer-is}
+use Rattle.theorems.specs.Numbers.{numbersFrom}
 use Rattle.mcx11.specs.Sizes.{full-kept}
 use Rattle.mcx11.specs.Displayed.{well-full, well-rule, displays-well}
-
--- the answer that a call wrote
-pub answer-is : (m : Memory) (a old : List ℕ) → m .answer ≡ written a old → answerOf m ≡ a
-unfolding answerOf
-answer-is m a old e =
-    ap (λ (d : List ℕ). cut d 1 (1 + getD d 0 0)) e ∙ ap (λ (n : ℕ). cut (written a old) 1 (1 + n)) (read-length a old) ∙ read-answer a old
 
 pub record Follows (c : Config) (l : Ledger) (fs answered : List (List ℕ)) (returned : List ℕ) (m' : Memory) : Type 0 where
   pub config : configured (m' .config) ≡ c

@@ -1,0 +1,5 @@
+pub mod Demand3
+pub mod OneCall
+pub mod Runs
+pub mod EveryRun
+pub mod LineRuns
