@@ -11,7 +11,7 @@ use borrow.Author.Tests.{le-leb, lt-leb}
 use Rattle.tables.specs.Back.{case}
 use Rattle.ledger.specs.Theorems.Checks.{and-left, and-right, within-numbered}
 use Rattle.ledger.specs.Lists.{within, sum, all}
-use Rattle.ledger.specs.Config.{shapesIn}
+use Rattle.ledger.specs.Config.{Limits, shapesIn}
 use Rattle.configuration.specs.Block.{shaped, product, goodShapes}
 
 -- the bytes of one queue, or 4,097
@@ -100,15 +100,15 @@ room-over (w ∷ d ∷ r) e = go (within 1 16 w && within 1 255 d) e (room-over 
     go true e h = omega (arith, h e)
     go false e h = omega arith
 
-module _ (l : List ℕ) where
-  -- the rule holds just where the bytes are at most 4,096, and then they are the sum of the products
-  pub room-good : roomIn l ≤ 4096 → (goodShapes (shapesIn l) ≡ true) × (roomIn l ≡ sum (map product (shapesIn l)))
+module _ (m : Limits) (made : m .bytes ≤ 4096) (l : List ℕ) where
+  -- the rule holds just where the bytes are within the limit, and then they are the sum of the products
+  pub room-good : roomIn l ≤ m .bytes → (goodShapes m (shapesIn l) ≡ true) × (roomIn l ≡ sum (map product (shapesIn l)))
   unfolding goodShapes bytesIn
-  room-good h = case (all shaped (shapesIn l)) (λ e. (rw (e, le-leb (bytesIn l) 4096 (omega (arith, room-sum l e))), room-sum l e)) (λ e. absurd (omega (arith, room-over l e)))
+  room-good h = case (all shaped (shapesIn l)) (λ e. (rw (e, le-leb (bytesIn l) (m .bytes) (omega (arith, room-sum l e))), room-sum l e)) (λ e. absurd (omega (arith, room-over l e)))
 
-  pub room-bad : 4096 < roomIn l → goodShapes (shapesIn l) ≡ false
+  pub room-bad : m .bytes < roomIn l → goodShapes m (shapesIn l) ≡ false
   unfolding goodShapes bytesIn
-  room-bad h = case (all shaped (shapesIn l)) (λ e. rw (e, lt-leb (bytesIn l) 4096 (omega (arith, room-sum l e)))) (λ e. rw e)
+  room-bad h = case (all shaped (shapesIn l)) (λ e. rw (e, lt-leb (bytesIn l) (m .bytes) (omega (arith, room-sum l e)))) (λ e. rw e)
 
 -- ---- the loops' turns and their end
 

@@ -4,6 +4,7 @@ use crate::frame::good_head;
 use crate::frame::room;
 use crate::frame::taken;
 use crate::frame::wide;
+use crate::limits::Limits;
 use queues::Ring;
 use tables::shape::Shape;
 ghost use mathlib.Core.Path.{_≡_};
@@ -12,6 +13,7 @@ ghost use lib.ListN.{length};
 ghost use Rattle.ledger.specs.Config.{configIn, configRefusal};
 ghost use Rattle.tables.specs.Shows.{Of};
 ghost use Rattle.queues.specs.Rings.{ringOf};
+ghost use Rattle.configuration.specs.Limits.{limitsOf, Made};
 ghost use Rattle.configuration.specs.Block.{configured};
 ghost use Rattle.configuration.specs.Layout.{laidOut, Lends};
 
@@ -69,18 +71,18 @@ pub fn shape_of(frame: &[u8]) -> Shape
 }
 
 // The structure rule of number 11, and the shape of a block that keeps it.
-pub fn lent(config: &[u8]) -> Lent
-    requires { ⌜ 198 ≤ length (now config) ⌝ }
-    ensures { λ r. ⌜ Lends (configured (now (config .entry))) r ⌝ }
+pub fn lent(limits: Limits, config: &[u8]) -> Lent
+    requires { ⌜ Made (limitsOf limits) × (198 ≤ length (now config)) ⌝ }
+    ensures { λ r. ⌜ Lends (limitsOf limits) (configured (now (config .entry))) r ⌝ }
 {
-    if !good_head(config) {
+    if !good_head(limits, config) {
         return Lent::Bad;
     }
     let queues = wide(config[2]);
     let at = 8 + wide(config[0]);
     let end = at + 2 * queues;
     let sum = room(&config[at..end], queues);
-    if sum > 4096 {
+    if sum > limits.bytes {
         return Lent::Bad;
     }
     let shape = lay(

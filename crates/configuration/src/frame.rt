@@ -1,4 +1,6 @@
 // A configuration frame, accepted or refused; its tests serve the lent block too.
+use crate::limits::Limits;
+use crate::limits::controller;
 ghost use mathlib.Core.Path.{_≡_};
 ghost use Prim.Native.Nat.{_+_, _*_, _/_, _%_, _≤_};
 ghost use mathlib.Core.Bool.{_&&_};
@@ -6,6 +8,7 @@ ghost use lib.Dec.{leb};
 ghost use lib.ListN.{length, getD};
 ghost use Rattle.ledger.specs.Lists.{all};
 ghost use Rattle.ledger.specs.Config.{goodHead, configRefusal};
+ghost use Rattle.configuration.specs.Limits.{limitsOf};
 ghost use Rattle.configuration.specs.Block.{read};
 ghost use Rattle.configuration.specs.Head.{headRule};
 ghost use Rattle.configuration.specs.Room.{bytesOrNone, roomIn, bytesIn};
@@ -23,22 +26,22 @@ fn word(high: u8, low: u8) -> u16
 }
 
 // The rule for the first eight bytes.
-fn head_rule(t: u8, s: u8, q: u8, r: u8, g: u8, k: u8, ms: u16) -> bool
-    ensures { λ x. ⌜ x ≡ headRule t s q r g k ms ⌝ }
+fn head_rule(limits: Limits, t: u8, s: u8, q: u8, r: u8, g: u8, k: u8, ms: u16) -> bool
+    ensures { λ x. ⌜ x ≡ headRule (limitsOf limits) t s q r g k ms ⌝ }
 {
     if t == 0 {
         return false;
     }
-    if t > 126 {
+    if t > limits.tasks {
         return false;
     }
-    if q > 32 {
+    if q > limits.queues {
         return false;
     }
-    if r > 64 {
+    if r > limits.timers {
         return false;
     }
-    if g > 64 {
+    if g > limits.messages {
         return false;
     }
     if k == 0 {
@@ -53,12 +56,13 @@ fn head_rule(t: u8, s: u8, q: u8, r: u8, g: u8, k: u8, ms: u16) -> bool
     true
 }
 
-pub fn good_head(bytes: &[u8]) -> bool
+pub fn good_head(limits: Limits, bytes: &[u8]) -> bool
     requires { ⌜ 8 ≤ length (now bytes) ⌝ }
-    ensures { λ r. ⌜ r ≡ goodHead (read (now (bytes .entry))) ⌝ }
+    ensures { λ r. ⌜ r ≡ goodHead (limitsOf limits) (read (now (bytes .entry))) ⌝ }
 {
     let ms = word(bytes[6], bytes[7]);
     head_rule(
+        limits,
         bytes[0],
         bytes[1],
         bytes[2],
@@ -140,14 +144,15 @@ pub fn taken(shapes: &[u8], queues: usize) -> u32
     sum
 }
 
-// 0 accepts.
+// By the controller's limits; 0 accepts.
 pub fn refusal(frame: &[u8]) -> u8
     ensures { λ r. ⌜ r ≡ configRefusal (now (frame .entry)) ⌝ }
 {
     if frame.len() < 8 {
         return 2;
     }
-    if !good_head(frame) {
+    let limits = controller();
+    if !good_head(limits, frame) {
         return 3;
     }
     let queues = wide(frame[2]);
@@ -159,7 +164,7 @@ pub fn refusal(frame: &[u8]) -> u8
     if !good_states(&frame[8..at]) {
         return 3;
     }
-    if room(&frame[at..end], queues) > 4096 {
+    if room(&frame[at..end], queues) > limits.bytes {
         return 3;
     }
     0
