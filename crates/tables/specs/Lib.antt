@@ -9,6 +9,7 @@ pub mod Shows
 pub mod Items
 pub mod SetTwice
 pub mod Stored
+pub mod Semaphores
 pub mod Blocks
 pub mod Running
 pub mod Waiting

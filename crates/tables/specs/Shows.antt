@@ -1,5 +1,5 @@
 -- Which ledgers the memory shows, and what it is for a function over the memory to do what the ledger does.
-use mathlib.Core.Path.{_≡_, sym, ap, _∙_}
+use mathlib.Core.Path.{_≡_, sym, ap, _∙_, subst}
 use mathlib.Core.Bool.{true}
 use mathlib.Core.List.{List, map}
 use Prim.Native.Nat.{ℕ, suc, _+_, _-_, _*_, _≤_}
@@ -115,9 +115,31 @@ pub record Shows (c : Config) (s : Shape) (L : Ledger) (d z w : List ℕ) : Type
 abbrev pub Does : Shape → (d d' : List ℕ) → (Config → Ledger → Ledger) → Type 0
 Does s d d' f = (c : Config) (L : Ledger) (z w : List ℕ) → Shows c s L d z w → Shows c s (f c L) d' z w
 
+-- where P holds of the ledger
+abbrev pub DoesIf : Shape → (d d' : List ℕ) → (Config → Ledger → Type 0) → (Config → Ledger → Ledger) → Type 0
+DoesIf s d d' P f = (c : Config) (L : Ledger) (z w : List ℕ) → P c L → Shows c s L d z w → Shows c s (f c L) d' z w
+
+-- the tables with the slots, from d, z to d', z'
+abbrev pub DoesWithSlotsIf : Shape → (d z d' z' : List ℕ) → (Config → Ledger → Type 0) → (Config → Ledger → Ledger) → Type 0
+DoesWithSlotsIf s d z d' z' P f = (c : Config) (L : Ledger) (w : List ℕ) → P c L → Shows c s L d z w → Shows c s (f c L) d' z' w
+
+-- the tables with the timers, from d, w to d', w'
+abbrev pub DoesWithTimers : Shape → (d w d' w' : List ℕ) → (Config → Ledger → Ledger) → Type 0
+DoesWithTimers s d w d' w' f = (c : Config) (L : Ledger) (z : List ℕ) → Shows c s L d z w → Shows c s (f c L) d' z w'
+
+abbrev pub DoesWithTimersIf : Shape → (d w d' w' : List ℕ) → (Config → Ledger → Type 0) → (Config → Ledger → Ledger) → Type 0
+DoesWithTimersIf s d w d' w' P f = (c : Config) (L : Ledger) (z : List ℕ) → P c L → Shows c s L d z w → Shows c s (f c L) d' z w'
+
 -- the value r is the ledger's
 abbrev pub Tells : {A : Type 0} → Shape → List ℕ → (Config → Ledger → A) → A → Type 0
 Tells s d f r = (c : Config) (L : Ledger) (z w : List ℕ) → Shows c s L d z w → r ≡ f c L
+
+abbrev pub TellsIf : {A : Type 0} → Shape → List ℕ → (Config → Ledger → Type 0) → (Config → Ledger → A) → A → Type 0
+TellsIf s d P f r = (c : Config) (L : Ledger) (z w : List ℕ) → P c L → Shows c s L d z w → r ≡ f c L
+
+-- what is shown is another name of the same ledger
+pub moved : {c : Config} {s : Shape} {L L' : Ledger} {d z w : List ℕ} → L ≡ L' → Shows c s L d z w → Shows c s L' d z w
+moved {c} {s} {d = d} {z = z} {w = w} e h = subst (λ (X : Ledger). Shows c s X d z w) e h
 
 -- the task record that the tables hold
 unfoldable pub recordIn : Shape → List ℕ → ℕ → Task

@@ -1,4 +1,4 @@
--- What each store of a task's or a semaphore's bytes is on the ledgers that the memory shows.
+-- What each store of a task's bytes is on the ledgers that the memory shows.
 use mathlib.Core.Path.{_≡_, refl, sym, ap, _∙_, subst}
 use mathlib.Core.List.{List}
 use Prim.Native.Nat.{ℕ, _+_, _-_, _*_, _<_, _≤_}
@@ -37,23 +37,6 @@ shows-as c s L d z w d' z' p h ld lz e L' g =
       counted = h .counted;
       shown = subst (λ (x : Regions). Shown c L' x z' w) (sym e) g;
     }
-
--- ---- semaphores
-
-pub semaphore-stored : (c : Config) (s : Shape) (L : Ledger) (d z w : List ℕ) → Shows c s L d z w → (b : ℕ) → OneOf (s .semaphores) b → (x : state.Semaphore) → Waiter (s .tasks) x
-    → Shows c s (setSemaphore b (viewSemaphore x) L) (set d (s .semaphoreat + (b - 1)) (stateByte x)) z w
-unfolding semaphoreAt regions named but bound withSemaphores
-semaphore-stored c s L d z w h b (lo, hi) x q =
-    let l = h .of .laid in
-    let p : Regions = regions s d in
-    let v : List ℕ = set (p .semaphores) (b - 1) (stateByte x) in
-    let n : length (p .semaphores) ≡ s .waitingat - s .semaphoreat = region-length s l d (h .room) 3 in
-    shows-as c s L d z w (set d (s .semaphoreat + (b - 1)) (stateByte x)) z (withSemaphores v p) h (length-set d (s .semaphoreat + (b - 1)) (stateByte x)) refl
-    (byte-written s l d (h .room) 3 (b - 1) (stateByte x) (omega arith))
-    (setSemaphore b (viewSemaphore x) L)
-    (semaphore-shown c L p z w (h .shown) v b (viewSemaphore x) lo
-    (sym (ap (λ (y : ℕ). viewSemaphore (stateOf (c .T) y)) (getD-set-same (p .semaphores) (b - 1) (stateByte x) 0 (omega arith)) ∙ ap viewSemaphore (state-back (c .T) x (omega (arith, h .of .tasks)) (subst (λ (k : ℕ). Waiter k x) (h .of .tasks) q))))
-    (λ j g ne. ap (λ (y : ℕ). viewSemaphore (stateOf (c .T) y)) (sym (getD-set-other (p .semaphores) (b - 1) j (stateByte x) 0 ne))))
 
 -- ---- a task's record with another outcome, with another request
 

@@ -2,13 +2,13 @@
 use crate::shape::Shape;
 ghost use mathlib.Core.Path.{_≡_};
 ghost use mathlib.Core.List.{map};
-ghost use Prim.Native.Nat.{_+_, _-_, _≤_};
-ghost use lib.ListN.{length, getD};
+ghost use lib.ListN.{length};
 ghost use Rattle.tables.specs.Decode.{stateOf, stateByte, clearedOf, viewSemaphore};
 ghost use Rattle.tables.specs.Layout.{OneOf, Fits};
 ghost use Rattle.tables.specs.Encoded.{Waiter};
-ghost use Rattle.tables.specs.Shows.{Does};
-ghost use Rattle.ledger.specs.Ledger.{setSemaphore};
+ghost use Rattle.tables.specs.Shows.{Does, Tells};
+ghost use Rattle.ledger.specs.Ledger.{semaphoreOf, setSemaphore};
+ghost use Rattle.ledger.specs.Refusals.{isWaiting};
 ghost use Rattle.ledger.specs.Services.{withdrawWait};
 
 pub enum Semaphore {
@@ -41,7 +41,7 @@ fn state_byte(s: Semaphore) -> u8
 
 pub fn load(tables: &[u8], shape: Shape, b: u8) -> Semaphore
     requires { ⌜ Fits shape (length (now tables)) × OneOf (shape .semaphores) b ⌝ }
-    ensures { λ r. ⌜ (r ≡ stateOf (shape .tasks) (getD (now (tables .entry)) (shape .semaphoreat + (b - 1)) 0)) × Waiter (shape .tasks) r ⌝ }
+    ensures { λ r. ⌜ Tells shape (now (tables .entry)) (λ c L. semaphoreOf L b) (viewSemaphore r) × Waiter (shape .tasks) r ⌝ }
 {
     let at = shape.semaphoreat + (b as usize - 1);
     state_of(shape.tasks, tables[at])
@@ -53,6 +53,19 @@ pub fn store(tables: &mut [u8], shape: Shape, b: u8, s: Semaphore)
 {
     let at = shape.semaphoreat + (b as usize - 1);
     tables[at] = state_byte(s);
+}
+
+// Whether a semaphore is WAITING.
+pub fn is_waiting(tables: &[u8], shape: Shape, b: u8) -> bool
+    requires { ⌜ Fits shape (length (now tables)) × OneOf (shape .semaphores) b ⌝ }
+    ensures { λ r. ⌜ Tells shape (now (tables .entry)) (λ c L. isWaiting (semaphoreOf L b)) r ⌝ }
+{
+    let s = load(tables, shape, b);
+    match s {
+        Semaphore::Pending => false,
+        Semaphore::Done => false,
+        Semaphore::Waiting(_) => true,
+    }
 }
 
 fn cleared(x: u8, t: u8) -> u8

@@ -5,17 +5,15 @@ use crate::shape::PLANES_AT;
 use crate::shape::RECORDS_AT;
 use crate::shape::Shape;
 ghost use mathlib.Core.Path.{_≡_};
-ghost use mathlib.Core.List.{List};
-ghost use Prim.Native.Nat.{ℕ, _+_, _<_, _≤_};
+ghost use Prim.Native.Nat.{_≤_};
 ghost use lib.ListN.{length, getD};
 ghost use Rattle.rows.specs.Splice.{splice};
 ghost use Rattle.tables.specs.Decode.{outcomeOf, outcomeWritten, outcomeBytes, requestOf, requestKind, requestArgument, requestBytes, viewOutcome, viewRequest};
 ghost use Rattle.tables.specs.Layout.{OneOf, Fits};
 ghost use Rattle.tables.specs.Encoded.{AsksFor};
-ghost use Rattle.tables.specs.Shows.{recordIn, waitingIn, Shows, Does, Tells};
-ghost use Rattle.ledger.specs.Config.{Config};
+ghost use Rattle.tables.specs.Shows.{recordIn, waitingIn, Does, DoesIf, Tells};
 ghost use Rattle.ledger.specs.Ledger as ledger;
-ghost use Rattle.ledger.specs.Ledger.{Ledger, setOutcome, setRequest, task};
+ghost use Rattle.ledger.specs.Ledger.{setOutcome, setRequest, task};
 ghost use Rattle.ledger.specs.Services as ledger_services;
 
 pub enum Outcome {
@@ -249,7 +247,7 @@ pub fn load_waiting(tables: &[u8], shape: Shape, t: u8, entry: &mut [u8])
 // Opens an enqueue with its bytes.
 pub fn store_enqueue(tables: &mut [u8], shape: Shape, t: u8, q: u8, entry: &[u8])
     requires { ⌜ Fits shape (length (now tables)) × OneOf (shape .tasks) t × OneOf (shape .queues) q × (length (now entry) ≤ 16) ⌝ }
-    ensures { λ _. ⌜ ((c : Config) (L : Ledger) (z w : List ℕ) → length (now (entry .entry)) ≡ ledger_services.shape c q .width → Shows c shape L (now (tables .entry)) z w → Shows c shape (setRequest t (ledger.enqueue q (now (entry .entry))) L) (now (tables .exit)) z w) ⌝ }
+    ensures { λ _. ⌜ DoesIf shape (now (tables .entry)) (now (tables .exit)) (λ c L. length (now (entry .entry)) ≡ ledger_services.shape c q .width) (λ c L. setRequest t (ledger.enqueue q (now (entry .entry))) L) ⌝ }
 {
     let at = shape.waitingat + (t as usize - 1) * 16;
     rows::copy_in(entry, tables, at);

@@ -4,6 +4,7 @@ use denote.Ref.{now}
 use native.Mathlib.Omega.{arith}
 use Prim.Native.Nat.{_+_, _-_}
 use lib.ListN.{getD}
+use Rattle.tables.specs.Semaphores.{semaphore-told}
 use Rattle.tables.specs.Encoded.{state-waiter}
 use borrow.Author.Needs.{needs}
 use Rattle.tables.proofs.semaphores.load.Statement.{statement}
@@ -24,8 +25,9 @@ state-of-requires c κs = search needs
 returns : tie.Need-returns
 returns c =
     let s = c .before .before .before .before in
-    let h = s .args .shape in
-    (c .state-of .ensures, rw (c .state-of .ensures) (state-waiter (h .tasks) (getD (now (s .args .tables)) (h .semaphoreat + (s .args .b - 1)) 0)))
+    let a = s .args in
+    let h = a .shape in
+    (semaphore-told (s .pre .0) (now (a .tables)) (a .b) (s .pre .1) _ (c .state-of .ensures), rw (c .state-of .ensures) (state-waiter (h .tasks) (getD (now (a .tables)) (h .semaphoreat + (a .b - 1)) 0)))
 
 pub load-spec : {M : Type 1} → statement M
 load-spec =

@@ -2,7 +2,7 @@
 use Rattle.tables.specs.Layout.{semaphore-in}
 use denote.Ref.{now}
 use native.Mathlib.Omega.{arith}
-use Rattle.tables.specs.Stored.{semaphore-stored}
+use Rattle.tables.specs.Semaphores.{semaphore-stored}
 use borrow.Author.Needs.{needs}
 use Rattle.tables.proofs.semaphores.store.Statement.{statement}
 use Rattle.tables.proofs.semaphores.store.Tie as tie
