@@ -14,6 +14,7 @@ use Rattle.messages.specs.Records.{pending-length, found-some, found-none, take
 use Rattle.messages.specs.Complete.{complete-insert, complete-remove, complete-keep}
 use Rattle.messages.specs.Full.{full}
 use Rattle.tables.specs.declared.shape.Shape.{Shape}
+use Rattle.tables.specs.Layout.{OneOf, countAt}
 use Rattle.tables.specs.Decode.{countOf}
 use Rattle.tables.specs.Shows.{Shows, mailboxesIn}
 use Rattle.ledger.specs.Config.{Config}
@@ -36,7 +37,7 @@ module _ (c : Config) (s : Shape) (L : Ledger) (d z w : List ℕ) (h : Shows c s
       ∙ ap (completeIn (c .T) (c .G)) (mail-is c s L d z w h) ∙ h .shown .messages
 
   -- the count that was read
-  module _ (n : ℕ) (e : n ≡ countOf (s .messages) (getD d 1 0)) where
+  module _ (n : ℕ) (e : n ≡ countOf (s .messages) (getD d countAt 0)) where
     counted : pendingIn n (bytes s d) ≡ mail s d
     counted = ap (λ (k : ℕ). pendingIn k (bytes s d)) e
 
@@ -46,7 +47,7 @@ module _ (c : Config) (s : Shape) (L : Ledger) (d z w : List ℕ) (h : Shows c s
     complete-now : completeIn (s .tasks) (s .messages) (pendingIn n (bytes s d)) ≡ true
     complete-now = ap (completeIn (s .tasks) (s .messages)) counted ∙ mail-complete
 
-    module _ (x : ℕ) (low : 1 ≤ x) (high : x ≤ s .messages) (new : inAMailbox L x ≡ false) where
+    module _ (x : ℕ) (one : OneOf (s .messages) x) (new : inAMailbox L x ≡ false) where
       not-there : any (any (numbered x)) (mailboxesOf (s .tasks) (pendingIn n (bytes s d))) ≡ false
       not-there = ap (λ (l : List Pending). any (any (numbered x)) (mailboxesOf (s .tasks) l)) counted ∙ in-mail x ∙ new
 
@@ -55,25 +56,25 @@ module _ (c : Config) (s : Shape) (L : Ledger) (d z w : List ℕ) (h : Shows c s
       insert-room a b =
           let q : n ≡ s .messages = omega arith in
           let f : any (any (numbered x)) (mailboxesOf (s .tasks) (pendingIn n (bytes s d))) ≡ true =
-          full (s .tasks) (s .messages) x low high (pendingIn n (bytes s d)) complete-now (pending-length n (bytes s d) ∙ q) in
+          full (s .tasks) (s .messages) x (one .0) (one .1) (pendingIn n (bytes s d)) complete-now (pending-length n (bytes s d) ∙ q) in
           let z : _≡_ {A = ℕ} 0 1 = cc (not-there) in
           omega arith
 
-      pub insert-done : (t f b : ℕ) (ys : List ℕ) → 1 ≤ t → t ≤ s .tasks → n < s .messages → length ys ≡ length (bytes s d) → Inserted n (pending t x f b) (bytes s d) ys
+      pub insert-done : (t f b : ℕ) (ys : List ℕ) → OneOf (s .tasks) t → n < s .messages → length ys ≡ length (bytes s d) → Inserted n (pending t x f b) (bytes s d) ys
           → Shows c s (setMailbox t (insertBy (λ m. m .sender) (record { number = x; sender = f; semaphore = b }) (mailbox L t)) L) (renewed s d ys (n + 1)) z w
-      insert-done t f b ys lo hi r l i =
+      insert-done t f b ys to r l i =
           let m : Message = record { number = x; sender = f; semaphore = b } in
           let all : completeIn (s .tasks) (s .messages) (pendingIn (n + 1) ys) ≡ true =
           rw (i .all)
           (complete-insert (s .tasks) (s .messages) (placeFor t f (pendingIn n (bytes s d))) (pending t x f b) (pendingIn n (bytes s d)) complete-now
-          (rw (le-leb 1 t lo, le-leb t (s .tasks) hi, le-leb 1 x low, le-leb x (s .messages) high)) not-there) in
-          mail-renewed c s L d z w h t lo hi ys l (n + 1) (omega arith) (insertBy (λ m. m .sender) m (mailbox L t))
-          (i .own ∙ ap (insertBy (λ m. m .sender) m) (ap (mailboxOf t) counted ∙ sym (mailbox-in c s L d z w h t lo hi)))
+          (rw (le-leb 1 t (to .0), le-leb t (s .tasks) (to .1), le-leb 1 x (one .0), le-leb x (s .messages) (one .1))) not-there) in
+          mail-renewed c s L d z w h t to ys l (n + 1) (omega arith) (insertBy (λ m. m .sender) m (mailbox L t))
+          (i .own ∙ ap (insertBy (λ m. m .sender) m) (ap (mailboxOf t) counted ∙ sym (mailbox-in c s L d z w h t to)))
           (λ u ne. i .others u ne ∙ ap (mailboxOf u) counted) all
 
-    module _ (t : ℕ) (lo : 1 ≤ t) (hi : t ≤ s .tasks) where
+    module _ (t : ℕ) (to : OneOf (s .tasks) t) where
       own-mail : mailboxOf t (pendingIn n (bytes s d)) ≡ mailbox L t
-      own-mail = ap (mailboxOf t) counted ∙ sym (mailbox-in c s L d z w h t lo hi)
+      own-mail = ap (mailboxOf t) counted ∙ sym (mailbox-in c s L d z w h t to)
 
       -- what a receive found, at record k
       module _ (few : n ≤ s .messages) (a k : ℕ) (f : Found n t a (bytes s d) k) where
@@ -87,7 +88,7 @@ module _ (c : Config) (s : Shape) (L : Ledger) (d z w : List ℕ) (h : Shows c s
             → Shows c s (setMailbox t (without (wanted a) (mailbox L t)) L) (renewed s d ys (n - 1)) z w
         take-done ys g l q =
             let i : Taken n t a (bytes s d) ys = taken n t a k (bytes s d) ys f g q in
-            mail-renewed c s L d z w h t lo hi ys l (n - 1) (omega arith) (without (wanted a) (mailbox L t))
+            mail-renewed c s L d z w h t to ys l (n - 1) (omega arith) (without (wanted a) (mailbox L t))
             (i .own ∙ ap (without (wanted a)) own-mail)
             (λ u ne. i .others u ne ∙ ap (mailboxOf u) counted)
             (rw q (complete-remove (s .tasks) (s .messages) k (pendingIn n (bytes s d)) complete-now))
@@ -95,6 +96,6 @@ module _ (c : Config) (s : Shape) (L : Ledger) (d z w : List ℕ) (h : Shows c s
       pub clear-done : (ys : List ℕ) (r : ℕ) → n ≤ s .messages → length ys ≡ length (bytes s d) → Emptied n t (bytes s d) ys r
           → Shows c s (setMailbox t [] L) (renewed s d ys r) z w
       clear-done ys r few l i =
-          mail-renewed c s L d z w h t lo hi ys l r (omega (arith, i .left)) [] (i .own)
+          mail-renewed c s L d z w h t to ys l r (omega (arith, i .left)) [] (i .own)
           (λ u ne. i .others u ne ∙ ap (mailboxOf u) counted)
           (rw (i .all) (complete-keep (s .tasks) (s .messages) (λ p. not (for t p)) (pendingIn n (bytes s d)) complete-now))
