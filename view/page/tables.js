@@ -180,13 +180,13 @@ class Tables {
   row(line, name, key, row, before, other, state) {
     line.dataset.key = key;
     if (row.runs) line.className = "runs";
+    if (row.gone) line.className = "gone";
     const first = line.insertCell();
     first.append(...this.subjects(key));
     row.cells.forEach((text, place) => {
       const cell = line.insertCell();
       cell.textContent = text;
       if (name === "queues" && place === 1) cell.className = "entries";
-      if (name === "tasks" && place === 0) cell.className = "state";
       if (name === "tasks" && place === 4) cell.className = "digits";
       if (!before || before.cells[place] !== text) cell.classList.add("changed"), cell.title = before ? `before: ${before.cells[place]}` : "new";
       const theirs = other && other.get(key);

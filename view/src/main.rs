@@ -28,7 +28,7 @@ fn main() {
     match arguments.task {
         Task::Help => print!("{USAGE}"),
         Task::Words { file } => print_words(&file, &names),
-        Task::Page { files, page } => write_page(&files, &names, arguments.names.as_deref(), &page),
+        Task::Page { files, page } => write_page(&files, &names, &page),
     }
 }
 
@@ -105,14 +105,14 @@ fn differs(file: &str, line: usize, why: &Stop) -> String {
     format!("{file}: line {line}: the two implementations differ: {why:?}. Report this with the file")
 }
 
-fn write_page(files: &[String], names: &Names, names_file: Option<&str>, page: &str) {
+fn write_page(files: &[String], names: &Names, page: &str) {
     let inputs: Vec<Vec<u8>> = files.iter().map(|file| read_file(file)).collect();
     for (file, input) in files.iter().zip(&inputs) {
         let replay = begin(file, input);
         check_names(names, replay.other().configuration());
     }
     let sessions: Vec<(&str, &[u8])> = files.iter().map(String::as_str).zip(inputs.iter().map(Vec::as_slice)).collect();
-    let made = page::make(&sessions, names, names_file).unwrap_or_else(|(file, line, why)| {
+    let made = page::make(&sessions, names).unwrap_or_else(|(file, line, why)| {
         stop(DIFFERS, &format!("{}. No page is written", differs(&file, line, &why)))
     });
     fs::write(page, &made.html).unwrap_or_else(|error| stop(WRONG, &format!("{page} cannot be written: {error}")));

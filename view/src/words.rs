@@ -179,9 +179,14 @@ impl Asked<'_> {
         }
     }
 
+    /// Semaphore B, 0 is that of a task; the null task has none.
     fn semaphore(&self, of: u8) -> String {
-        let own = self.words.configuration.semaphore_of_task(of.min(self.words.configuration.tasks));
-        self.words.semaphore(if self.b == 0 { own } else { self.b })
+        match (self.b, of) {
+            (0, 0) => "its own semaphore".to_string(),
+            (0, of) if of > self.words.configuration.tasks => format!("the own semaphore of task {of}"),
+            (0, of) => self.words.semaphore(self.words.configuration.semaphore_of_task(of)),
+            (named, _) => self.words.semaphore(named),
+        }
     }
 
     /// Task A, 0 is the caller.
