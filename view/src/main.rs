@@ -52,6 +52,7 @@ fn read_names(file: &str) -> Names {
     Names::read(&text).unwrap_or_else(|what| stop(WRONG, &format!("{file}: {what}")))
 }
 
+/// Ends the program where a session does not begin.
 fn begin(file: &str, input: &[u8]) -> Replay {
     let Some(first) = lines(input).next() else {
         stop(WRONG, &format!("{file} is empty: a session begins with the line of its configuration"))
@@ -59,7 +60,10 @@ fn begin(file: &str, input: &[u8]) -> Replay {
     Replay::begin(first).unwrap_or_else(|why| match why {
         Stop::Refused(number) => {
             let rule = configuration_rule(first, number);
-            stop(REFUSED, &format!("{file}: line 1, the configuration, is refused with {number}, so the session ends: {rule}"))
+            stop(
+                REFUSED,
+                &format!("{file}: line 1, the configuration, is refused with {number}, so the session ends: {rule}"),
+            )
         }
         Stop::Differs(what) => stop(DIFFERS, &format!("{file}: line 1: {what}. Report this with the file")),
     })
@@ -72,6 +76,10 @@ fn check_names(names: &Names, configuration: &Configuration) {
 /// A reader that goes away is no failure.
 fn print_words(file: &str, names: &Names) {
     let input = read_file(file);
+    let first = lines(&input).next().unwrap_or_default();
+    if let (false, Err(Stop::Refused(number))) = (input.is_empty(), Replay::begin(first)) {
+        println!("0  configuration: refused {number}, {}; the session ends", configuration_rule(first, number));
+    }
     let mut replay = begin(file, &input);
     let configuration = replay.other().configuration().clone();
     check_names(names, &configuration);

@@ -146,8 +146,14 @@ fn configured(configuration: &Configuration) -> Json {
     ])
 }
 
+/// Characters of a line that is refused.
+const MOST_SHOWN: usize = 40;
+
 fn asked_line(words: &Words, step: &Step) -> String {
-    let digits = String::from_utf8_lossy(step.line).replace(['\t', '\r'], " ");
+    let digits = match step.frame {
+        Some(_) => String::from_utf8_lossy(step.line).into_owned(),
+        None => step.line.iter().take(MOST_SHOWN).flat_map(|byte| byte.escape_ascii()).map(char::from).collect(),
+    };
     format!("{digits}\t{}\t{}\t{}", step.caller, named(words.configuration, step).join(" "), words.asked(step))
 }
 

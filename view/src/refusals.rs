@@ -200,7 +200,8 @@ impl Met<'_> {
 
     fn lies(&self, message: u8) -> String {
         let holds = |task: &u8| self.executive.mailboxes().letters(*task).any(|letter| letter.message == message);
-        let task = (1..=self.words.configuration.tasks).find(holds).map_or_else(String::new, |task| self.words.task(task));
+        let task =
+            (1..=self.words.configuration.tasks).find(holds).map_or_else(String::new, |task| self.words.task(task));
         format!("{} still lies in the mailbox of {task}", self.words.message(message.into()))
     }
 

@@ -43,7 +43,10 @@ fn no_page_where_the_other_implementation_differs() {
     assert!(page::make(&sessions, &Names::default()).is_ok());
     for (call, line) in [(wrong_answer as fn(&mut Lent, &[u8]) -> Number, 2), (wrong_item, 2)] {
         let failed = page::make_with(&sessions, &Names::default(), call).err().expect("no page");
-        assert!(matches!(&failed, (file, at, Stop::Differs(_)) if file == "station.session" && *at == line), "{failed:?}");
+        assert!(
+            matches!(&failed, (file, at, Stop::Differs(_)) if file == "station.session" && *at == line),
+            "{failed:?}"
+        );
     }
 }
 
@@ -127,7 +130,8 @@ fn unpacked(packed: &[u8]) -> Vec<u8> {
                 let (base, extra) = length_code(symbol - 257);
                 let length = base + low(extra);
                 let code = (0..5).fold(0, |code, _| code << 1 | low(1));
-                let (base, extra) = if code < 4 { (code + 1, 0) } else { ((2 + code % 2 << code / 2 - 1) + 1, code / 2 - 1) };
+                let (base, extra) =
+                    if code < 4 { (code + 1, 0) } else { (((2 + code % 2) << (code / 2 - 1)) + 1, code / 2 - 1) };
                 let from = out.len() - (base + low(extra)) as usize;
                 (0..length as usize).for_each(|place| out.push(out[from + place]));
             }
@@ -139,6 +143,6 @@ fn length_code(code: u32) -> (u32, u32) {
     match code {
         0..=7 => (code + 3, 0),
         28 => (258, 0),
-        _ => ((4 + code % 4 << code / 4 - 1) + 3, code / 4 - 1),
+        _ => (((4 + code % 4) << (code / 4 - 1)) + 3, code / 4 - 1),
     }
 }

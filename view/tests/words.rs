@@ -56,7 +56,8 @@ fn the_words_of_every_story_are_as_stored() {
         if path.extension().is_some_and(|end| end == "session") {
             let output = view(&["words", path.to_str().unwrap()], b"");
             let stored = Path::new(env!("CARGO_MANIFEST_DIR")).join("tests/words").join(path.file_name().unwrap());
-            let due = fs::read_to_string(stored.with_extension("words")).expect("its words are stored in view/tests/words");
+            let due =
+                fs::read_to_string(stored.with_extension("words")).expect("its words are stored in view/tests/words");
             assert_eq!(text(&output.stdout), due, "{}", path.display());
             assert_eq!((output.status.code(), text(&output.stderr)), (Some(0), String::new()));
             stories += 1;
@@ -69,7 +70,8 @@ fn the_words_of_every_story_are_as_stored() {
 fn names_stand_in_the_words() {
     let names = file("names.txt", "# the station\nt1 gate\nt2 lap\n\ns1 gate-shut\ns2 train-in\nm1 go\n");
     let output = view(&["words", "examples/station.session", "--names", &names], b"");
-    let due = fs::read_to_string(Path::new(env!("CARGO_MANIFEST_DIR")).join("tests/words/station-named.words")).unwrap();
+    let due =
+        fs::read_to_string(Path::new(env!("CARGO_MANIFEST_DIR")).join("tests/words/station-named.words")).unwrap();
     assert_eq!(text(&output.stdout), due);
 }
 
@@ -89,7 +91,10 @@ fn each_refusal_says_its_rule() {
         ("070100000", "refused 1, the number of digits is odd; task 1 goes on"),
         ("07010000zz", "refused 1, character 9 is 'z', which is no digit; task 1 goes on"),
         ("07010000ff", "refused 1, character 9 is 'f': digits are upper-case; task 1 goes on"),
-        ("0701000000\r", "refused 1, character 11 is a carriage return: let lines end with a line feed alone; task 1 goes on"),
+        (
+            "0701000000\r",
+            "refused 1, character 11 is a carriage return: let lines end with a line feed alone; task 1 goes on",
+        ),
         ("070100000000", "refused 2, a frame of code 07 has 5 bytes, not 6; task 1 goes on"),
         ("08010000004142", "refused 2, an entry of queue 1 has 1 byte, not 2; task 1 goes on"),
         ("1200000000", "refused 4, there is no code 12 (01 to 11); task 1 goes on"),
@@ -106,7 +111,10 @@ fn each_refusal_says_its_rule() {
         ("0E00000001\n0E00000001", "refused 24, task 1 has a timer on semaphore 2 already; task 1 goes on"),
         ("0E00000001\n0E00010001", "refused 23, the only timer is active; task 1 goes on"),
         ("0100010000\n0300010000", "refused 21, task 1 waits for semaphore 1 already; task 2 goes on"),
-        ("0701000000\n0701000000", "refused 21, queue 1 is empty, and task 1 waits for an entry already; task 2 goes on"),
+        (
+            "0701000000\n0701000000",
+            "refused 21, queue 1 is empty, and task 1 waits for an entry already; task 2 goes on",
+        ),
     ];
     for (frames, rule) in cases {
         let said = words(format!("{head}{frames}\n").as_bytes());
@@ -146,14 +154,25 @@ fn a_refused_configuration_ends_with_1_and_says_why() {
         ("00010101010100010000", "is refused with 3, so the session ends: T, the number of tasks, is 0, not 1 to 126"),
         ("0101", "is refused with 2, so the session ends: it has 2 bytes, and the first eight are needed"),
         ("020101010101007D000001", "is refused with 2, so the session ends: it has 11 bytes, and 8 + T + 2Q is 12"),
-        ("020101010101007D00000001", "is refused with 3, so the session ends: queue 1 has width 0 (1 to 16) and depth 1 (1 to 255)"),
-        ("020101010101007D00020101", "is refused with 3, so the session ends: the initial state of task 2 is 2, not 0 or 1"),
+        (
+            "020101010101007D00000001",
+            "is refused with 3, so the session ends: queue 1 has width 0 (1 to 16) and depth 1 (1 to 255)",
+        ),
+        (
+            "020101010101007D00020101",
+            "is refused with 3, so the session ends: the initial state of task 2 is 2, not 0 or 1",
+        ),
         ("02zz", "is refused with 1, so the session ends: character 3 is 'z', which is no digit"),
     ];
     for (line, rule) in cases {
         let output = view(&["words"], line.as_bytes());
         assert_eq!(output.status.code(), Some(1), "{line}");
         assert_eq!(text(&output.stderr), format!("view: -: line 1, the configuration, {rule}\n"));
+        let (_, why) = rule.split_once("ends: ").unwrap();
+        let said = text(&output.stdout);
+        assert!(
+            said.starts_with("0  configuration: refused ") && said.ends_with(&format!(", {why}; the session ends\n"))
+        );
     }
 }
 

@@ -47,8 +47,7 @@ impl Browser {
             .spawn()
             .expect("a shell");
         let (to, from) = (child.stdin.take().expect("piped"), BufReader::new(child.stdout.take().expect("piped")));
-        let mut browser =
-            Browser { child, to, from, profile, page: String::new(), calls: 0, complaints: Vec::new() };
+        let mut browser = Browser { child, to, from, profile, page: String::new(), calls: 0, complaints: Vec::new() };
         let target = browser.call("Target.createTarget", vec![("url", "about:blank".into())]);
         let target = target.at("targetId").text().to_string();
         let attach = vec![("targetId", target.into()), ("flatten", truth())];
@@ -89,7 +88,9 @@ impl Browser {
     fn event(&mut self, value: &Value) {
         let told = match value.at("method").text() {
             "Runtime.exceptionThrown" => format!("{:?}", value.at("params.exceptionDetails")),
-            "Runtime.consoleAPICalled" if value.at("params.type").text() != "log" => format!("{:?}", value.at("params.args")),
+            "Runtime.consoleAPICalled" if value.at("params.type").text() != "log" => {
+                format!("{:?}", value.at("params.args"))
+            }
             "Log.entryAdded" => format!("{:?}", value.at("params.entry")),
             _ => return,
         };
@@ -115,8 +116,7 @@ impl Browser {
     }
 
     fn try_eval(&mut self, expression: &str) -> Result<Value, Value> {
-        let parameters =
-            vec![("expression", expression.into()), ("returnByValue", truth()), ("awaitPromise", truth())];
+        let parameters = vec![("expression", expression.into()), ("returnByValue", truth()), ("awaitPromise", truth())];
         let result = self.call("Runtime.evaluate", parameters);
         match result.at("exceptionDetails") {
             Value::Null => Ok(result.at("result.value").clone()),

@@ -57,10 +57,10 @@ fn every_story_is_shown_without_a_complaint() {
             let rows: Vec<String> = opened.browser.text(ROWS).lines().map(str::to_string).collect();
             assert_eq!(rows, expected::tables(state), "{name}, frame {frame}");
         }
-        let words = opened.browser.text("page.views[0].session.askedWords(1) + ': ' + page.views[0].session.answerWords(1)");
-        let stored = std::fs::read_to_string(
-            crate::repository().join("view/tests/words").join(name).with_extension("words"),
-        );
+        let words =
+            opened.browser.text("page.views[0].session.askedWords(1) + ': ' + page.views[0].session.answerWords(1)");
+        let stored =
+            std::fs::read_to_string(crate::repository().join("view/tests/words").join(name).with_extension("words"));
         assert!(stored.unwrap().contains(&format!("\n1  {words}\n")), "{words}");
     }
     assert_eq!(opened.browser.complaints, Vec::<String>::new());
@@ -75,9 +75,15 @@ fn the_lanes_have_the_colours_of_the_states() {
         opened.browser.open(&page, "");
         for theme in ["light", "dark"] {
             for (frame, state) in expected::states(&input).iter().enumerate() {
-                opened.browser.eval(&format!("page.main.axis.show({frame} - 4, {frame} + 8); page.choose({frame}, {{ still: true }})"));
+                opened.browser.eval(&format!(
+                    "page.main.axis.show({frame} - 4, {frame} + 8); page.choose({frame}, {{ still: true }})"
+                ));
                 opened.browser.settle();
-                assert_eq!(lanes_at(&mut opened.browser, frame), expected::lanes(state), "{name}, {theme}, frame {frame}");
+                assert_eq!(
+                    lanes_at(&mut opened.browser, frame),
+                    expected::lanes(state),
+                    "{name}, {theme}, frame {frame}"
+                );
             }
             opened.browser.key("d");
         }
@@ -118,7 +124,8 @@ fn what_a_frame_changed_is_marked_and_the_trail_told() {
     let due = "t1 event wait; t1 gate's own semaphore; t1 gate's own semaphore; t2 running; t2 ; t2 none; \
                t2 message 1 from gate with gate's own semaphore; s4 WAITING with gate";
     assert_eq!(opened.browser.text(changed), due);
-    let trail = opened.browser.text("[...document.querySelectorAll('.trail li')].map(line => line.textContent).join(' ')");
+    let trail =
+        opened.browser.text("[...document.querySelectorAll('.trail li')].map(line => line.textContent).join(' ')");
     assert_eq!(trail, "The message wakes lap. The receive from gate of lap is issued again: it completes.");
     let head = opened.browser.text("document.querySelector('.tables .asked').textContent");
     assert_eq!(head, "9  gate sends message 1 to lap with gate's own semaphore and waits");

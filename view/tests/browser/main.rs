@@ -35,7 +35,8 @@ pub struct Opened {
 /// A browser of 1280 by 800 pixels, which must be there.
 pub fn browser(name: &str) -> Opened {
     let alone = ONE.lock().unwrap_or_else(PoisonError::into_inner);
-    let program = chromium::program().expect("chromium is missing: 'apt-get install chromium', or leave out '--test browser'");
+    let program =
+        chromium::program().expect("chromium is missing: 'apt-get install chromium', or leave out '--test browser'");
     let mut browser = Browser::start(&program, name);
     browser.size(1280, 800);
     Opened { browser, _alone: alone }

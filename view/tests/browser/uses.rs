@@ -27,7 +27,9 @@ fn keys_alone_are_enough() {
     let mut opened = browser("keys");
     let browser = &mut opened.browser;
     browser.open(&page, "");
-    for (key, due) in [("ArrowRight", 1), ("ArrowRight", 2), ("ArrowLeft", 1), ("End", 3_000), ("ArrowRight", 3_000), ("Home", 0)] {
+    for (key, due) in
+        [("ArrowRight", 1), ("ArrowRight", 2), ("ArrowLeft", 1), ("End", 3_000), ("ArrowRight", 3_000), ("Home", 0)]
+    {
         browser.key(key);
         assert_eq!(chosen(browser), due, "{key}");
     }
@@ -91,7 +93,9 @@ fn search_finds() {
     let holding = |part: &str| -> Vec<usize> {
         words.lines().enumerate().filter(|(_, line)| line.contains(part)).map(|(frame, _)| frame).collect()
     };
-    for (typed, due) in [("brake", holding("brake")), ("queue orders", holding("queue orders")), ("21", holding("refused 21,"))] {
+    for (typed, due) in
+        [("brake", holding("brake")), ("queue orders", holding("queue orders")), ("21", holding("refused 21,"))]
+    {
         assert!(due.len() > 2, "{typed}");
         browser.eval("page.choose(0); document.getElementById('search').value = ''");
         browser.key("/");
@@ -169,7 +173,8 @@ fn two_sessions_side_by_side() {
     let mut opened = browser("two");
     let browser = &mut opened.browser;
     browser.open(&page, "#f=14");
-    let told = browser.text("[...document.querySelectorAll('#differences p')].map(line => line.textContent).join('; ')");
+    let told =
+        browser.text("[...document.querySelectorAll('#differences p')].map(line => line.textContent).join('; ')");
     assert_eq!(
         told,
         "First frame that differs: #14 interrupt exit, signals semaphore 2 | interrupt exit, signals semaphore 3; \
@@ -211,8 +216,12 @@ fn the_whole_session_is_counted_right() {
         assert_eq!(row(browser, "Share of frames", &name), due);
     }
     for number in [21, 22] {
-        let refused: Vec<usize> =
-            answers.lines().enumerate().filter(|(_, answer)| byte(answer, 0) == number).map(|(frame, _)| frame).collect();
+        let refused: Vec<usize> = answers
+            .lines()
+            .enumerate()
+            .filter(|(_, answer)| byte(answer, 0) == number)
+            .map(|(frame, _)| frame)
+            .collect();
         let (first, last) = (refused[0], refused[refused.len() - 1]);
         let told = row(browser, "Refusals by number", &number.to_string());
         assert!(told.ends_with(&format!("|{}|#{first}|#{last}", view::words::grouped(refused.len()))), "{told}");
@@ -249,7 +258,26 @@ fn fifty_thousand_frames_are_smooth() {
     browser.open(&page, "#f=25000");
     let loaded = browser.number("page.loaded");
     let mut times = Vec::new();
-    for key in ["0", "+", "+", "+", "PageDown", "PageUp", "+", "+", "+", "+", "+", "PageDown", "ArrowRight", "r", "i", "a", "0", "a"] {
+    for key in [
+        "0",
+        "+",
+        "+",
+        "+",
+        "PageDown",
+        "PageUp",
+        "+",
+        "+",
+        "+",
+        "+",
+        "+",
+        "PageDown",
+        "ArrowRight",
+        "r",
+        "i",
+        "a",
+        "0",
+        "a",
+    ] {
         browser.key(key);
         times.push(browser.number("page.drawn.last"));
     }
