@@ -164,11 +164,11 @@ class Tables {
 
   table(name, now, before, other, state) {
     const [title, columns] = TITLES[name];
-    const rows = new Map(now);
-    if (GONE[name]) for (const key of before.keys()) if (!now.has(key)) rows.set(key, { gone: true, cells: GONE[name] });
-    const none = rows.size ? "" : ": none";
-    this.box.append(element("h2", "", title + none));
-    if (!rows.size) return;
+    const rows = [...now];
+    if (GONE[name]) for (const key of before.keys()) if (!now.has(key)) rows.push([key, { gone: true, cells: GONE[name] }]);
+    if (name !== "timers") rows.sort(([one], [other]) => Number(one.slice(1)) - Number(other.slice(1)));
+    this.box.append(element("h2", "", title + (rows.length ? "" : ": none")));
+    if (!rows.length) return;
     const table = element("table", name);
     const head = table.createTHead().insertRow();
     for (const column of columns) head.append(element("th", "", column));
@@ -222,9 +222,9 @@ function subjectWords(speech, key) {
   if (key[0] === "t") return name ? `${number} ${name}` : speech.task(number);
   if (key[0] === "q") return speech.queue(number);
   if (key[0] === "m") return speech.message(number);
-  const owner = number - speech.named;
-  const own = !name && owner > 0 && number <= speech.nameable ? `, ${speech.task(owner)}'s own` : "";
-  return name ? `${number} ${name}` : number > speech.nameable ? `${number} ${speech.semaphore(number)}` : `semaphore ${number}${own}`;
+  if (name) return `semaphore ${number} ${name}`;
+  if (number > speech.nameable) return `semaphore ${number}, ${speech.semaphore(number)}`;
+  return number > speech.named ? `semaphore ${number}, ${speech.task(number - speech.named)}'s own` : `semaphore ${number}`;
 }
 
 function bar(part) {

@@ -68,8 +68,7 @@ fn the_words_of_every_story_are_as_stored() {
 
 #[test]
 fn names_stand_in_the_words() {
-    let names = file("names.txt", "# the station\nt1 gate\nt2 lap\n\ns1 gate-shut\ns2 train-in\nm1 go\n");
-    let output = view(&["words", "examples/station.session", "--names", &names], b"");
+    let output = view(&["words", "examples/station.session", "--names", "examples/station.names"], b"");
     let due =
         fs::read_to_string(Path::new(env!("CARGO_MANIFEST_DIR")).join("tests/words/station-named.words")).unwrap();
     assert_eq!(text(&output.stdout), due);

@@ -177,17 +177,34 @@ impl Browser {
         self.settle();
     }
 
-    /// A picture of what is seen, in base64.
-    pub fn picture(&mut self) -> String {
+    /// A picture of what is seen, as PNG.
+    pub fn picture(&mut self) -> Vec<u8> {
         self.settle();
-        self.call("Page.captureScreenshot", vec![("format", "png".into())]).at("data").text().to_string()
+        bytes(self.call("Page.captureScreenshot", vec![("format", "png".into())]).at("data").text())
     }
 
-    /// The page as it is printed, in base64.
-    pub fn printed(&mut self) -> String {
+    /// The page as it is printed, as PDF.
+    pub fn printed(&mut self) -> Vec<u8> {
         let parameters = vec![("printBackground", truth()), ("preferCSSPageSize", truth())];
-        self.call("Page.printToPDF", parameters).at("data").text().to_string()
+        bytes(self.call("Page.printToPDF", parameters).at("data").text())
     }
+}
+
+/// Base64 read.
+fn bytes(text: &str) -> Vec<u8> {
+    let six = |letter: u8| match letter {
+        b'A'..=b'Z' => letter - b'A',
+        b'a'..=b'z' => letter - b'a' + 26,
+        b'0'..=b'9' => letter - b'0' + 52,
+        b'+' => 62,
+        _ => 63,
+    };
+    let letters: Vec<u8> = text.bytes().filter(|letter| *letter != b'=').collect();
+    let four = |part: &[u8]| {
+        let number = part.iter().fold(0, |sum, letter| sum << 6 | u32::from(six(*letter))) << (6 * (4 - part.len()));
+        number.to_be_bytes()[1..part.len()].to_vec()
+    };
+    letters.chunks(4).flat_map(four).collect()
 }
 
 fn truth() -> Json {

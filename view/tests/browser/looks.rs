@@ -154,6 +154,6 @@ fn no_text_is_below_twelve_pixels_and_nothing_is_wider_than_the_page() {
         assert!(opened.browser.number(canvas) >= 12.0);
     }
     let printed = opened.browser.printed();
-    assert!(printed.len() > 10_000, "a printed page");
+    assert!(printed.starts_with(b"%PDF") && printed.len() > 10_000, "a printed page");
     assert_eq!(opened.browser.complaints, Vec::<String>::new());
 }

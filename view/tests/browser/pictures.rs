@@ -10,7 +10,8 @@ fn pictures() {
     let folder = repository().join("target/pictures");
     std::fs::create_dir_all(&folder).unwrap();
     let mut browser = Browser::start(&chromium::program().expect("chromium"), "pictures");
-    let names = view::names::Names::read("t1 gate\nt2 lap\ns1 gate-shut\ns2 train-in\ns3 overdue\nm1 go").unwrap();
+    let names = std::fs::read_to_string(repository().join("examples/station.names")).unwrap();
+    let names = view::names::Names::read(&names).unwrap();
     let station = std::fs::read(repository().join("examples/station.session")).unwrap();
     let other: Vec<u8> = String::from_utf8(station.clone()).unwrap().replace("1100020000", "1100030000").into_bytes();
     let long = lively::session(1, 50_000);
@@ -25,8 +26,7 @@ fn pictures() {
         std::fs::write(folder.join(format!("{name}.html")), html).unwrap();
     }
     let save = |browser: &mut Browser, name: &str| {
-        let data = browser.picture();
-        std::fs::write(folder.join(format!("{name}.b64")), data).unwrap();
+        std::fs::write(folder.join(format!("{name}.png")), browser.picture()).unwrap();
     };
     for (width, height) in [(1280, 800), (1920, 1080)] {
         browser.size(width, height);
@@ -43,6 +43,9 @@ fn pictures() {
             browser.key("d");
         }
     }
+    browser.size(1120, 700);
+    browser.open(&folder.join("station.html"), "#f=9");
+    save(&mut browser, "readme");
     browser.size(1280, 800);
     browser.open(&folder.join("long.html"), "#f=12000");
     (0..6).for_each(|_| browser.key("+"));
@@ -52,7 +55,6 @@ fn pictures() {
     save(&mut browser, "long-print");
     browser.call("Emulation.setEmulatedMedia", vec![("media", "".into())]);
     browser.open(&folder.join("station.html"), "#f=9");
-    let printed = browser.printed();
-    std::fs::write(folder.join("station.pdf.b64"), printed).unwrap();
+    std::fs::write(folder.join("station.pdf"), browser.printed()).unwrap();
     assert_eq!(browser.complaints, Vec::<String>::new());
 }
