@@ -1,5 +1,7 @@
 //! What the page shows: no complaints, the lanes' colours, the tables, sizes of text.
 
+use plain_executive::generator::Generator;
+
 use crate::chromium::Browser;
 use crate::{browser, expected, lively, page_of, story};
 
@@ -112,6 +114,36 @@ fn the_tables_are_the_other_implementations_items() {
         assert_eq!(told, opened.browser.number(&format!("page.views[0].session.reissues({frame})")), "frame {frame}");
     }
     assert_eq!(opened.browser.complaints, Vec::<String>::new());
+}
+
+/// Configurations of all sizes, lines that are refused, and a session of its configuration alone.
+#[test]
+fn sessions_of_every_size_are_shown() {
+    let mut opened = browser("sizes-of-sessions");
+    let scripts = (0..8).map(|seed| {
+        let tasks = [1, 2, 40, 126][seed as usize % 4];
+        Generator::new(70 + seed).script(tasks..=tasks, 300).lines()
+    });
+    let damaged =
+        [&story("queue")[..], b"\n0701\n07010000zz\t\x00\xFF</script>\n", &b"A".repeat(5_000), b"\n0701000000\r\n"]
+            .concat();
+    let alone = b"020101010101007D00000101".to_vec();
+    for (place, input) in scripts.chain([damaged, alone]).enumerate() {
+        let states = expected::states(&input);
+        let page = page_of(&format!("size-{place}"), &[("a.session", &input)], "");
+        opened.browser.open(&page, "");
+        let last = states.len() - 1;
+        for frame in (0..last).step_by(29).chain([last]) {
+            opened.browser.eval(&format!("page.choose({frame})"));
+            opened.browser.settle();
+            let rows: Vec<String> = opened.browser.text(ROWS).lines().map(str::to_string).collect();
+            assert_eq!(rows, expected::tables(&states[frame]), "session {place}, frame {frame}");
+        }
+        for key in ["+", "a", "-", "a", "0", "p"] {
+            opened.browser.key(key);
+        }
+        assert_eq!(opened.browser.complaints, Vec::<String>::new(), "session {place}");
+    }
 }
 
 #[test]
