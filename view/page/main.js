@@ -11,6 +11,7 @@ class View {
     this.plots = new Plots(part, this);
     this.tables = new Tables(part, this);
     this.summary = new Summary(part, this);
+    part.classList.toggle("few", session.configuration.tasks < 6 && !part.closest(".two"));
     for (const tab of part.querySelectorAll("[role=tab]")) tab.addEventListener("click", () => app.tab(tab.dataset.tab));
     part.addEventListener("click", (event) => {
       const follow = event.target.closest("[data-follow]");

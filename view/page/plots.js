@@ -41,7 +41,7 @@ class Plots {
     const pen = drawOn(this.canvas, axis.width, plots.length * (PLOT_HEIGHT + PLOT_GAP) + 12);
     plots.forEach(([name, steps, most], place) => {
       const top = 8 + place * (PLOT_HEIGHT + PLOT_GAP);
-      this.plot(pen, paint, axis, name, steps, most || Math.max(1, largest(steps)), top);
+      this.plot(pen, paint, axis, name, steps, most || Math.max(1, largest(steps)), top, most > 0);
     });
     const x = axis.x(this.view.frame);
     if (x < LEFT || x > axis.width) return;
@@ -49,12 +49,12 @@ class Plots {
     pen.fillRect(x, 0, 2, plots.length * (PLOT_HEIGHT + PLOT_GAP) + 8);
   }
 
-  plot(pen, paint, axis, name, steps, most, top) {
+  plot(pen, paint, axis, name, steps, most, top, known) {
     const bottom = top + PLOT_HEIGHT;
     pen.fillStyle = paint.text;
     pen.fillText(fitted(pen, name, LEFT - 40), 8, top + 8);
     pen.fillStyle = paint.quiet;
-    pen.fillText(`${steps.at(this.view.frame)} of ${most}`, 8, top + 24);
+    pen.fillText(`${steps.at(this.view.frame)} ${known ? "of" : "now, most"} ${most}`, 8, top + 24);
     pen.strokeStyle = paint.grid;
     for (const y of [top + 0.5, bottom + 0.5]) pen.strokeRect(LEFT, y, axis.width - LEFT, 0.01);
     const [first, last] = axis.seen();

@@ -36,7 +36,7 @@ class Search {
     this.input.addEventListener("input", () => this.typed());
     this.input.addEventListener("keydown", (event) => {
       if (event.key === "Enter") this.next(event.shiftKey ? -1 : 1);
-      if (event.key === "Escape") this.input.blur();
+      if (event.key === "Escape") event.preventDefault(), this.input.blur(); // or the browser empties it
     });
     document.getElementById("find").addEventListener("click", () => this.next(1));
     document.getElementById("find-back").addEventListener("click", () => this.next(-1));

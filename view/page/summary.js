@@ -1,6 +1,6 @@
 // The tables of the whole session, and its busiest stretch.
 
-const STRETCH = 100; // frames, until another number is asked for
+const STRETCH = 100; // frames at most, until another number is asked for
 
 class Summary {
   constructor(part, view) {
@@ -37,14 +37,14 @@ class Summary {
     this.box.append(element("h2", "", "Busiest stretch"));
     const line = element("p");
     const input = element("input");
-    Object.assign(input, { type: "number", min: 1, max: session.count, value: Math.min(STRETCH, session.count) });
+    Object.assign(input, { type: "number", min: 1, max: session.count, value: clamp(Math.round(session.count / 10), 1, STRETCH) });
     input.setAttribute("aria-label", "Frames of the stretch");
     const told = element("span", "busiest");
     const tell = () => {
       const width = clamp(Number(input.value) || 1, 1, session.count);
       const { from, work } = busiestStretch(session, width);
       told.replaceChildren(" frames: from ", frameLink(from), " to ", frameLink(from + width - 1),
-        `, ${counted(work, "accepted service, interrupt or reissue").replace(/reissues$/, "reissues")}`);
+        `, ${work.toLocaleString("en")} services, interrupts and reissues`);
     };
     input.addEventListener("input", tell);
     tell();

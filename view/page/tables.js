@@ -164,11 +164,11 @@ class Tables {
 
   table(name, now, before, other, state) {
     const [title, columns] = TITLES[name];
-    const rows = new Map(now);
-    if (GONE[name]) for (const key of before.keys()) if (!now.has(key)) rows.set(key, { gone: true, cells: GONE[name] });
-    const none = rows.size ? "" : ": none";
-    this.box.append(element("h2", "", title + none));
-    if (!rows.size) return;
+    const rows = [...now];
+    if (GONE[name]) for (const key of before.keys()) if (!now.has(key)) rows.push([key, { gone: true, cells: GONE[name] }]);
+    if (name !== "timers") rows.sort(([one], [other]) => Number(one.slice(1)) - Number(other.slice(1)));
+    this.box.append(element("h2", "", title + (rows.length ? "" : ": none")));
+    if (!rows.length) return;
     const table = element("table", name);
     const head = table.createTHead().insertRow();
     for (const column of columns) head.append(element("th", "", column));
@@ -180,13 +180,13 @@ class Tables {
   row(line, name, key, row, before, other, state) {
     line.dataset.key = key;
     if (row.runs) line.className = "runs";
+    if (row.gone) line.className = "gone";
     const first = line.insertCell();
     first.append(...this.subjects(key));
     row.cells.forEach((text, place) => {
       const cell = line.insertCell();
       cell.textContent = text;
       if (name === "queues" && place === 1) cell.className = "entries";
-      if (name === "tasks" && place === 0) cell.className = "state";
       if (name === "tasks" && place === 4) cell.className = "digits";
       if (!before || before.cells[place] !== text) cell.classList.add("changed"), cell.title = before ? `before: ${before.cells[place]}` : "new";
       const theirs = other && other.get(key);
@@ -222,9 +222,9 @@ function subjectWords(speech, key) {
   if (key[0] === "t") return name ? `${number} ${name}` : speech.task(number);
   if (key[0] === "q") return speech.queue(number);
   if (key[0] === "m") return speech.message(number);
-  const owner = number - speech.named;
-  const own = !name && owner > 0 && number <= speech.nameable ? `, ${speech.task(owner)}'s own` : "";
-  return name ? `${number} ${name}` : number > speech.nameable ? `${number} ${speech.semaphore(number)}` : `semaphore ${number}${own}`;
+  if (name) return `semaphore ${number} ${name}`;
+  if (number > speech.nameable) return `semaphore ${number}, ${speech.semaphore(number)}`;
+  return number > speech.named ? `semaphore ${number}, ${speech.task(number - speech.named)}'s own` : `semaphore ${number}`;
 }
 
 function bar(part) {

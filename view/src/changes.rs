@@ -208,7 +208,9 @@ fn outcome(outcome: &OutcomeItem, bytes: &mut Vec<u8>) {
     match outcome {
         OutcomeItem::Plain => bytes.extend([0, 0]),
         OutcomeItem::Begin => bytes.extend([1, 0]),
-        OutcomeItem::Message(Letter { message, sender, semaphore }) => bytes.extend([2, 3, *message, *sender, *semaphore]),
+        OutcomeItem::Message(Letter { message, sender, semaphore }) => {
+            bytes.extend([2, 3, *message, *sender, *semaphore])
+        }
         OutcomeItem::Entry(entry) => {
             bytes.extend([3, entry.len() as u8]);
             bytes.extend(entry);

@@ -45,10 +45,10 @@ impl std::fmt::Display for Json {
             Json::Number(number) => write!(out, "{number}"),
             Json::Word(word) => write!(out, "{word}"),
             Json::Text(text) => write_text(text, out),
-            Json::List(list) => {
-                write_all(out, '[', ']', list, |item, out| write!(out, "{item}"))
+            Json::List(list) => write_all(out, '[', ']', list, |item, out| write!(out, "{item}")),
+            Json::Object(fields) => {
+                write_all(out, '{', '}', fields, |(name, value), out| write!(out, "\"{name}\":{value}"))
             }
-            Json::Object(fields) => write_all(out, '{', '}', fields, |(name, value), out| write!(out, "\"{name}\":{value}")),
         }
     }
 }

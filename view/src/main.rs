@@ -28,7 +28,7 @@ fn main() {
     match arguments.task {
         Task::Help => print!("{USAGE}"),
         Task::Words { file } => print_words(&file, &names),
-        Task::Page { files, page } => write_page(&files, &names, arguments.names.as_deref(), &page),
+        Task::Page { files, page } => write_page(&files, &names, &page),
     }
 }
 
@@ -52,6 +52,7 @@ fn read_names(file: &str) -> Names {
     Names::read(&text).unwrap_or_else(|what| stop(WRONG, &format!("{file}: {what}")))
 }
 
+/// Ends the program where a session does not begin.
 fn begin(file: &str, input: &[u8]) -> Replay {
     let Some(first) = lines(input).next() else {
         stop(WRONG, &format!("{file} is empty: a session begins with the line of its configuration"))
@@ -59,7 +60,10 @@ fn begin(file: &str, input: &[u8]) -> Replay {
     Replay::begin(first).unwrap_or_else(|why| match why {
         Stop::Refused(number) => {
             let rule = configuration_rule(first, number);
-            stop(REFUSED, &format!("{file}: line 1, the configuration, is refused with {number}, so the session ends: {rule}"))
+            stop(
+                REFUSED,
+                &format!("{file}: line 1, the configuration, is refused with {number}, so the session ends: {rule}"),
+            )
         }
         Stop::Differs(what) => stop(DIFFERS, &format!("{file}: line 1: {what}. Report this with the file")),
     })
@@ -72,6 +76,10 @@ fn check_names(names: &Names, configuration: &Configuration) {
 /// A reader that goes away is no failure.
 fn print_words(file: &str, names: &Names) {
     let input = read_file(file);
+    let first = lines(&input).next().unwrap_or_default();
+    if let (false, Err(Stop::Refused(number))) = (input.is_empty(), Replay::begin(first)) {
+        println!("0  configuration: refused {number}, {}; the session ends", configuration_rule(first, number));
+    }
     let mut replay = begin(file, &input);
     let configuration = replay.other().configuration().clone();
     check_names(names, &configuration);
@@ -105,14 +113,14 @@ fn differs(file: &str, line: usize, why: &Stop) -> String {
     format!("{file}: line {line}: the two implementations differ: {why:?}. Report this with the file")
 }
 
-fn write_page(files: &[String], names: &Names, names_file: Option<&str>, page: &str) {
+fn write_page(files: &[String], names: &Names, page: &str) {
     let inputs: Vec<Vec<u8>> = files.iter().map(|file| read_file(file)).collect();
     for (file, input) in files.iter().zip(&inputs) {
         let replay = begin(file, input);
         check_names(names, replay.other().configuration());
     }
     let sessions: Vec<(&str, &[u8])> = files.iter().map(String::as_str).zip(inputs.iter().map(Vec::as_slice)).collect();
-    let made = page::make(&sessions, names, names_file).unwrap_or_else(|(file, line, why)| {
+    let made = page::make(&sessions, names).unwrap_or_else(|(file, line, why)| {
         stop(DIFFERS, &format!("{}. No page is written", differs(&file, line, &why)))
     });
     fs::write(page, &made.html).unwrap_or_else(|error| stop(WRONG, &format!("{page} cannot be written: {error}")));

@@ -1,12 +1,14 @@
 //! The page: one file with its styles, its program and the sessions, packed.
 
+use c::lent::Lent;
+
 use crate::base64;
 use crate::deflate;
 use crate::differences;
 use crate::json::Json;
 use crate::names::Names;
 use crate::recording::Recording;
-use crate::replay::Stop;
+use crate::replay::{Call, Stop};
 
 const FRAME: &str = include_str!("../page/page.html");
 const STYLE: &str = include_str!("../page/style.css");
@@ -29,12 +31,19 @@ pub struct Made {
     pub html: String,
 }
 
-/// A page of one session or of two, each with its file's name. The error tells the file, the line and why.
-pub fn make(sessions: &[(&str, &[u8])], names: &Names, names_file: Option<&str>) -> Result<Made, (String, usize, Stop)> {
+/// A file, the line in it, and why it does not go on.
+pub type Failure = (String, usize, Stop);
+
+/// A page of one session or of two, each with its file's name and its lines.
+pub fn make(sessions: &[(&str, &[u8])], names: &Names) -> Result<Made, Failure> {
+    make_with(sessions, names, Lent::frame)
+}
+
+pub fn make_with(sessions: &[(&str, &[u8])], names: &Names, call: Call) -> Result<Made, Failure> {
     let mut packed = String::new();
     let mut frames = 0;
     for (file, input) in sessions {
-        let recording = Recording::of(file, input, names).map_err(|(line, why)| (file.to_string(), line, why))?;
+        let recording = Recording::of(file, input, names, call).map_err(|(line, why)| (file.to_string(), line, why))?;
         frames += recording.frames;
         let data = base64::write(&deflate::write(&recording.bytes()));
         packed += &format!("<script type=\"application/octet-stream\" class=\"packed\">{data}</script>\n");
@@ -44,7 +53,7 @@ pub fn make(sessions: &[(&str, &[u8])], names: &Names, names_file: Option<&str>)
         _ => Json::List(Vec::new()),
     };
     let title = sessions.iter().map(|(file, _)| file_name(file)).collect::<Vec<_>>().join(" and ");
-    let about = Json::Object(vec![("differences", differences), ("names", names_file.unwrap_or("").into())]);
+    let about = Json::Object(vec![("differences", differences)]);
     let html = FRAME
         .replace("{{title}}", &escaped(&title))
         .replace("{{style}}", STYLE)

@@ -2,6 +2,7 @@
 
 use std::collections::HashMap;
 
+use c::compare::unequal_items;
 use plain_executive::command::*;
 use plain_executive::configuration::Configuration;
 use plain_executive::line::MOST_BYTES;
@@ -11,7 +12,7 @@ use crate::changes::{long, Changes};
 use crate::json::Json;
 use crate::names::Names;
 use crate::progress::Progress;
-use crate::replay::{Replay, Step, Stop};
+use crate::replay::{Call, Replay, Step, Stop};
 use crate::summary::Summary;
 use crate::words::{hex, Words};
 
@@ -48,10 +49,10 @@ pub type Failure = (usize, Stop);
 
 impl Recording {
     /// Of a session whose configuration is accepted.
-    pub fn of(file: &str, input: &[u8], names: &Names) -> Result<Self, Failure> {
+    pub fn of(file: &str, input: &[u8], names: &Names, call: Call) -> Result<Self, Failure> {
         let mut rest = lines(input);
         let first = rest.next().unwrap_or_default();
-        let mut replay = Replay::begin(first).map_err(|why| (1, why))?;
+        let mut replay = Replay::begin_with(first, call).map_err(|why| (1, why))?;
         let configuration = replay.other().configuration().clone();
         let words = Words { configuration: &configuration, names };
         let mut writer = Writer::new(&words, &replay.first(first));
@@ -109,8 +110,8 @@ impl<'a> Writer<'a> {
         long(asked as u64, &mut self.changes.bytes);
         long(answered as u64, &mut self.changes.bytes);
         let items = (step.refusal() == 0).then(|| step.memory.items(self.words.configuration));
-        if items.as_ref().is_some_and(|items| *items != step.other.items()) {
-            return Err(Stop::Differs("an item is not the other's".to_string()));
+        if let Some(what) = items.as_ref().and_then(|items| unequal_items(items, &step.other.items())) {
+            return Err(Stop::Differs(what));
         }
         self.changes.frame(items, step.other.clock().tocks(), step.trail());
         self.summary.step(step, self.changes.before());
@@ -145,8 +146,14 @@ fn configured(configuration: &Configuration) -> Json {
     ])
 }
 
+/// Characters of a line that is refused.
+const MOST_SHOWN: usize = 40;
+
 fn asked_line(words: &Words, step: &Step) -> String {
-    let digits = String::from_utf8_lossy(step.line).replace(['\t', '\r'], " ");
+    let digits = match step.frame {
+        Some(_) => String::from_utf8_lossy(step.line).into_owned(),
+        None => step.line.iter().take(MOST_SHOWN).flat_map(|byte| byte.escape_ascii()).map(char::from).collect(),
+    };
     format!("{digits}\t{}\t{}\t{}", step.caller, named(words.configuration, step).join(" "), words.asked(step))
 }
 
@@ -157,7 +164,8 @@ fn named(configuration: &Configuration, step: &Step) -> Vec<String> {
     };
     let own = step.caller;
     let of_a = if a == 0 { own } else { a };
-    let semaphore = |of: u8| if b == 0 { configuration.semaphore_of_task(of.min(configuration.tasks)) } else { b };
+    let tasks = 1..=configuration.tasks;
+    let semaphore = |of: u8| if b == 0 && tasks.contains(&of) { configuration.semaphore_of_task(of) } else { b };
     let mut named = Vec::new();
     if (WAIT..=PURGE).contains(&code) {
         named.push(format!("t{own}"));

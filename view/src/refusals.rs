@@ -49,8 +49,11 @@ pub fn rule(words: &Words, step: &Step) -> String {
         NULL_TASK_RUNS => "no task runs, and the null task asks for no service".to_string(),
         SEMAPHORE_WAITING => met.waiting(),
         MESSAGE_IN_MAILBOX => met.lies(field(4)),
-        ALL_TIMERS_ACTIVE if words.configuration.timers == 0 => "there are no timers".to_string(),
-        ALL_TIMERS_ACTIVE => format!("all {} are active", counted(words.configuration.timers.into(), "timer")),
+        ALL_TIMERS_ACTIVE => match words.configuration.timers {
+            0 => "there are no timers".to_string(),
+            1 => "the only timer is active".to_string(),
+            timers => format!("all {timers} timers are active"),
+        },
         HAS_A_TIMER => format!("{} has a timer on {} already", words.task(met.of_a()), met.semaphore(met.of_a())),
         IDLE_OR_WAITING => met.idle_or_waiting(),
         number => SHORT[usize::from(number)].to_string(),
@@ -197,7 +200,8 @@ impl Met<'_> {
 
     fn lies(&self, message: u8) -> String {
         let holds = |task: &u8| self.executive.mailboxes().letters(*task).any(|letter| letter.message == message);
-        let task = (1..=self.words.configuration.tasks).find(holds).map_or_else(String::new, |task| self.words.task(task));
+        let task =
+            (1..=self.words.configuration.tasks).find(holds).map_or_else(String::new, |task| self.words.task(task));
         format!("{} still lies in the mailbox of {task}", self.words.message(message.into()))
     }
 

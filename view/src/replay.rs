@@ -15,7 +15,11 @@ pub enum Stop {
     Differs(String),
 }
 
+/// The exported function that a frame is fed to; a test may hand in another.
+pub type Call = fn(&mut Lent, &[u8]) -> Number;
+
 pub struct Replay {
+    call: Call,
     memory: Lent,
     other: Executive,
     answer: Vec<u8>,
@@ -58,6 +62,10 @@ impl Step<'_> {
 
 impl Replay {
     pub fn begin(line: &[u8]) -> Result<Self, Stop> {
+        Replay::begin_with(line, Lent::frame)
+    }
+
+    pub fn begin_with(line: &[u8], call: Call) -> Result<Self, Stop> {
         let mut room = [0; MOST_BYTES];
         let length = c::read_line(line, &mut room).map_err(Stop::Refused)?;
         let frame = &room[..length];
@@ -70,7 +78,7 @@ impl Replay {
         let mut other = other.map_err(Stop::Refused)?;
         other.keep_trail();
         let answer = memory.answered().to_vec();
-        Ok(Replay { memory, other, answer, frames: 0 })
+        Ok(Replay { call, memory, other, answer, frames: 0 })
     }
 
     pub fn other(&self) -> &Executive {
@@ -89,7 +97,7 @@ impl Replay {
         let (caller, tocks) = (self.other.running(), self.other.clock().tocks());
         let frame = c::read_line(line, room).ok().map(|length| &room[..length]);
         match frame {
-            Some(frame) => self.call(frame)?,
+            Some(frame) => self.both(frame)?,
             None => self.refuse_line(),
         }
         Ok(Step {
@@ -104,8 +112,9 @@ impl Replay {
         })
     }
 
-    fn call(&mut self, frame: &[u8]) -> Result<(), Stop> {
-        let number = self.memory.frame(frame);
+    /// Feeds a frame to both, and compares their answers.
+    fn both(&mut self, frame: &[u8]) -> Result<(), Stop> {
+        let number = (self.call)(&mut self.memory, frame);
         let other = self.other.frame(frame);
         self.answer.clear();
         self.answer.extend_from_slice(self.memory.answered());

@@ -1,4 +1,4 @@
-//! Who still waits when a session ends, and who could wake him: those who did such a thing before.
+//! Who still waits when a session ends, and who could wake it: those who did such a thing before.
 
 use std::collections::{BTreeMap, BTreeSet};
 
@@ -69,8 +69,8 @@ impl Wakers {
             Some(vec![words.task(task), caused(words, wait.cause), format!("#{}", wait.from), could])
         };
         let rows = (0..).zip(still).filter_map(row).collect();
-        let note = "Who still waits, and who could wake him, judged by who did so in this session.";
-        table("Stuck at the end", note, &["who", "waits for", "since", "who could wake him"], rows)
+        let note = "Who still waits, and who could wake it, judged by who did so in this session.";
+        table("Stuck at the end", note, &["who", "waits for", "since", "who could wake it"], rows)
     }
 
     fn could(&self, words: &Words, items: &Items, task: u8, cause: Cause, stuck: &BTreeSet<u8>) -> String {

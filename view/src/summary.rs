@@ -191,7 +191,8 @@ impl Summary {
         let Configuration { messages, timers, ref queues, .. } = *words.configuration;
         let mut rows: Vec<Vec<String>> = Vec::new();
         let mut row = |what: String, most: &Most, of: u8| {
-            rows.push(vec![what, most.value.to_string(), of.to_string(), format!("#{}", most.frame)]);
+            let first = if most.value > 0 { format!("#{}", most.frame) } else { String::new() };
+            rows.push(vec![what, most.value.to_string(), of.to_string(), first]);
         };
         for (number, (most, size)) in (1..).zip(self.fill.iter().zip(queues)) {
             row(words.queue(number), most, size.depth);

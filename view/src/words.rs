@@ -83,7 +83,8 @@ impl Words<'_> {
             None => format!("a line of {}", counted(step.line.len(), "character")),
             Some(frame @ [code, a, b, high, low, ..]) if (WAIT..=INTERRUPT_EXIT).contains(code) => {
                 let x = u16::from_be_bytes([*high, *low]);
-                let asked = Asked { words: self, caller: step.caller, code: *code, a: *a, b: *b, x, entry: &frame[5..] };
+                let asked =
+                    Asked { words: self, caller: step.caller, code: *code, a: *a, b: *b, x, entry: &frame[5..] };
                 asked.words(step)
             }
             Some(frame) => format!("frame {}", hex(frame)),
@@ -118,7 +119,9 @@ impl Words<'_> {
                 format!(", has {} from {}", self.message((*message).into()), self.number_of(*sender))
             }
             [answer::ENTRY, entry @ ..] => format!(", has entry {}", hex(entry)),
-            [answer::REFUSED, number] => format!(", its request met {number}: {}", refusals::SHORT[usize::from(*number)]),
+            [answer::REFUSED, number] => {
+                format!(", its request met {number}: {}", refusals::SHORT[usize::from(*number)])
+            }
             [answer::SEMAPHORE, number] => format!(", has {}", self.semaphore(*number)),
             _ => String::new(),
         }
@@ -170,7 +173,9 @@ impl Asked<'_> {
             SUSPEND => format!("{own} suspends {}", self.task_or("itself")),
             TERMINATE => format!("{own} terminates {}", self.task_or("itself")),
             EXECUTE => format!("{own} executes {}", self.task_or("task 0")),
-            DELAY => format!("{own} delays {} by {} on {}", self.task_or("itself"), tocks(*x), self.semaphore(self.of_a())),
+            DELAY => {
+                format!("{own} delays {} by {} on {}", self.task_or("itself"), tocks(*x), self.semaphore(self.of_a()))
+            }
             TIMER => self.timer(&own),
             PURGE => self.purge(&own),
             TICK => format!("tick{}", self.passed(step)),
@@ -179,9 +184,14 @@ impl Asked<'_> {
         }
     }
 
+    /// Semaphore B, 0 is that of a task; the null task has none.
     fn semaphore(&self, of: u8) -> String {
-        let own = self.words.configuration.semaphore_of_task(of.min(self.words.configuration.tasks));
-        self.words.semaphore(if self.b == 0 { own } else { self.b })
+        match (self.b, of) {
+            (0, 0) => "its own semaphore".to_string(),
+            (0, of) if of > self.words.configuration.tasks => format!("the own semaphore of task {of}"),
+            (0, of) => self.words.semaphore(self.words.configuration.semaphore_of_task(of)),
+            (named, _) => self.words.semaphore(named),
+        }
     }
 
     /// Task A, 0 is the caller.

@@ -47,8 +47,7 @@ impl Browser {
             .spawn()
             .expect("a shell");
         let (to, from) = (child.stdin.take().expect("piped"), BufReader::new(child.stdout.take().expect("piped")));
-        let mut browser =
-            Browser { child, to, from, profile, page: String::new(), calls: 0, complaints: Vec::new() };
+        let mut browser = Browser { child, to, from, profile, page: String::new(), calls: 0, complaints: Vec::new() };
         let target = browser.call("Target.createTarget", vec![("url", "about:blank".into())]);
         let target = target.at("targetId").text().to_string();
         let attach = vec![("targetId", target.into()), ("flatten", truth())];
@@ -89,7 +88,9 @@ impl Browser {
     fn event(&mut self, value: &Value) {
         let told = match value.at("method").text() {
             "Runtime.exceptionThrown" => format!("{:?}", value.at("params.exceptionDetails")),
-            "Runtime.consoleAPICalled" if value.at("params.type").text() != "log" => format!("{:?}", value.at("params.args")),
+            "Runtime.consoleAPICalled" if value.at("params.type").text() != "log" => {
+                format!("{:?}", value.at("params.args"))
+            }
             "Log.entryAdded" => format!("{:?}", value.at("params.entry")),
             _ => return,
         };
@@ -115,8 +116,7 @@ impl Browser {
     }
 
     fn try_eval(&mut self, expression: &str) -> Result<Value, Value> {
-        let parameters =
-            vec![("expression", expression.into()), ("returnByValue", truth()), ("awaitPromise", truth())];
+        let parameters = vec![("expression", expression.into()), ("returnByValue", truth()), ("awaitPromise", truth())];
         let result = self.call("Runtime.evaluate", parameters);
         match result.at("exceptionDetails") {
             Value::Null => Ok(result.at("result.value").clone()),
@@ -177,17 +177,34 @@ impl Browser {
         self.settle();
     }
 
-    /// A picture of what is seen, in base64.
-    pub fn picture(&mut self) -> String {
+    /// A picture of what is seen, as PNG.
+    pub fn picture(&mut self) -> Vec<u8> {
         self.settle();
-        self.call("Page.captureScreenshot", vec![("format", "png".into())]).at("data").text().to_string()
+        bytes(self.call("Page.captureScreenshot", vec![("format", "png".into())]).at("data").text())
     }
 
-    /// The page as it is printed, in base64.
-    pub fn printed(&mut self) -> String {
+    /// The page as it is printed, as PDF.
+    pub fn printed(&mut self) -> Vec<u8> {
         let parameters = vec![("printBackground", truth()), ("preferCSSPageSize", truth())];
-        self.call("Page.printToPDF", parameters).at("data").text().to_string()
+        bytes(self.call("Page.printToPDF", parameters).at("data").text())
     }
+}
+
+/// Base64 read.
+fn bytes(text: &str) -> Vec<u8> {
+    let six = |letter: u8| match letter {
+        b'A'..=b'Z' => letter - b'A',
+        b'a'..=b'z' => letter - b'a' + 26,
+        b'0'..=b'9' => letter - b'0' + 52,
+        b'+' => 62,
+        _ => 63,
+    };
+    let letters: Vec<u8> = text.bytes().filter(|letter| *letter != b'=').collect();
+    let four = |part: &[u8]| {
+        let number = part.iter().fold(0, |sum, letter| sum << 6 | u32::from(six(*letter))) << (6 * (4 - part.len()));
+        number.to_be_bytes()[1..part.len()].to_vec()
+    };
+    letters.chunks(4).flat_map(four).collect()
 }
 
 fn truth() -> Json {

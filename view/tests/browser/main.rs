@@ -1,67 +1,51 @@
-//! The page in a real browser. Where it is missing, that is said, and nothing counts as run.
+//! The page in a real browser, Debian's chromium without a window.
 
 mod chromium;
+mod expected;
 mod lively;
+mod looks;
+mod pictures;
+mod uses;
 mod value;
 
+use std::fs;
 use std::path::{Path, PathBuf};
+use std::sync::{Mutex, MutexGuard, PoisonError};
 
 use chromium::Browser;
+use view::names::Names;
+use view::page;
 
-fn repository() -> PathBuf {
+pub fn repository() -> PathBuf {
     Path::new(env!("CARGO_MANIFEST_DIR")).join("..")
 }
 
-/// Writes pictures to look at: `cargo test --offline -p view --test browser -- --ignored pictures`.
-#[test]
-#[ignore = "for people: it writes pictures to target/pictures"]
-fn pictures() {
-    let folder = repository().join("target/pictures");
-    std::fs::create_dir_all(&folder).unwrap();
-    let mut browser = Browser::start(&chromium::program().expect("chromium"), "pictures");
-    let names = view::names::Names::read("t1 gate\nt2 lap\ns1 gate-shut\ns2 train-in\ns3 overdue\nm1 go").unwrap();
-    let station = std::fs::read(repository().join("examples/station.session")).unwrap();
-    let other: Vec<u8> = String::from_utf8(station.clone()).unwrap().replace("1100020000", "1100030000").into_bytes();
-    let long = lively::session(1, 50_000);
-    let make = |sessions: &[(&str, &[u8])], names| view::page::make(sessions, names, None).expect("a page").html;
-    let none = view::names::Names::default();
-    let pages = [
-        ("station", make(&[("station.session", &station)], &names)),
-        ("long", make(&[("long.session", &long)], &none)),
-        ("two", make(&[("station.session", &station), ("other.session", &other)], &names)),
-    ];
-    for (name, html) in &pages {
-        std::fs::write(folder.join(format!("{name}.html")), html).unwrap();
-    }
-    let save = |browser: &mut Browser, name: &str| {
-        let data = browser.picture();
-        std::fs::write(folder.join(format!("{name}.b64")), data).unwrap();
-    };
-    for (width, height) in [(1280, 800), (1920, 1080)] {
-        browser.size(width, height);
-        for (name, hash) in [("station", "#f=9"), ("long", "#f=25000"), ("two", "#f=14")] {
-            browser.open(&folder.join(format!("{name}.html")), hash);
-            if name == "long" {
-                save(&mut browser, &format!("{name}-{width}-whole"));
-                (0..10).for_each(|_| browser.key("+"));
-                browser.key("p");
-            }
-            save(&mut browser, &format!("{name}-{width}"));
-            browser.key("d");
-            save(&mut browser, &format!("{name}-{width}-dark"));
-            browser.key("d");
-        }
-    }
+pub fn story(name: &str) -> Vec<u8> {
+    fs::read(repository().join("examples").join(name).with_extension("session")).expect("a story")
+}
+
+/// One browser at a time: what is measured in it is not to be disturbed.
+static ONE: Mutex<()> = Mutex::new(());
+
+pub struct Opened {
+    pub browser: Browser,
+    _alone: MutexGuard<'static, ()>,
+}
+
+/// A browser of 1280 by 800 pixels, which must be there.
+pub fn browser(name: &str) -> Opened {
+    let alone = ONE.lock().unwrap_or_else(PoisonError::into_inner);
+    let program =
+        chromium::program().expect("chromium is missing: 'apt-get install chromium', or leave out '--test browser'");
+    let mut browser = Browser::start(&program, name);
     browser.size(1280, 800);
-    browser.open(&folder.join("long.html"), "#f=12000");
-    (0..6).for_each(|_| browser.key("+"));
-    save(&mut browser, "long-1280-near");
-    browser.call("Emulation.setEmulatedMedia", vec![("media", "print".into())]);
-    browser.size(1280, 2400);
-    save(&mut browser, "long-print");
-    browser.call("Emulation.setEmulatedMedia", vec![("media", "".into())]);
-    browser.open(&folder.join("station.html"), "#f=9");
-    let printed = browser.printed();
-    std::fs::write(folder.join("station.pdf.b64"), printed).unwrap();
-    assert_eq!(browser.complaints, Vec::<String>::new());
+    Opened { browser, _alone: alone }
+}
+
+/// Writes the page of some sessions.
+pub fn page_of(name: &str, sessions: &[(&str, &[u8])], names: &str) -> PathBuf {
+    let names = Names::read(names).expect("names");
+    let path = Path::new(env!("CARGO_TARGET_TMPDIR")).join(format!("{name}.html"));
+    fs::write(&path, page::make(sessions, &names).expect("a page").html).expect("written");
+    path
 }
