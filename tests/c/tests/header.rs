@@ -17,7 +17,7 @@ use plain_executive::{line, session};
 use std::collections::BTreeSet;
 use std::fmt::Write;
 use std::process::Command;
-use tools::{built, frames_of, languages, printed, repository, scratch, stories, text, two_languages};
+use tools::{built, frames_of, installed, languages, printed, repository, run, scratch, stories, text, two_languages};
 
 // ---- the calls by names, and the trace hook
 
@@ -120,6 +120,24 @@ fn the_texts_are_the_enumerators_names() {
         let names = ["code", "outcome_kind", "number"].map(|of| name(of, byte));
         assert_eq!(told, names.join("|"), "{byte}");
     }
+}
+
+/// Doxygen, where it is installed, finds everything documented.
+#[test]
+fn doxygen_reads_the_comments() {
+    if !installed("doxygen") {
+        return println!("doxygen is missing, not run");
+    }
+    let told = format!(
+        "INPUT={}\nOUTPUT_DIRECTORY={}\nQUIET=YES\nGENERATE_LATEX=NO\nHAVE_DOT=NO\nEXTRACT_STATIC=YES\n\
+         OPTIMIZE_OUTPUT_FOR_C=YES\nJAVADOC_AUTOBRIEF=YES\nPREDEFINED=MCX11_TRACE=trace\nMACRO_EXPANSION=YES\n",
+        repository().join("host/mcx11.h").display(),
+        scratch("doxygen").display()
+    );
+    let output = run(Command::new("doxygen").arg("-"), told.as_bytes());
+    let warnings = String::from_utf8_lossy(&output.stderr);
+    let of_header: Vec<&str> = warnings.lines().filter(|line| line.contains("mcx11.h")).collect();
+    assert!(output.status.success() && of_header.is_empty(), "{of_header:#?}");
 }
 
 // ---- the readers of the state

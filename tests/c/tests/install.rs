@@ -25,7 +25,7 @@ fn version() -> String {
     let header = text("host/mcx11.h");
     let part = |name: &str| {
         let (_, rest) = header.split_once(&format!("#define MCX11_VERSION{name} ")).expect("a version");
-        rest.lines().next().expect("a line").trim_matches('"').to_string()
+        rest.split_whitespace().next().expect("a number").trim_matches('"').to_string()
     };
     assert_eq!(part(""), [part("_MAJOR"), part("_MINOR"), part("_PATCH")].join("."));
     part("")
