@@ -45,6 +45,13 @@ fn what_is_installed() {
     same("lib/libmcx11.a", "target/staticlib/libmcx11.a");
     for paper in ["HOST", "FRAMES", "MEMORY", "CHANGES"] {
         same(&format!("share/doc/mcx11/{paper}.md"), &format!("docs/{paper}.md"));
+        for link in text(&format!("docs/{paper}.md")).split("](").skip(1) {
+            let link = link.split(')').next().expect("a link");
+            assert!(
+                prefix.join("share/doc/mcx11").join(link).exists(),
+                "{paper} leads to {link}, which is not installed"
+            );
+        }
     }
     let newest = text("docs/CHANGES.md").split("\n## ").nth(1).and_then(|rest| rest.lines().next().map(str::to_string));
     assert_eq!(newest, Some(version()), "docs/CHANGES.md begins with the header's version");
