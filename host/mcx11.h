@@ -139,7 +139,8 @@ enum mcx11_traced {
 #ifdef MCX11_TRACE
 /**
  * A function of the host's, which MCX11_TRACE names before this header is included. It is called behind every call with the
- * bytes that were fed and the number; m holds the answer, with 11 an older one. Without MCX11_TRACE nothing is called.
+ * bytes that were fed and the number; m holds the answer, with 11 an older one. It makes no call on m itself. Without
+ * MCX11_TRACE nothing is called.
  */
 void MCX11_TRACE(const mcx11_t *m, enum mcx11_traced what, const uint8_t *bytes, size_t length, uint8_t number);
 #endif
