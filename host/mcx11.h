@@ -45,7 +45,7 @@ extern "C" {
 
 /**
  * All that the host lends. Let it begin with all bytes 0 (static, or memset): a frame before the configuration then gives 11.
- * Only the calls write it. It holds no addresses: between calls it may be copied and moved.
+ * Only the calls write it, one at a time. It holds no addresses: between calls it may be copied and moved.
  */
 typedef struct mcx11_t {
     uint8_t config[MCX11_CONFIG_BYTES]; /**< the accepted configuration */

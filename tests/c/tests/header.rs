@@ -17,7 +17,7 @@ use plain_executive::{line, session};
 use std::collections::BTreeSet;
 use std::fmt::Write;
 use std::process::Command;
-use tools::{built, frames_of, installed, languages, printed, repository, run, scratch, stories, text, two_languages};
+use tools::{built, frames_of, languages, printed, repository, run, scratch, stories, text, two_languages};
 
 // ---- the calls by names, and the trace hook
 
@@ -123,12 +123,10 @@ fn the_texts_are_the_enumerators_names() {
     assert!(told.lines().eq(due.clone()), "{:?}", told.lines().zip(due).find(|(ours, due)| ours != due));
 }
 
-/// Doxygen, where it is installed, finds everything documented.
+/// Doxygen finds everything documented.
 #[test]
+#[cfg_attr(not(has_doxygen), ignore = "doxygen is missing")]
 fn doxygen_reads_the_comments() {
-    if !installed("doxygen") {
-        return println!("doxygen is missing, not run");
-    }
     let told = format!(
         "INPUT={}\nOUTPUT_DIRECTORY={}\nQUIET=YES\nGENERATE_LATEX=NO\nHAVE_DOT=NO\nEXTRACT_STATIC=YES\n\
          OPTIMIZE_OUTPUT_FOR_C=YES\nJAVADOC_AUTOBRIEF=YES\nPREDEFINED=MCX11_TRACE=trace\nMACRO_EXPANSION=YES\n",
