@@ -19,33 +19,33 @@ extern "C" {
 
 /** @name The version: docs/CHANGES.md says what each changed for hosts
  * @{ */
-#define MCX11_VERSION_MAJOR 1
-#define MCX11_VERSION_MINOR 0
-#define MCX11_VERSION_PATCH 0
-#define MCX11_VERSION "1.0.0"
+#define MCX11_VERSION_MAJOR 1 /**< a host has to be changed */
+#define MCX11_VERSION_MINOR 0 /**< something is new, or the lent memory has another layout */
+#define MCX11_VERSION_PATCH 0 /**< something is mended */
+#define MCX11_VERSION "1.0.0" /**< the three as a text */
 /** @} */
 
 /** @name The sizes of the lent blocks
  * @{ */
-#define MCX11_CONFIG_BYTES 198
-#define MCX11_TABLES_BYTES 7571
-#define MCX11_SLOTS_BYTES 2016
-#define MCX11_TIMERS_BYTES 641
-#define MCX11_ANSWER_BYTES 21
+#define MCX11_CONFIG_BYTES 198  /**< of mcx11_t::config */
+#define MCX11_TABLES_BYTES 7571 /**< of mcx11_t::tables */
+#define MCX11_SLOTS_BYTES 2016  /**< of mcx11_t::slots */
+#define MCX11_TIMERS_BYTES 641  /**< of mcx11_t::timers */
+#define MCX11_ANSWER_BYTES 21   /**< of mcx11_t::answer */
 /** @} */
 
-/** @name The longest frame, the longest line of digits, the widest entry, the most tasks and queues
+/** @name The most there can be
  * @{ */
-#define MCX11_FRAME_BYTES 200
-#define MCX11_LINE_DIGITS 400
-#define MCX11_ENTRY_BYTES 16
-#define MCX11_MOST_TASKS 126
-#define MCX11_MOST_QUEUES 32
+#define MCX11_FRAME_BYTES 200 /**< the longest frame that a line has room for */
+#define MCX11_LINE_DIGITS 400 /**< the longest line of digits */
+#define MCX11_ENTRY_BYTES 16  /**< the widest entry of a queue */
+#define MCX11_MOST_TASKS 126  /**< T */
+#define MCX11_MOST_QUEUES 32  /**< Q */
 /** @} */
 
 /**
  * All that the host lends. Let it begin with all bytes 0 (static, or memset): a frame before the configuration then gives 11.
- * Only the calls write it. It holds no addresses: between calls it may be copied and moved.
+ * Only the calls write it, one at a time. It holds no addresses: between calls it may be copied and moved.
  */
 typedef struct mcx11_t {
     uint8_t config[MCX11_CONFIG_BYTES]; /**< the accepted configuration */
@@ -139,7 +139,8 @@ enum mcx11_traced {
 #ifdef MCX11_TRACE
 /**
  * A function of the host's, which MCX11_TRACE names before this header is included. It is called behind every call with the
- * bytes that were fed and the number; m holds the answer, with 11 an older one. Without MCX11_TRACE nothing is called.
+ * bytes that were fed and the number; m holds the answer, with 11 an older one. It makes no call on m itself. Without
+ * MCX11_TRACE nothing is called.
  */
 void MCX11_TRACE(const mcx11_t *m, enum mcx11_traced what, const uint8_t *bytes, size_t length, uint8_t number);
 #endif
@@ -247,15 +248,15 @@ static inline uint8_t mcx11_configure_from(mcx11_t *m, const mcx11_configuration
 #define MCX11_OWN ((uint8_t)0)  /**< as a semaphore: the running task's own; in delay, timer and purge that of the task named */
 #define MCX11_NONE ((uint8_t)0) /**< as the semaphore of an interrupt exit: none is signalled */
 
-/** @name Tock values
- * n tocks once, 1 to 32,767, or every n tocks, 1 to 32,768. Any other n gives 0, and the call is refused with 9; so it is with
- * what mcx11_milliseconds refused.
- * @{ */
+/** The tock value of n tocks once, 1 to 32,767. Any other n gives 0, and the call is refused with 9; so does what
+ * mcx11_milliseconds refused. */
 static inline uint16_t mcx11_once(int32_t n) { return n >= 1 && n <= 32767 ? (uint16_t)n : (uint16_t)0; }
+
+/** The tock value of every n tocks, 1 to 32,768. Any other n gives 0, as above. */
 static inline uint16_t mcx11_every(int32_t n) { return n >= 1 && n <= 32768 ? (uint16_t)(65536 - n) : (uint16_t)0; }
-#define MCX11_ONCE(n) mcx11_once(n)
-#define MCX11_EVERY(n) mcx11_every(n)
-/** @} */
+
+#define MCX11_ONCE(n) mcx11_once(n)   /**< for delay and timer: n tocks once */
+#define MCX11_EVERY(n) mcx11_every(n) /**< for delay and timer: every n tocks */
 
 /** The running task waits until the semaphore is signalled; if it is DONE, not at all. */
 static inline uint8_t mcx11_wait(mcx11_t *m, uint8_t semaphore) { return mcx11_call(m, MCX11_WAIT, 0, semaphore, 0); }
@@ -308,13 +309,13 @@ static inline uint8_t mcx11_terminate(mcx11_t *m, uint8_t task) { return mcx11_c
 /** Starts the task from its beginning. */
 static inline uint8_t mcx11_execute(mcx11_t *m, uint8_t task) { return mcx11_call(m, MCX11_EXECUTE, task, 0, 0); }
 
-/** Starts a timer, and has the task wait on the semaphore that it will signal. @param tocks MCX11_ONCE or MCX11_EVERY */
+/** Starts a timer, and has the task wait on the semaphore that it will signal. The tocks: MCX11_ONCE(n) or MCX11_EVERY(n). */
 static inline uint8_t mcx11_delay(mcx11_t *m, uint8_t task, uint8_t semaphore, uint16_t tocks)
 {
     return mcx11_call(m, MCX11_DELAY, task, semaphore, tocks);
 }
 
-/** Starts a timer that will signal the semaphore. @param tocks MCX11_ONCE or MCX11_EVERY */
+/** Starts a timer that will signal the semaphore. The tocks: MCX11_ONCE(n) or MCX11_EVERY(n). */
 static inline uint8_t mcx11_timer(mcx11_t *m, uint8_t task, uint8_t semaphore, uint16_t tocks)
 {
     return mcx11_call(m, MCX11_TIMER, task, semaphore, tocks);
@@ -411,7 +412,8 @@ enum mcx11_block {
 #define MCX11_PENDING ((uint8_t)0) /**< a semaphore's state */
 #define MCX11_DONE ((uint8_t)255)  /**< a semaphore's state; any other but PENDING is WAITING with the task of this number */
 
-/** How many there are of each, and where their bytes begin in their blocks. */
+/** @cond the header's own */
+/* How many there are of each, and where their bytes begin in their blocks. */
 struct mcx11_layout_t {
     size_t tasks, named, semaphores, queues, timers, messages;
     size_t at_sizes, at_blocks, at_semaphores, at_rings, at_messages, at_entries;
@@ -437,6 +439,20 @@ static inline struct mcx11_layout_t mcx11_layout(const mcx11_t *m)
     at.at_entries = at.at_messages + 4 * at.messages;
     return at;
 }
+
+/* Four bytes of the task's timer on this semaphore, from the given place of its record on; 0 if there is none. */
+static inline uint32_t mcx11_of_timer(const mcx11_t *m, uint8_t task, uint8_t semaphore, size_t place)
+{
+    const size_t most = mcx11_layout(m).timers, count = m->timers[0] < most ? m->timers[0] : most;
+    size_t i;
+    for (i = 0; i < count; i++) {
+        const uint8_t *record = m->timers + 1 + 10 * i, *four = record + place;
+        if (record[0] == task && record[1] == semaphore)
+            return (uint32_t)four[0] << 24 | (uint32_t)four[1] << 16 | (uint32_t)four[2] << 8 | four[3];
+    }
+    return 0;
+}
+/** @endcond */
 
 /** The ticks left in the present tock. */
 static inline uint8_t mcx11_ticks_left(const mcx11_t *m)
@@ -531,19 +547,6 @@ static inline uint8_t mcx11_timer_count(const mcx11_t *m)
 {
     const size_t most = mcx11_layout(m).timers;
     return m->timers[0] < most ? m->timers[0] : (uint8_t)most;
-}
-
-/** Four bytes of the task's timer on this semaphore, from the given place of its record on; 0 if there is none. */
-static inline uint32_t mcx11_of_timer(const mcx11_t *m, uint8_t task, uint8_t semaphore, size_t place)
-{
-    const size_t count = mcx11_timer_count(m);
-    size_t i;
-    for (i = 0; i < count; i++) {
-        const uint8_t *record = m->timers + 1 + 10 * i, *four = record + place;
-        if (record[0] == task && record[1] == semaphore)
-            return (uint32_t)four[0] << 24 | (uint32_t)four[1] << 16 | (uint32_t)four[2] << 8 | four[3];
-    }
-    return 0;
 }
 
 /** The tocks until the task's timer on this semaphore is due, as both are numbered (not 0); 0 if there is none. */

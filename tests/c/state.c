@@ -1,5 +1,5 @@
 /* Lent memories from standard input, one behind the other; of each the state to standard output, as host/mcx11.h reads it, a
-   line for each item. Valid as C and as C++. */
+   line for each item. Exit status 1 for an answer that does not fit. Valid as C and as C++. */
 #include "mcx11.h"
 
 #include <stdio.h>
@@ -46,6 +46,8 @@ int main(void)
 {
     while (fread(&ride, sizeof ride, 1, stdin) == 1) {
         unsigned i, j;
+        if (mcx11_answer_length(&ride) >= MCX11_ANSWER_BYTES || mcx11_value_length(&ride) > MCX11_ENTRY_BYTES)
+            return 1;
         printf("tasks %u ticks left %u timers %u\n", mcx11_tasks(&ride), mcx11_ticks_left(&ride), mcx11_timer_count(&ride));
         for (i = 0; i <= 255; i++) {
             if (mcx11_slot(&ride, (uint8_t)i) != NULL || mcx11_blocks(&ride, (uint8_t)i) != 0 ||

@@ -155,3 +155,16 @@ fn the_calls_are_the_headers() {
         }
     }
 }
+
+#[test]
+fn the_configurations_fields_are_the_headers() {
+    let (page, header) = (text("docs/FRAMES.md"), text("host/mcx11.h"));
+    let rows =
+        page.lines().skip_while(|line| !line.starts_with("| Bytes | Holds | In `mcx11_configuration_t` |")).skip(2);
+    let cells = rows.take_while(|line| line.starts_with('|')).map(|row| row.split('|').nth(3).expect("a cell").trim());
+    let names: Vec<&str> = cells.map(|cell| cell.split(['`', '[', ',']).nth(1).expect("a name")).collect();
+    let fields = header.split("typedef struct mcx11_configuration_t {").nth(1).and_then(|rest| rest.split('}').next());
+    let field = |line: &str| line.trim().split([' ', ';', '[']).nth(1).map(str::to_string);
+    let fields: Vec<String> = fields.expect("the struct").lines().filter_map(field).collect();
+    assert_eq!(names, fields);
+}

@@ -17,7 +17,7 @@ use plain_executive::{line, session};
 use std::collections::BTreeSet;
 use std::fmt::Write;
 use std::process::Command;
-use tools::{built, frames_of, languages, printed, repository, scratch, stories, text, two_languages};
+use tools::{built, frames_of, languages, printed, repository, run, scratch, stories, text, two_languages};
 
 // ---- the calls by names, and the trace hook
 
@@ -61,6 +61,7 @@ fn canonical(frame: &[u8]) -> Vec<u8> {
 fn the_calls_by_names_feed_their_frames_and_are_traced() {
     let folder = scratch("calls");
     let programs: Vec<_> = languages().map(|language| built(&folder, "calls.c", language, &[])).collect();
+    let (code_names, numbers) = (names("code"), names("number"));
     let mut codes = BTreeSet::new();
     for input in sessions() {
         let answers = session::run(&input);
@@ -74,8 +75,8 @@ fn the_calls_by_names_feed_their_frames_and_are_traced() {
                 ("frame", canonical(&frame))
             };
             let code = if index == 0 { None } else { called.first() };
-            let number = name("number", line::read(&answer[..2]).expect("a refusal")[0]);
-            let code = code.map_or(String::new(), |&code| name("code", code));
+            let number = &numbers[usize::from(line::read(&answer[..2]).expect("a refusal")[0])];
+            let code = code.map_or("", |&code| &code_names[usize::from(code)]);
             let digits = String::from_utf8(line::write(&called).expect("a line")).expect("digits");
             writeln!(expected, "{digits} {} {number}, {what} {code}", String::from_utf8_lossy(answer)).unwrap();
         }
@@ -86,18 +87,21 @@ fn the_calls_by_names_feed_their_frames_and_are_traced() {
     assert!((1..=0x11).all(|code| codes.contains(&Some(code))), "not every code: {codes:?}");
 }
 
-/// The enumerator of the header's enum that has this value, in small letters and without what all names begin with.
-fn name(of: &str, value: u8) -> String {
+/// Of each value its enumerator in the header's enum, in small letters and without what all names begin with.
+fn names(of: &str) -> Vec<String> {
     let header = text("host/mcx11.h");
     let body = header.split(&format!("enum mcx11_{of} {{")).nth(1).and_then(|rest| rest.split("};").next());
-    let enumerator = |line: &str| {
-        let (name, number) = line.trim().strip_prefix("MCX11_")?.split_once(" = ")?;
-        let number = number.split([',', ' ']).next()?;
-        let number = number.strip_prefix("0x").map_or(number.parse(), |digits| u8::from_str_radix(digits, 16));
-        (number == Ok(value))
-            .then(|| name.replace("OUTCOME_", "").replace("NUMBER_", "").replace('_', " ").to_lowercase())
-    };
-    body.expect("the enum").lines().find_map(enumerator).unwrap_or("unknown".to_string())
+    let mut names = vec!["unknown".to_string(); 256];
+    for line in body.expect("the enum").lines() {
+        let Some((name, number)) = line.trim().strip_prefix("MCX11_").and_then(|line| line.split_once(" = ")) else {
+            continue;
+        };
+        let number = number.split([',', ' ']).next().expect("a number");
+        let number = number.strip_prefix("0x").map_or(number.parse(), |digits| usize::from_str_radix(digits, 16));
+        names[number.expect("a number")] =
+            name.replace("OUTCOME_", "").replace("NUMBER_", "").replace('_', " ").to_lowercase();
+    }
+    names
 }
 
 /// Every name that the header has as a text is the enumerator's, and what has no name is unknown.
@@ -113,13 +117,26 @@ fn the_texts_are_the_enumerators_names() {
     compile.args(["-std=c99"]).args(tools::STRICT).arg("-I").arg(repository().join("host"));
     compile.arg(folder.join("names.c")).arg("-o").arg(&program);
     printed(&mut compile, b"");
-    let names = printed(&mut Command::new(&program), b"");
-    assert_eq!(names.lines().count(), 256);
-    for (index, told) in names.lines().enumerate() {
-        let byte = index as u8;
-        let names = ["code", "outcome_kind", "number"].map(|of| name(of, byte));
-        assert_eq!(told, names.join("|"), "{byte}");
-    }
+    let told = printed(&mut Command::new(&program), b"");
+    let all = ["code", "outcome_kind", "number"].map(names);
+    let due = (0..256).map(|value| format!("{}|{}|{}", all[0][value], all[1][value], all[2][value]));
+    assert!(told.lines().eq(due.clone()), "{:?}", told.lines().zip(due).find(|(ours, due)| ours != due));
+}
+
+/// Doxygen finds everything documented.
+#[test]
+#[cfg_attr(not(has_doxygen), ignore = "doxygen is missing")]
+fn doxygen_reads_the_comments() {
+    let told = format!(
+        "INPUT={}\nOUTPUT_DIRECTORY={}\nQUIET=YES\nGENERATE_LATEX=NO\nHAVE_DOT=NO\nEXTRACT_STATIC=YES\n\
+         OPTIMIZE_OUTPUT_FOR_C=YES\nJAVADOC_AUTOBRIEF=YES\nPREDEFINED=MCX11_TRACE=trace\nMACRO_EXPANSION=YES\n",
+        repository().join("host/mcx11.h").display(),
+        scratch("doxygen").display()
+    );
+    let output = run(Command::new("doxygen").arg("-"), told.as_bytes());
+    let warnings = String::from_utf8_lossy(&output.stderr);
+    let of_header: Vec<&str> = warnings.lines().filter(|line| line.contains("mcx11.h")).collect();
+    assert!(output.status.success() && of_header.is_empty(), "{of_header:#?}");
 }
 
 // ---- the readers of the state

@@ -1,5 +1,5 @@
 //! host/ and docs/HOST.md: the header compiles as C and C++ and leads to the archive's functions; its sizes, codes, outcomes
-//! and numbers are the paper's; the examples and the page's first host print what is stored.
+//! and numbers are the paper's, and the page's; the examples print what is stored.
 
 mod tools;
 

@@ -6,7 +6,7 @@ mod tools;
 use std::fs;
 use std::path::{Path, PathBuf};
 use std::process::Command;
-use tools::{installed, printed, repository, run, scratch, text};
+use tools::{printed, repository, run, scratch, text};
 
 /// An installed copy, moved behind the installation, and the example host as C and as C++ beside it.
 fn copy(name: &str) -> (PathBuf, PathBuf) {
@@ -25,7 +25,7 @@ fn version() -> String {
     let header = text("host/mcx11.h");
     let part = |name: &str| {
         let (_, rest) = header.split_once(&format!("#define MCX11_VERSION{name} ")).expect("a version");
-        rest.lines().next().expect("a line").trim_matches('"').to_string()
+        rest.split_whitespace().next().expect("a number").trim_matches('"').to_string()
     };
     assert_eq!(part(""), [part("_MAJOR"), part("_MINOR"), part("_PATCH")].join("."));
     part("")
@@ -45,16 +45,21 @@ fn what_is_installed() {
     same("lib/libmcx11.a", "target/staticlib/libmcx11.a");
     for paper in ["HOST", "FRAMES", "MEMORY", "CHANGES"] {
         same(&format!("share/doc/mcx11/{paper}.md"), &format!("docs/{paper}.md"));
+        for link in text(&format!("docs/{paper}.md")).split("](").skip(1) {
+            let link = link.split(')').next().expect("a link");
+            assert!(
+                prefix.join("share/doc/mcx11").join(link).exists(),
+                "{paper} leads to {link}, which is not installed"
+            );
+        }
     }
     let newest = text("docs/CHANGES.md").split("\n## ").nth(1).and_then(|rest| rest.lines().next().map(str::to_string));
     assert_eq!(newest, Some(version()), "docs/CHANGES.md begins with the header's version");
 }
 
 #[test]
+#[cfg_attr(not(has_pkg_config), ignore = "pkg-config is missing")]
 fn hosts_are_built_with_pkg_config() {
-    if !installed("pkg-config") {
-        return println!("pkg-config is missing, not run");
-    }
     let (folder, prefix) = copy("pkg-config");
     let asked = |what: &str| {
         let mut command = Command::new("pkg-config");
@@ -79,10 +84,8 @@ fn cmake(folder: &Path, prefix: &Path, lists: &str) -> bool {
 }
 
 #[test]
+#[cfg_attr(not(has_cmake), ignore = "cmake is missing")]
 fn hosts_are_built_with_cmake() {
-    if !installed("cmake") {
-        return println!("cmake is missing, not run");
-    }
     let (folder, prefix) = copy("cmake");
     for (language, source) in [("C", "host.c"), ("CXX", "host.cpp")] {
         let lists = |version: &str| {

@@ -165,6 +165,22 @@ fn every_link_leads_somewhere() {
     }
 }
 
+/// Every name of the header's that a paper has is in the header.
+#[test]
+fn every_name_is_the_headers() {
+    let header = text("host/mcx11.h");
+    let mut names = 0;
+    for paper in PAPERS.into_iter().chain(["docs/CHANGES.md", "docs/DECISIONS.md", "docs/MEMORY.md", "docs/SHEET.md"]) {
+        let page = text(paper);
+        let words = page.split(|letter: char| !letter.is_ascii_alphanumeric() && letter != '_');
+        for name in words.filter(|word| word.starts_with("mcx11_") || word.starts_with("MCX11_")) {
+            assert!(header.contains(name), "{paper}: the header has no {name}");
+            names += 1;
+        }
+    }
+    assert!(names > 100, "{names} names");
+}
+
 /// A checkout keeps line feeds.
 #[test]
 fn a_checkout_keeps_line_feeds() {

@@ -8,6 +8,9 @@ use plain_executive::generator::{cascade, Generator};
 use std::process::Command;
 use tools::{built, frames_of, printed, scratch, stories, text, two_languages};
 
+/// What the papers say.
+const FEWER: usize = 320;
+
 #[test]
 fn the_papers_have_the_measured_stack_and_the_memory() {
     let stories = stories().into_iter().map(|story| frames_of(&story));
@@ -21,11 +24,12 @@ fn the_papers_have_the_measured_stack_and_the_memory() {
     let words: Vec<&str> = told.split_whitespace().collect();
     let ["calls", calls, "configuration", configuration, "frame", frame] = words[..] else { panic!("{told}") };
     assert!(calls.parse::<usize>().expect("a number") > 50_000, "{told}");
-    let (host, readme) = (text("docs/HOST.md").replace("\n   ", " "), text("README.md").replace('\n', " "));
-    let stack = format!("a frame wrote at most {frame} bytes and a configuration {configuration}");
-    assert!(host.contains(&stack), "docs/HOST.md: {stack}");
+    let most = [configuration, frame].map(|bytes| bytes.parse::<usize>().expect("bytes")).into_iter().max().unwrap();
+    assert!((FEWER / 2..FEWER).contains(&most), "a call wrote {most} bytes of stack: mend FEWER and the papers");
     let total = SIZES.iter().sum::<usize>();
-    for figure in [format!("{frame} bytes of stack"), format!("{},{:03} bytes of memory", total / 1000, total % 1000)] {
-        assert!(readme.contains(&figure), "README.md: {figure}");
-    }
+    let memory = format!("{},{:03} bytes of memory", total / 1000, total % 1000);
+    let has = |paper: &str, figure: &str| text(paper).split_whitespace().collect::<Vec<_>>().join(" ").contains(figure);
+    assert!(has("docs/HOST.md", &format!("a call wrote fewer than {FEWER} bytes")), "docs/HOST.md");
+    assert!(has("README.md", &format!("a call took fewer than {FEWER} bytes of stack")), "README.md");
+    assert!(has("README.md", &memory), "README.md: {memory}");
 }
