@@ -10,7 +10,7 @@ use mathlib.Core.List.{List, [], _∷_, _++_}
 use lib.ListN.{length, drop}
 use mir.Syntax.{w8}
 use mir.Val.{Val}
-use base.Logic.{SProp, ent, sep, ex, emp, via, comm∗, assoc′, emp∗, mono∗, monoR, fst∗, exI, exE}
+use base.Logic.{SProp, ent, sep, ex, emp, via, comm∗, assoc′, emp∗, mono∗, monoL, monoR, fst∗, exI, exE}
 use base.Fml.{Fml}
 use prog.Memory.{Memory}
 use prog.Machine.{done as ended}
@@ -22,7 +22,7 @@ use ghost.Atoms.{Atoms, sem}
 use types.Kit.{Given}
 use contract.Running.{Running, givenOf, real}
 use contract.BorrowModel.{ghost₀}
-use contract.Monad.{fact, fact-mono}
+use contract.Monad.{fact, factI, fact-mono}
 use contract.Adequate.{Satisfies, sat-weaken}
 use denote.RattleType.{RattleType}
 use denote.Laws.{Is}
@@ -73,6 +73,12 @@ Leaves L T = any.Leaves closed.𝓤 closed.H closed.model A₀ W₀ L T
 -- a contract with no `requires`
 pub asks-nothing : (P : Pr) → ent closed.𝓤 P (P ∗ emp closed.𝓤)
 asks-nothing P = via closed.𝓤 (emp closed.𝓤 ∗ P) (emp∗ closed.𝓤 P) (comm∗ closed.𝓤 (emp closed.𝓤) P)
+
+-- and one that asks φ
+pub asks : (P : Pr) (φ : Type 0) → φ → ent closed.𝓤 P (P ∗ fact closed.𝓤 φ)
+asks P φ x =
+    via closed.𝓤 (emp closed.𝓤 ∗ P) (emp∗ closed.𝓤 P)
+    (via closed.𝓤 (fact closed.𝓤 φ ∗ P) (monoL closed.𝓤 P (factI closed.𝓤 φ (emp closed.𝓤) x)) (comm∗ closed.𝓤 (fact closed.𝓤 φ) P))
 
 -- whatever is owned can be let go
 pub drops : (P : Pr) → ent closed.𝓤 P (emp closed.𝓤)

@@ -91,20 +91,29 @@ pub record FitsBuffer (n : ℕ) (f : List ℕ) : Type 0 where
 abbrev pub RoomsAt : Sizes → Type 0
 RoomsAt s = Room u8 (s .config) × (Room u8 (s .tables) × (Room u8 (s .slots) × (Room u8 (s .timers) × (Room u8 (s .answer) × Unit {0}))))
 
-swap : (P Q R : Pr) → ent closed.𝓤 (P ∗ (Q ∗ R)) (Q ∗ (P ∗ R))
+pub swap : (P Q R : Pr) → ent closed.𝓤 (P ∗ (Q ∗ R)) (Q ∗ (P ∗ R))
 swap P Q R = via closed.𝓤 ((P ∗ Q) ∗ R) (assoc′ closed.𝓤 P Q R) (via closed.𝓤 ((Q ∗ P) ∗ R) (monoL closed.𝓤 R (comm∗ closed.𝓤 P Q)) (assoc∗ closed.𝓤 Q P R))
 
 -- the call's bytes to the blocks, and back to the buffer's rest
-to-call : (X Y Z F : Pr) → ent closed.𝓤 (X ∗ (Y ∗ (Z ∗ F))) ((X ∗ Z) ∗ (Y ∗ F))
+pub to-call : (X Y Z F : Pr) → ent closed.𝓤 (X ∗ (Y ∗ (Z ∗ F))) ((X ∗ Z) ∗ (Y ∗ F))
 to-call X Y Z F = via closed.𝓤 (X ∗ (Z ∗ (Y ∗ F))) (monoR closed.𝓤 X (swap Y Z F)) (assoc′ closed.𝓤 X Z (Y ∗ F))
 
-from-call : (X Y Z F : Pr) → ent closed.𝓤 ((X ∗ Z) ∗ (Y ∗ F)) (Z ∗ ((X ∗ Y) ∗ F))
+pub from-call : (X Y Z F : Pr) → ent closed.𝓤 ((X ∗ Z) ∗ (Y ∗ F)) (Z ∗ ((X ∗ Y) ∗ F))
 from-call X Y Z F =
     via closed.𝓤 ((Z ∗ X) ∗ (Y ∗ F)) (monoL closed.𝓤 (Y ∗ F) (comm∗ closed.𝓤 X Z))
     (via closed.𝓤 (Z ∗ (X ∗ (Y ∗ F))) (assoc∗ closed.𝓤 Z X (Y ∗ F)) (monoR closed.𝓤 Z (assoc′ closed.𝓤 X Y F)))
 
 abbrev Buffer : Places → List ℕ → Pr
 Buffer q d = Cell (bytesAt mut (q .buffer) d)
+
+-- the stores and a run, whatever it returned
+record Stopped (ρ : Routine) (q : Places) (s : Sizes) (f : List ℕ) (σ : machine.Memory) : Type 0 where
+  pub between : machine.Memory
+  pub stores : Stores (q .buffer .0) (q .buffer .1) f σ between
+  pub fuel : ℕ
+  pub value : Val
+  pub last : machine.Memory
+  pub run : ρ .step fuel (arguments q s (length f)) between ≡ ended (value, last)
 
 -- what a call leaves: the blocks at m', and the buffer at bytes of the same number
 pub record Called (ρ : Routine) (q : Places) (s : Sizes) (f : List ℕ) (Φ : Memory → ℕ → Type 0) (n : ℕ) (σ : machine.Memory) (F : Pr) : Type 1 where
@@ -143,30 +152,40 @@ module _ (q : Places) (s : Sizes) (rooms : RoomsAt s) (n : ℕ) (small : n < 2 ^
   as-long : length (f ++ drop (length f) d) ≡ n
   as-long = simp (length-append, length-drop) (omega (arith, fits .size, whole))
 
+  -- the routine ρ has run from the host's stores on, and what it left is lent again
+  called : (ρ : Routine) (Φ : Memory → ℕ → Type 0) (k : Stopped ρ q s f σ) (m' : Memory) (r : ℕ) → k .value ≡ vint w8 r → Lies q s (k .last) m' → Φ m' r → r < 256
+      → k .last ⊨ (Front ∗ Cells (blocksOf q m')) ∗ (Rest ∗ F) → Called ρ q s f Φ n σ F
+  called ρ Φ k m' r v l x small h =
+      record {
+        last = k .last;
+        memory = m';
+        result = r;
+        buffer = f ++ drop (length f) d;
+        runs = record {
+          between = k .between;
+          stores = k .stores;
+          fuel = k .fuel;
+          run = subst (λ (u : Val). ρ .step (k .fuel) (arguments q s (length f)) (k .between) ≡ ended (u, k .last)) v (k .run);
+          lies = l;
+        };
+        says = x;
+        small = small;
+        size = as-long;
+        holds = again m' (k .last) h;
+      }
+
+  -- the same sizes as before
+  sizes : (ρ : Routine) {σ₀ σ' : machine.Memory} {v : Val} {k : ℕ} → ρ .step k (arguments q (sizesOf m) (length f)) σ₀ ≡ ended (v, σ') → ρ .step k (arguments q s (length f)) σ₀ ≡ ended (v, σ')
+  sizes ρ {σ₀} {σ'} {v} {k} e = subst (λ (z : Sizes). ρ .step k (arguments q z (length f)) σ₀ ≡ ended (v, σ')) sized e
+
   pub configure-called : ∥ Called configure-symbol.routine q s f (λ m' r. Configures f m m' r) n σ F ∥₁
   configure-called =
       ∥∥₁-elim stored ∥∥₁-prop (λ t.
       ∥∥₁-map (configure-runs q f m (room, subst RoomsAt (sym sized) rooms) (t .0) (Rest ∗ F) (t .2)) (λ k.
       let m' : Memory = leftByConfigure q f m (k .last) in
       let e : sizesOf m' ≡ s = (λ i. record { config = k .same .1 .0 i; tables = k .same .1 .1 .0 i; slots = k .same .1 .1 .1 .0 i; timers = k .same .1 .1 .1 .1 .0 i; answer = k .same .1 .1 .1 .1 .1 .0 i }) ∙ sized in
-      record {
-        last = k .memory;
-        memory = m';
-        result = k .result;
-        buffer = f ++ drop (length f) d;
-        runs = record {
-          between = t .0;
-          stores = t .1;
-          fuel = k .fuel;
-          run = subst (λ (v : Val). configure-symbol.routine .step (k .fuel) (arguments q s (length f)) (t .0) ≡ ended (v, k .memory)) (ap only (k .is .0))
-              (subst (λ (z : Sizes). configure-symbol.routine .step (k .fuel) (arguments q z (length f)) (t .0) ≡ ended (k .value, k .memory)) sized (k .run));
-          lies = record { sizes = e; loads = k .loads .1; bytes = k .bytes .1 };
-        };
-        says = k .says;
-        small = k .is .1;
-        size = as-long;
-        holds = again m' (k .memory) (k .holds);
-      }))
+      let stop : Stopped configure-symbol.routine q s f σ = record { between = t .0; stores = t .1; fuel = k .fuel; value = k .value; last = k .memory; run = sizes configure-symbol.routine (k .run) } in
+      called configure-symbol.routine (λ m' r. Configures f m m' r) stop m' (k .result) (ap only (k .is .0)) (record { sizes = e; loads = k .loads .1; bytes = k .bytes .1 }) (k .says) (k .is .1) (k .holds)))
 
   pub frame-called : ∥ Called frame-symbol.routine q s f (λ m' r. Frames f m m' r) n σ F ∥₁
   frame-called =
@@ -174,24 +193,8 @@ module _ (q : Places) (s : Sizes) (rooms : RoomsAt s) (n : ℕ) (small : n < 2 ^
       ∥∥₁-map (frame-runs q f m (room, subst RoomsAt (sym sized) rooms) (t .0) (Rest ∗ F) (t .2)) (λ k.
       let m' : Memory = leftByFrame q f m (k .last) in
       let e : sizesOf m' ≡ s = (λ i. record { config = length (m .config); tables = k .same .1 .1 .0 i; slots = k .same .1 .1 .1 .0 i; timers = k .same .1 .1 .1 .1 .0 i; answer = k .same .1 .1 .1 .1 .1 .0 i }) ∙ sized in
-      record {
-        last = k .memory;
-        memory = m';
-        result = k .result;
-        buffer = f ++ drop (length f) d;
-        runs = record {
-          between = t .0;
-          stores = t .1;
-          fuel = k .fuel;
-          run = subst (λ (v : Val). frame-symbol.routine .step (k .fuel) (arguments q s (length f)) (t .0) ≡ ended (v, k .memory)) (ap only (k .is .0))
-              (subst (λ (z : Sizes). frame-symbol.routine .step (k .fuel) (arguments q z (length f)) (t .0) ≡ ended (k .value, k .memory)) sized (k .run));
-          lies = record { sizes = e; loads = k .loads .1; bytes = k .bytes .1 };
-        };
-        says = k .says;
-        small = k .is .1;
-        size = as-long;
-        holds = again m' (k .memory) (k .holds);
-      }))
+      let stop : Stopped frame-symbol.routine q s f σ = record { between = t .0; stores = t .1; fuel = k .fuel; value = k .value; last = k .memory; run = sizes frame-symbol.routine (k .run) } in
+      called frame-symbol.routine (λ m' r. Frames f m m' r) stop m' (k .result) (ap only (k .is .0)) (record { sizes = e; loads = k .loads .1; bytes = k .bytes .1 }) (k .says) (k .is .1) (k .holds)))
 
 -- ---- a list of frames
 pub record Fed (q : Places) (s : Sizes) (O : List Slice) (σ : machine.Memory) (m : Memory) (fs : List (List ℕ)) : Type 0 where
