@@ -43,8 +43,8 @@ module _ (f : List ℕ) (a : Accepted f) where
   unfolding configIn
   accepted-head = rule-head controller controller-made (configIn f) (a .rule)
 
-  pub accepted-length : (8 ≤ length f) × (length f ≤ 198)
-  accepted-length = let h = accepted-head in (omega (arith, a .whole), omega (arith, a .whole))
+  pub accepted-length : 8 ≤ length f
+  accepted-length = omega (arith, a .whole)
 
   pub accepted-states : length (configIn f .states) ≡ configIn f .T
   unfolding configIn
@@ -76,7 +76,7 @@ module _ (f : List ℕ) (a : Accepted f) where
   -- a block that has it at its front
   module _ (g r : List ℕ) (e : g ≡ f ++ r) where
     same-byte : (i : ℕ) → i < 8 → byte i g ≡ byte i f
-    same-byte i h = ap (λ (x : List ℕ). getD x i 0) e ∙ List·getD-append f r 0 i (omega (arith, accepted-length .0))
+    same-byte i h = ap (λ (x : List ℕ). getD x i 0) e ∙ List·getD-append f r 0 i (omega (arith, accepted-length))
 
     same-front : front g ≡ f
     unfolding front

@@ -108,6 +108,10 @@ module _ (m : Limits) (made : Made m) (c : Config) (h : rule m c ≡ true) where
           bodies = refl;
         }
 
+-- the bytes of its frame
+abbrev pub frameBytes : Shape → ℕ
+frameBytes s = 8 + s .tasks + 2 * s .queues
+
 -- there is no other
 pub of-one : (c : Config) (s : Shape) → Of c s → s ≡ shapeOf c
 unfolding shapeOf bytesOf

@@ -14,7 +14,7 @@ use Rattle.tables.specs.declared.shape.Shape.{Shape}
 use Rattle.tables.specs.Shows.{Of}
 use Rattle.configuration.specs.declared.Lent.the-variants.{Good}
 use Rattle.configuration.specs.Block.{and-no, product, goodShapes, goodQueues, rule, read, configured, configured-is}
-use Rattle.configuration.specs.Limits.{Made}
+use Rattle.configuration.specs.Limits.{longest, Made}
 use Rattle.configuration.specs.Head.{Head, head-says, head-read}
 use Rattle.configuration.specs.Room.{roomIn, room-good, room-bad}
 use Rattle.configuration.specs.Layout.{laidOut, shapeOf, Lends, of-shape}
@@ -35,8 +35,8 @@ module _ (m : Limits) (made : Made m) (g : List ℕ) where
     says : Head m (byte 0 g) (byte 1 g) (byte 2 g) (byte 3 g) (byte 4 g) (byte 5 g) (word 6 g)
     says = head-says m (byte 0 g) (byte 1 g) (byte 2 g) (byte 3 g) (byte 4 g) (byte 5 g) (word 6 g) (sym (head-read m g) ∙ head)
 
-    pub lent-fits : 8 + t + 2 * q ≤ 198
-    lent-fits = let h = says in omega (arith, h .few, h .queues, made .tasks, made .queues)
+    pub lent-fits : 8 + t + 2 * q ≤ longest m
+    lent-fits = let h = says in omega (arith, h .few, h .queues)
 
     abbrev part : List ℕ
     part = cut g (8 + t) (8 + t + 2 * q)
@@ -49,7 +49,7 @@ module _ (m : Limits) (made : Made m) (g : List ℕ) where
     unfolding rule goodQueues
     lent-room h = ap (rule m) (configured-is g) ∙ ap (λ (b : Bool). goodHead m (read g) && b) (ap (goodShapes m) shapes-are ∙ room-bad m (made .bytes) part h) ∙ and-no (goodHead m (read g))
 
-    module _ (long : 198 ≤ length g) (n : ℕ) (en : n ≡ roomIn part) (h : n ≤ m .bytes) where
+    module _ (long : longest m ≤ length g) (n : ℕ) (en : n ≡ roomIn part) (h : n ≤ m .bytes) where
       keeps : rule m (read g) ≡ true
       unfolding rule goodQueues
       keeps = rw head (ap (goodShapes m) shapes-are ∙ room-good m (made .bytes) part (omega arith) .0)

@@ -14,9 +14,9 @@ ghost use lib.ListN.{length};
 ghost use Rattle.ledger.specs.Config.{configIn, configRefusal};
 ghost use Rattle.tables.specs.Shows.{Of};
 ghost use Rattle.queues.specs.Rings.{ringOf};
-ghost use Rattle.configuration.specs.Limits.{limitsOf, Made};
+ghost use Rattle.configuration.specs.Limits.{limitsOf, longest, Made};
 ghost use Rattle.configuration.specs.Block.{configured};
-ghost use Rattle.configuration.specs.Layout.{laidOut, Lends};
+ghost use Rattle.configuration.specs.Layout.{frameBytes, laidOut, Lends};
 
 // The regions of the tables, one behind the other.
 pub fn lay(t: u8, s: u8, q: u8, r: u8, g: u8, k: u8, room: usize) -> Shape
@@ -73,7 +73,7 @@ pub fn shape_of(frame: &[u8]) -> Shape
 
 // The structure rule of number 11, and the shape of a block that keeps it.
 pub fn lent(limits: Limits, config: &[u8]) -> Lent
-    requires { ⌜ Made (limitsOf limits) × (198 ≤ length (now config)) ⌝ }
+    requires { ⌜ Made (limitsOf limits) × (longest (limitsOf limits) ≤ length (now config)) ⌝ }
     ensures { λ r. ⌜ Lends (limitsOf limits) (configured (now (config .entry))) r ⌝ }
 {
     if !good_head(limits, config) {
@@ -100,7 +100,7 @@ pub fn lent(limits: Limits, config: &[u8]) -> Lent
 
 // The ring of queue q. Its entries lie behind those of the queues before it.
 pub fn ring_of(config: &[u8], shape: Shape, q: usize) -> Ring
-    requires { ⌜ (198 ≤ length (now config)) × Of (configured (now config)) shape × (1 ≤ q) × (q ≤ shape .queues) ⌝ }
+    requires { ⌜ (frameBytes shape ≤ length (now config)) × Of (configured (now config)) shape × (1 ≤ q) × (q ≤ shape .queues) ⌝ }
     ensures { λ r. ⌜ r ≡ ringOf (configured (now (config .entry))) shape q ⌝ }
 {
     let before = q - 1;
