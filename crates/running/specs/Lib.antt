@@ -3,4 +3,5 @@ pub mod Memories
 pub mod Stores
 pub mod Calls
 pub mod Machine
+pub mod Buffer
 pub mod One

@@ -1,20 +1,17 @@
--- Calls, Memories and Stores at the closed model of the kit, in which nothing is assumed.
+-- Calls and Memories at the closed model of the kit, in which nothing is assumed.
 --     σ ⊨ P          some resource of the model agrees with the machine's memory σ and has P
 --     Cells L        the bytes of the slices L are owned
 --     Ran            a routine was run on slices from a memory, and ended so
 --     runs           a routine that meets its contract has such a run, from every memory that holds the slices
 use mathlib.Core.Path.{_≡_}
 use mathlib.Core.Logic.{∥∥₁-prop, ∥∥₁-elim, ∥∥₁-map}
-use Prim.Native.Nat.{ℕ, _+_, _≤_}
+use Prim.Native.Nat.{ℕ}
 use mathlib.Core.List.{List, [], _∷_, _++_}
-use lib.ListN.{length, drop}
-use mir.Syntax.{w8}
 use mir.Val.{Val}
 use base.Logic.{SProp, ent, sep, ex, emp, via, comm∗, assoc′, emp∗, mono∗, monoL, monoR, fst∗, exI, exE}
 use base.Fml.{Fml}
 use prog.Memory.{Memory}
 use prog.Machine.{done as ended}
-use prog.Model.{AllFit}
 use prog.AdequacyRun.{startMem}
 use prog.Routine.{Routine}
 use ghost.Model as closed
@@ -31,8 +28,6 @@ use Rattle.running.specs.Slices.{Kind, Slice, Ids, LastValues, afters, R
 use Rattle.running.specs.Calls as any
 use Rattle.running.specs.Memories as memories
 use Rattle.running.specs.Memories.{LoadsAll, sideBySide, joined, AllBytes}
-use Rattle.running.specs.Stores as stores
-use Rattle.running.specs.Stores.{Stores}
 
 abbrev pub Pr : Type 2
 Pr = SProp closed.𝓤
@@ -154,17 +149,6 @@ pub cells-append : (L K : List Slice) → ent closed.𝓤 (Cells (L ++ K)) (Cell
 cells-append [] K = emp∗ closed.𝓤 (Cells K)
 cells-append (B ∷ L) K = via closed.𝓤 (Cell B ∗ (Cells L ∗ Cells K)) (monoR closed.𝓤 (Cell B) (cells-append L K)) (assoc′ closed.𝓤 (Cell B) (Cells L) (Cells K))
 
--- ---- a buffer: bytes are stored at its front, and it is one slice again
+-- a slice at a place
 abbrev pub bytesAt : Kind → ℕ × ℕ → List ℕ → Slice
 bytesAt k p d = record { kind = k; bytes = d; b = p .0; o = p .1 }
-
-abbrev pub behind : ℕ × ℕ → ℕ → ℕ × ℕ
-behind p n = (p .0, p .1 + n)
-
-pub held-stores : (f d : List ℕ) (σ : Memory) (p : ℕ × ℕ) (j k : Kind) (F : Pr) → length f ≤ length d → AllFit w8 f → σ ⊨ Cell (bytesAt j p d) ∗ F
-    → ∥ ((σ' : Memory) × Stores (p .0) (p .1) f σ σ' × (σ' ⊨ Cell (bytesAt k p f) ∗ (Cell (bytesAt k (behind p (length f)) (drop (length f) d)) ∗ F))) ∥₁
-held-stores f d σ p j k F l h s = stores.sat-stores closed.𝓤 closed.H closed.model A₀ W₀ f d σ (p .0) (p .1) F l h s
-
-pub buffer-again : (f d : List ℕ) (p : ℕ × ℕ) (j k : Kind)
-    → ent closed.𝓤 (Cell (bytesAt j p f) ∗ Cell (bytesAt j (behind p (length f)) (drop (length f) d))) (Cell (bytesAt k p (f ++ drop (length f) d)))
-buffer-again f d p j k = memories.join closed.𝓤 closed.H closed.model A₀ W₀ f (drop (length f) d) (p .0) (p .1)

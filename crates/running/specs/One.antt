@@ -6,40 +6,38 @@ use mathlib.Core.Option.{Option, none as nothing, some as just}
 use mathlib.Core.List.{List, [], _∷_}
 use native.Mathlib.Omega.{arith}
 use lib.ListN.{length}
-use mir.Syntax.{w8, tyInt}
+use mir.Syntax.{Width, w8}
 use mir.Val.{Val, vint, asInt}
-use prog.Memory.{Memory, storeM}
+use prog.Memory.{Memory}
 use prog.Machine.{done as ended}
 use prog.Routine.{Routine, ends-one}
-use denote.RattleType.{RattleType}
-use denote.Laws.{Is, Fixes}
 use Rattle.running.specs.Memories.{Loads}
 use Rattle.running.specs.Stores.{Stores, none, store}
 
--- ---- bytes
-unfoldable numberOf : Option Val → ℕ
-numberOf nothing = zero
-numberOf (just v) = asInt zero v (λ _ k. k)
+-- ---- values
+unfoldable inside : {A : Type 0} → A → Option A → A
+inside x nothing = x
+inside x (just y) = y
 
-number-one : {x y : ℕ} → _≡_ {A = Option Val} (just (vint w8 x)) (just (vint w8 y)) → x ≡ y
+just-one : {A : Type 0} {x y : A} → _≡_ {A = Option A} (just x) (just y) → x ≡ y
+unfolding inside
+just-one {x = x} e = ap (inside x) e
+
+unfoldable numberOf : Val → ℕ
+numberOf v = asInt zero v (λ _ k. k)
+
+pub number-one : (w : Width) {m n : ℕ} → vint w m ≡ vint w n → m ≡ n
 unfolding numberOf
-number-one e = ap numberOf e
+number-one w e = ap numberOf e
 
+-- ---- bytes
 pub loads-one : (σ : Memory) (b o : ℕ) (xs ys : List ℕ) → length xs ≡ length ys → Loads σ b o xs → Loads σ b o ys → xs ≡ ys
 loads-one σ b o [] [] e p q = refl
 loads-one σ b o [] (y ∷ ys) e p q = absurd (omega (arith, e))
 loads-one σ b o (x ∷ xs) [] e p q = absurd (omega (arith, e))
-loads-one σ b o (x ∷ xs) (y ∷ ys) e p q = ap₂ _∷_ (number-one (sym (p .0) ∙ q .0)) (loads-one σ b (o + 1) xs ys (omega (arith, e)) (p .1) (q .1))
+loads-one σ b o (x ∷ xs) (y ∷ ys) e p q = ap₂ _∷_ (number-one w8 (just-one (sym (p .0) ∙ q .0))) (loads-one σ b (o + 1) xs ys (omega (arith, e)) (p .1) (q .1))
 
 -- ---- stores
-unfoldable memoryOf : Memory → Option Memory → Memory
-memoryOf σ nothing = σ
-memoryOf σ (just σ₁) = σ₁
-
-just-one : {σ σ₁ : Memory} → _≡_ {A = Option Memory} (just σ) (just σ₁) → σ ≡ σ₁
-unfolding memoryOf
-just-one {σ} e = ap (memoryOf σ) e
-
 pub stores-one : {b o : ℕ} {xs : List ℕ} {σ σ' σ'' : Memory} → Stores b o xs σ σ' → Stores b o xs σ σ'' → σ' ≡ σ''
 stores-one none none = refl
 stores-one {b} (store {o = o} {x = x} {xs = xs} {σ = σ} {σ₁ = σ₁} e more) (store {σ₁ = σ₁'} {σ' = σ''} e' more') =

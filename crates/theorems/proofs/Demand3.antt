@@ -21,7 +21,8 @@ use Rattle.mcx11.proofs.entries.mcx11_frame_blocks as frame
 use Rattle.mcx11.proofs.entries.mcx11_frame_blocks.Kinds as frame-kinds
 use Rattle.mcx11.proofs.entries.mcx11_frame_blocks.Reads as frame-reads
 
--- One call of `mcx11_configure_blocks` with the bytes g, lent the memory m and leaving m', that returned r: the arguments x, the last values w of the
+-- One call of `mcx11_configure_blocks` with the bytes g, lent the memory m and leaving m', that returned r: the arguments x, the
+-- last values w of the
 -- `&mut` slices, the result n, and what a caller learns of them
 pub record ConfigureCall (g : List ℕ) (m m' : Memory) (r : ℕ) : Type 0 where
   pub κs : Lfts 6

@@ -2,17 +2,21 @@
 -- side, whatever they are.
 --     runs           from there a configuration and a list of frames have runs, one after the other, as demand 3 says
 --     every-run      and every such runs are as demand 3 says: the machine has one run from one memory
---     every-frame, every-configuration     one call, whatever the blocks hold and however large they are: it is as its contract says
-use Prim.Native.Nat.{ℕ, zero, _+_, _<_, _^_}
+--     every-answer, every-number           its first two parts, as plain equations
+--     every-frame, every-configuration     one call, whatever the blocks hold and however large they are: it is as its contract
+--                                          says
+use Prim.Native.Nat.{ℕ, _+_, _<_, _^_}
 use mathlib.Core.Path.{_≡_, refl, sym, ap, ap₂, _∙_, subst}
 use mathlib.Core.Logic.{∥∥₁-prop, ∥∥₁-elim, ∥∥₁-map}
 use mathlib.Core.Bool.{true}
-use mathlib.Core.List.{List, [], _∷_}
+use mathlib.Core.HLevel.{hedberg}
+use mathlib.Core.List.{List, [], _∷_, List·isSet}
+use native.Mathlib.Decide.{ℕ-discrete}
 use native.Mathlib.Omega.{arith}
 use lib.ListN.{length}
 use mir.Syntax.{w8}
-use mir.Val.{Val, vint, asInt}
-use base.Logic.{ent, emp, via, assoc∗, assoc′, monoL, monoR}
+use mir.Val.{Val, vint}
+use base.Logic.{emp, via, assoc∗, monoL, monoR}
 use prog.Memory as machine
 use prog.Machine.{done as ended}
 use prog.Model.{AllFit}
@@ -22,14 +26,15 @@ use ghost.Model as closed
 use denote.Builtin.{u8}
 use denote.Slice.{Room}
 use Rattle.running.specs.Slices.{Kind, shr, mut, Slice}
-use Rattle.running.specs.Memories.{Loads, LoadsAll, sideBySide, joined}
-use Rattle.running.specs.Stores.{Stores}
+use Rattle.running.specs.Memories.{Loads, joined}
 use Rattle.running.specs.Machine.{Pr, Cell, Cells, _∗_, _⊨_, weaken, begins, cells-append, bytesAt}
-use Rattle.running.specs.One.{loads-one, stores-one, run-one}
-use Rattle.ledger.specs.Config.{configRefusal}
+use Rattle.running.specs.One.{number-one, loads-one, stores-one, run-one}
+use Rattle.ledger.specs.Config.{configIn, configRefusal}
+use Rattle.ledger.specs.Session as ledger
 use Rattle.ledger.specs.Theorems.Parts.{Every}
 use Rattle.mcx11.specs.Contract.{Memory, fullSize, Configures, Frames}
 use Rattle.mcx11.specs.Answer.{answerOf}
+use Rattle.theorems.specs.Numbers as refused
 use Rattle.theorems.specs.Same.{Same, every-list}
 use Rattle.theorems.proofs.OneCall.{Places}
 use Rattle.theorems.proofs.Runs.{Sizes, sizesOf, arguments, blocksOf, Lies, CallRuns, ConfigureRuns, FrameRuns, FramesRun, none, call, SessionRuns, session, FitsBuffer, RoomsAt, Called, configure-called, frame-called, feeds}
@@ -134,13 +139,6 @@ runs {g} {fs} {m} {buffer = d} {others = o} b full z l ls =
     }))
 
 -- ---- and one only
-unfoldable numberOf : Val → ℕ
-numberOf v = asInt zero v (λ _ k. k)
-
-number-one : {r r' : ℕ} → vint w8 r ≡ vint w8 r' → r ≡ r'
-unfolding numberOf
-number-one e = ap numberOf e
-
 lies-one : {q : Places} {s : Sizes} {σ : machine.Memory} {m k : Memory} → Lies q s σ m → Lies q s σ k → m ≡ k
 lies-one {q} {s} {σ} {m} {k} l h =
     let e : sizesOf m ≡ sizesOf k = l .sizes ∙ sym (h .sizes) in
@@ -156,7 +154,7 @@ call-one : {ρ : Routine} {q : Places} {s : Sizes} {f : List ℕ} {σ σ' σ'' :
 call-one {ρ} {q} {s} {f} {σ} {σ'} {σ''} {m'} {m''} {r} {r'} a b =
     let vs : List Val = arguments q s (length f) in
     let e = run-one ρ vs (a .run) (subst (λ (σ₀ : machine.Memory). ρ .step (b .fuel) vs σ₀ ≡ ended (vint w8 r', σ'')) (sym (stores-one (a .stores) (b .stores))) (b .run)) in
-    (e .1, lies-one (a .lies) (subst (λ (σ₁ : machine.Memory). Lies q s σ₁ m'') (sym (e .1)) (b .lies)), number-one (e .0))
+    (e .1, lies-one (a .lies) (subst (λ (σ₁ : machine.Memory). Lies q s σ₁ m'') (sym (e .1)) (b .lies)), number-one w8 (e .0))
 
 abbrev One : (xs xs' : List (List ℕ)) (rs rs' : List ℕ) (σ σ' : machine.Memory) (m m' : Memory) → Type 0
 One xs xs' rs rs' σ σ' m m' = (xs ≡ xs') × (rs ≡ rs') × (σ ≡ σ') × (m ≡ m')
@@ -188,6 +186,22 @@ every-run {g} {fs} {m} {buffer = d} {others = o} b full z l ls {answers} {number
     (subst (λ (rs : List ℕ). AsTheLedger m d o g fs (k .answers) rs last m') (e .1)
     (subst (λ (σ : machine.Memory). AsTheLedger m d o g fs (k .answers) (k .numbers) σ m') (e .2)
     (subst (λ (x : Memory). AsTheLedger m d o g fs (k .answers) (k .numbers) (k .last) x) (e .3) (k .says)))))
+
+-- the answers and the numbers, as plain equations
+pub bytes-set : IsSet (List ℕ)
+bytes-set = List·isSet (hedberg ℕ-discrete)
+
+pub every-answer : {g : List ℕ} {fs : List (List ℕ)} {m : Memory} {buffer others : List ℕ} → Begins m buffer others → fullSize m ≡ true
+    → configRefusal g ≡ 0 → FitsBuffer (length buffer) g → Every (FitsBuffer (length buffer)) fs
+    → {answers : List (List ℕ)} {numbers : List ℕ} {last : machine.Memory} {m' : Memory} → SessionRuns (placesOf m) (sizesOf m) (begun m buffer others) g fs answers numbers last m'
+    → answers ≡ ledger.session g fs
+every-answer {g} {fs} b full z l ls {answers} r = ∥∥₁-elim (every-run b full z l ls r) (List·isSet bytes-set answers (ledger.session g fs)) (λ k. k .same .answers)
+
+pub every-number : {g : List ℕ} {fs : List (List ℕ)} {m : Memory} {buffer others : List ℕ} → Begins m buffer others → fullSize m ≡ true
+    → configRefusal g ≡ 0 → FitsBuffer (length buffer) g → Every (FitsBuffer (length buffer)) fs
+    → {answers : List (List ℕ)} {numbers : List ℕ} {last : machine.Memory} {m' : Memory} → SessionRuns (placesOf m) (sizesOf m) (begun m buffer others) g fs answers numbers last m'
+    → numbers ≡ refused.numbers (configIn g) fs
+every-number {g} {fs} b full z l ls {numbers = numbers} r = ∥∥₁-elim (every-run b full z l ls r) (bytes-set numbers (refused.numbers (configIn g) fs)) (λ k. k .same .numbers)
 
 -- ---- one call, whatever the blocks hold
 pub every-frame : {f : List ℕ} {m : Memory} {buffer others : List ℕ} → Begins m buffer others → FitsBuffer (length buffer) f

@@ -1,7 +1,7 @@
 -- The reader, the writer and milliseconds on the machine: each call has a run from every memory of bytes, and every run returns
 -- the ledger's result as an `int32_t`, leaves the lent buffer as the ledger says, and all else as it was.
 use Prim.Native.Nat.{ℕ, _+_, _<_, _^_}
-use mathlib.Core.Path.{_≡_, refl, sym, ap, _∙_, subst}
+use mathlib.Core.Path.{_≡_, refl, ap, _∙_, subst}
 use mathlib.Core.Logic.{∥∥₁-prop, ∥∥₁-elim, ∥∥₁-map}
 use mathlib.Core.List.{List, [], _∷_}
 use lib.IntN.{ℤ}
@@ -25,8 +25,8 @@ use denote.Plain.{uint-makes}
 use denote.Steps.{only}
 use denote.Triple.Spec.{tripleOf}
 use denote.Triple.Statement.{Contract}
-use Rattle.running.specs.Slices.{Kind, shr, mut, Slice, Ids, LastValues, valsOf, lifetimesOf, sharesOf, referencesOf, passedOf, Rooms}
-use Rattle.running.specs.Memories.{Loads, LoadsAll, sideBySide, joined}
+use Rattle.running.specs.Slices.{shr, mut, Slice, Ids, LastValues, valsOf, lifetimesOf, sharesOf, referencesOf, passedOf, Rooms}
+use Rattle.running.specs.Memories.{Loads, sideBySide, joined}
 use Rattle.running.specs.Machine.{Pr, A₀, 𝓡₀, W₀, Cells, _∗_, _⊨_, weaken, Enters, Leaves, asks-nothing, drops, leaves-by, Ran, runs, begins, held-loads, bytesAt, cells-append}
 use Rattle.running.specs.One.{run-one}
 use Rattle.ledger.specs.Lines as lines

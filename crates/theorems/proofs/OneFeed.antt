@@ -2,11 +2,10 @@
 -- their `requires` ask for, `feed` and `finish` run, end, and leave bytes of which their contract holds. What is handed on from
 -- call to call, a `Reached`, is passed by value.
 use Prim.Native.Nat.{ℕ, _+_, _*_, _<_, _≤_, _^_}
-use mathlib.Core.Path.{_≡_, refl, sym, ap, _∙_, subst}
+use mathlib.Core.Path.{_≡_, refl, subst}
 use mathlib.Core.List.{List, [], _∷_}
 use lib.ListN.{length, drop}
-use mir.Syntax.{w64}
-use mir.Val.{Val, vint}
+use mir.Val.{Val}
 use base.Logic.{ent, emp, via, emp∗, monoL, monoR, snd∗}
 use base.Fml.{ftrue}
 use prog.Memory as machine

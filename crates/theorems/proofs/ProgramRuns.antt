@@ -8,10 +8,10 @@ use mathlib.Core.Path.{_≡_, refl, sym, ap, ap₂, _∙_, subst}
 use mathlib.Core.Logic.{∥∥₁-prop, ∥∥₁-elim, ∥∥₁-map}
 use mathlib.Core.List.{List, [], _∷_, _++_}
 use native.Mathlib.Omega.{arith}
-use lib.ListN.{length, take, drop, length-append, length-drop}
+use lib.ListN.{length, take}
 use mir.Syntax.{w64}
 use mir.Fields.{getV}
-use mir.Val.{Val, Vals, vnil, vcons, vunit, vbool, vint, vfloat, vptr, vstruct, asInt}
+use mir.Val.{Val, Vals, vnil, vunit, vbool, vint, vfloat, vptr, vstruct, asInt}
 use base.Logic.{emp, via, assoc∗, monoL, monoR, fst∗}
 use prog.Memory as machine
 use prog.Machine.{done as ended}
@@ -22,30 +22,30 @@ use denote.Laws.{Is}
 use denote.Ref.{RefT}
 use denote.Slice.{sliceVal, Room}
 use denote.Steps.{only}
-use Rattle.running.specs.Slices.{Kind, shr, mut, Slice, Rooms}
-use Rattle.running.specs.Memories.{Loads, LoadsAll, sideBySide, joined}
+use Rattle.running.specs.Slices.{Kind, mut}
+use Rattle.running.specs.Memories.{Loads, LoadsAll, joined}
 use Rattle.running.specs.Stores.{Stores}
-use Rattle.running.specs.Machine.{Pr, Cell, Cells, _∗_, _⊨_, weaken, begins, cells-append, bytesAt, behind, held-stores, buffer-again}
-use Rattle.running.specs.One.{loads-one, stores-one, run-one}
+use Rattle.running.specs.Machine.{Pr, Cells, _∗_, _⊨_, weaken, begins, cells-append, bytesAt}
+use Rattle.running.specs.Buffer.{Buffer, overwritten, as-long, Rest, stored, lent-again}
+use Rattle.running.specs.One.{number-one, loads-one, stores-one, run-one}
 use Rattle.ledger.specs.Lines.{output}
 use Rattle.ledger.specs.Theorems.Parts.{Every, nil, cons}
-use Rattle.mcx11.specs.Contract.{Memory, memory, SameSizes}
+use Rattle.mcx11.specs.Contract.{Memory, memory}
 use Rattle.mcx11.specs.Sizes.{Full, full-sizes, sizes-full, full-kept}
 use Rattle.feeding.specs.declared.Stage.{Stage}
 use Rattle.feeding.specs.declared.Stage.the-variants.{First, Running, Ended}
 use Rattle.feeding.specs.declared.Reached.{Reached}
 use Rattle.feeding.specs.Line.{most}
 use Rattle.feeding.specs.Feeds as feeding
-use Rattle.feeding.specs.Feeds.{again, Lent, lent}
+use Rattle.feeding.specs.Feeds.{again, Lent}
 use Rattle.feeding.proofs.Reached as reached
 use Rattle.feeding.proofs.Session as calls
 use Rattle.feeding.proofs.Session.{FeedCall, FinishCall, Calls, session}
 use Rattle.feeding.proofs.feed.Symbol as feed-symbol
 use Rattle.feeding.proofs.finish.Symbol as finish-symbol
-use Rattle.theorems.proofs.OneCall.{Places}
-use Rattle.theorems.proofs.Runs.{Sizes, sizesOf, FitsBuffer, RoomsAt, swap, to-call, from-call}
-use Rattle.theorems.proofs.EveryRun.{Lendable, room}
-use Rattle.theorems.proofs.OneFeed.{lowered, is-lowered, lowered-is, ProgramPlaces, lentSlices, FeedAsks, FeedGives, leftByFeed, feed-runs, FinishAsks, FinishGives, finishSlices, finish-runs}
+use Rattle.theorems.proofs.Runs.{Sizes, sizesOf, FitsBuffer}
+use Rattle.theorems.proofs.EveryRun.{Lendable, room, bytes-set}
+use Rattle.theorems.proofs.OneFeed.{lowered, is-lowered, lowered-is, ProgramPlaces, lentSlices, FeedAsks, FeedGives, leftByFeed, feed-runs, FinishAsks, FinishGives, finish-runs}
 
 -- ---- the runs
 pub record LentSizes : Type 0 where
@@ -139,7 +139,7 @@ record Roomy (z : LentSizes) (n : ℕ) : Type 0 where
   pub full : (m : Memory) → sizesOf m ≡ z .blocks → Full m
 
 abbrev Input : ProgramPlaces → List ℕ → Pr
-Input p d = Cell (bytesAt mut (p .blocks .buffer) d)
+Input p d = Buffer (p .blocks .buffer) d
 
 record FedOne (p : ProgramPlaces) (z : LentSizes) (b : List ℕ) (r : Reached) (x : Lent) (n : ℕ) (σ : machine.Memory) (F : Pr) : Type 1 where
   pub last : machine.Memory
@@ -179,14 +179,11 @@ module _ (p : ProgramPlaces) (z : LentSizes) (n : ℕ) (roomy : Roomy z n) where
   fed-one : (b : List ℕ) → FitsBuffer n b → (r : Reached) → r .held ≤ most → (x : Lent) → lentSizes x ≡ z → (d : List ℕ) → length d ≡ n
       → (σ : machine.Memory) (F : Pr) → σ ⊨ Cells (lentSlices p x) ∗ (Input p d ∗ F) → ∥ FedOne p z b r x n σ F ∥₁
   fed-one b fits r few x sized d whole σ F held =
-      let front : Pr = Cell (bytesAt shr (p .blocks .buffer) b) in
-      let rest : Pr = Cell (bytesAt shr (behind (p .blocks .buffer) (length b)) (drop (length b) d)) in
-      let L : Pr = Cells (lentSlices p x) in
+      let rest : Pr = Rest (p .blocks .buffer) b d (lentSlices p x) σ F in
       let q = lent-asked x sized in
       let asked : FeedAsks b (again r) x = (omega arith, few, omega arith, omega (arith, fits .size, q .1), q .0, q .3) in
-      ∥∥₁-elim (held-stores b d σ (p .blocks .buffer) mut shr (L ∗ F) (omega (arith, fits .size, whole)) (fits .bytes) (weaken σ (swap L (Input p d) F) held)) ∥∥₁-prop (λ t.
-      ∥∥₁-map (feed-runs p b (again r) x (again-is r few) asked ((omega (arith, fits .size, roomy .few), omega (arith, fits .size, roomy .few)), subst LentRooms (sym sized) (roomy .rooms)) (t .0) (rest ∗ F)
-      (weaken (t .0) (to-call front rest L F) (t .2))) (λ k.
+      ∥∥₁-elim (stored (p .blocks .buffer) b d (lentSlices p x) σ F (omega (arith, fits .size, whole)) (fits .bytes) held) ∥∥₁-prop (λ t.
+      ∥∥₁-map (feed-runs p b (again r) x (again-is r few) asked ((omega (arith, fits .size, roomy .few), omega (arith, fits .size, roomy .few)), subst LentRooms (sym sized) (roomy .rooms)) (t .0) (rest ∗ F) (t .2)) (λ k.
       let x' : Lent = leftByFeed p b (again r) x (k .last) in
       let s = k .same .1 in
       let e : lentSizes x' ≡ z = (λ i. record { blocks = record { config = s .1 .0 i; tables = s .1 .1 .0 i; slots = s .1 .1 .1 .0 i; timers = s .1 .1 .1 .1 .0 i; answer = s .1 .1 .1 .1 .1 .0 i }; line = s .0 i; out = s .1 .1 .1 .1 .1 .1 .0 i }) ∙ sized in
@@ -194,7 +191,7 @@ module _ (p : ProgramPlaces) (z : LentSizes) (n : ℕ) (roomy : Roomy z n) where
         last = k .memory;
         result = k .result;
         left = x';
-        buffer = b ++ drop (length b) d;
+        buffer = overwritten b d;
         runs = record {
           between = t .0;
           stores = t .1;
@@ -205,9 +202,8 @@ module _ (p : ProgramPlaces) (z : LentSizes) (n : ℕ) (roomy : Roomy z n) where
         };
         call = feed-call b r (k .result) x x' asked (k .says);
         held = k .says .1;
-        size = simp (length-append, length-drop) (omega (arith, fits .size, whole));
-        holds = weaken (k .memory) (via closed.𝓤 (Cells (lentSlices p x') ∗ ((front ∗ rest) ∗ F)) (from-call front rest (Cells (lentSlices p x')) F)
-            (monoR closed.𝓤 (Cells (lentSlices p x')) (monoL closed.𝓤 F (buffer-again b d (p .blocks .buffer) shr mut)))) (k .holds);
+        size = as-long b d (omega (arith, fits .size, whole)) ∙ whole;
+        holds = lent-again (p .blocks .buffer) b d (lentSlices p x') (k .memory) F (k .holds);
       }))
 
   -- all blocks, and the end
@@ -318,18 +314,11 @@ inputs-one {p} {z} (call {bs = bs} {σ₁ = σ₁} {r₁ = r₁} {x₁ = x₁} k
     let rest = inputs-one more (subst (λ (τ : machine.Memory). InputRuns p z τ r₁ x₁ bs ys σ'' r'' x'') (sym (o .0)) (subst (λ (t : Reached). InputRuns p z τ₁ t x₁ bs ys σ'' r'' x'') (sym (o .1)) (subst (λ (y : Lent). InputRuns p z τ₁ t₁ y bs ys σ'' r'' x'') (sym (o .2)) more'))) in
     (ap₂ _∷_ (ap₂ (λ (a : Reached) (y : Lent). take (a .printed) (y .out)) (o .1) (o .2)) (rest .0), rest .1, rest .2, rest .3)
 
-unfoldable numberOf : Val → ℕ
-numberOf v = asInt zero v (λ _ k. k)
-
-number-one : {m n : ℕ} → vint w64 m ≡ vint w64 n → m ≡ n
-unfolding numberOf
-number-one e = ap numberOf e
-
 finish-one : {p : ProgramPlaces} {z : LentSizes} {r : Reached} {σ σ' σ'' : machine.Memory} {xs ys : List ℕ} {m n : ℕ}
     → FinishRuns p z r σ σ' xs m → FinishRuns p z r σ σ'' ys n → (xs ≡ ys) × (m ≡ n)
 finish-one {p} {z} {r} {xs = xs} {ys = ys} k h =
     let e = run-one finish-symbol.routine (finishArguments p z (again r)) (k .run) (h .run) in
-    (loads-one _ (p .out .0) (p .out .1) xs ys (k .size ∙ sym (h .size)) (k .loads) (subst (λ (σ₁ : machine.Memory). Loads σ₁ (p .out .0) (p .out .1) ys) (sym (e .1)) (h .loads)), number-one (e .0))
+    (loads-one _ (p .out .0) (p .out .1) xs ys (k .size ∙ sym (h .size)) (k .loads) (subst (λ (σ₁ : machine.Memory). Loads σ₁ (p .out .0) (p .out .1) ys) (sym (e .1)) (h .loads)), number-one w64 (e .0))
 
 -- ---- from the memory with which a run begins: all that is lent, and the input's buffer, side by side
 pub record ProgramBegins (x : Lent) (d : List ℕ) : Type 0 where
@@ -391,9 +380,9 @@ prints x d b ls =
 pub every-print : (x : Lent) (d : List ℕ) → ProgramBegins x d → {blocks : List (List ℕ)} → Every (FitsBuffer (length d)) blocks
     → {outputs : List (List ℕ)} {σ last : machine.Memory} {r : Reached} {x' : Lent} {out : List ℕ} {printed : ℕ}
     → InputRuns (programPlaces x) (lentSizes x) (programBegun x d) feeding.begun x blocks outputs σ r x' → FinishRuns (programPlaces x) (lentSizes x) r σ last out printed
-    → ∥ (calls.joined outputs ++ take printed out ≡ output (calls.joined blocks)) ∥₁
+    → calls.joined outputs ++ take printed out ≡ output (calls.joined blocks)
 every-print x d b {blocks} ls {outputs} {σ} {last} {r} {x'} {out} {printed} run end =
-    ∥∥₁-map (prints x d b ls) (λ k.
+    ∥∥₁-elim (prints x d b ls) (bytes-set (calls.joined outputs ++ take printed out) (output (calls.joined blocks))) (λ k.
     let e = inputs-one (k .runs) run in
     let f = finish-one (k .finish) (subst (λ (t : Reached). FinishRuns (programPlaces x) (lentSizes x) t (k .between) last out printed) (sym (e .2)) (subst (λ (τ : machine.Memory). FinishRuns (programPlaces x) (lentSizes x) r τ last out printed) (sym (e .1)) end)) in
     subst (λ (xs : List (List ℕ)). calls.joined xs ++ take printed out ≡ output (calls.joined blocks)) (e .0)

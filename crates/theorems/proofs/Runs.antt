@@ -2,16 +2,17 @@
 -- host stores the call's bytes into its one buffer.
 --     CallRuns       one call: the stores, the run of the function's routine, and the bytes that the machine then loads
 --     SessionRuns    a configuration and a list of frames, each call from the memory in which the one before it ended
---     feeds          from every memory that holds the blocks and the buffer, there are such runs of frames, and each call is as its contract says
-use Prim.Native.Nat.{ℕ, _+_, _<_, _≤_, _^_}
-use mathlib.Core.Path.{_≡_, refl, sym, ap, _∙_, subst}
+--     feeds          from every memory that holds the blocks and the buffer, there are such runs of frames, and each call is as
+--                    its contract says
+use Prim.Native.Nat.{ℕ, _<_, _≤_, _^_}
+use mathlib.Core.Path.{_≡_, sym, ap, _∙_, subst}
 use mathlib.Core.Logic.{∥∥₁-prop, ∥∥₁-elim, ∥∥₁-map}
-use mathlib.Core.List.{List, [], _∷_, _++_}
+use mathlib.Core.List.{List, [], _∷_}
 use native.Mathlib.Omega.{arith}
-use lib.ListN.{length, drop, length-append, length-drop}
+use lib.ListN.{length}
 use mir.Syntax.{w8}
 use mir.Val.{Val, vint}
-use base.Logic.{ent, via, comm∗, assoc∗, assoc′, monoL, monoR, fst∗, snd∗}
+use base.Logic.{via, snd∗}
 use prog.Memory as machine
 use prog.Machine.{done as ended}
 use prog.Model.{AllFit}
@@ -20,10 +21,11 @@ use ghost.Model as closed
 use denote.Builtin.{u8}
 use denote.Slice.{sliceVal, Room}
 use denote.Steps.{only}
-use Rattle.running.specs.Slices.{shr, mut, Slice, AreBytes}
+use Rattle.running.specs.Slices.{mut, Slice, AreBytes}
 use Rattle.running.specs.Memories.{LoadsAll}
 use Rattle.running.specs.Stores.{Stores}
-use Rattle.running.specs.Machine.{Pr, Cell, Cells, _∗_, _⊨_, weaken, held-loads, bytesAt, behind, held-stores, buffer-again}
+use Rattle.running.specs.Machine.{Pr, Cells, _∗_, _⊨_, weaken, held-loads, bytesAt}
+use Rattle.running.specs.Buffer.{Buffer, overwritten, as-long, Front, Rest, stored, lent-again}
 use Rattle.ledger.specs.Theorems.Parts.{Every, nil, cons}
 use Rattle.mcx11.specs.Contract.{Memory, Configures, Frames}
 use Rattle.mcx11.specs.Answer.{answerOf}
@@ -91,21 +93,6 @@ pub record FitsBuffer (n : ℕ) (f : List ℕ) : Type 0 where
 abbrev pub RoomsAt : Sizes → Type 0
 RoomsAt s = Room u8 (s .config) × (Room u8 (s .tables) × (Room u8 (s .slots) × (Room u8 (s .timers) × (Room u8 (s .answer) × Unit {0}))))
 
-pub swap : (P Q R : Pr) → ent closed.𝓤 (P ∗ (Q ∗ R)) (Q ∗ (P ∗ R))
-swap P Q R = via closed.𝓤 ((P ∗ Q) ∗ R) (assoc′ closed.𝓤 P Q R) (via closed.𝓤 ((Q ∗ P) ∗ R) (monoL closed.𝓤 R (comm∗ closed.𝓤 P Q)) (assoc∗ closed.𝓤 Q P R))
-
--- the call's bytes to the blocks, and back to the buffer's rest
-pub to-call : (X Y Z F : Pr) → ent closed.𝓤 (X ∗ (Y ∗ (Z ∗ F))) ((X ∗ Z) ∗ (Y ∗ F))
-to-call X Y Z F = via closed.𝓤 (X ∗ (Z ∗ (Y ∗ F))) (monoR closed.𝓤 X (swap Y Z F)) (assoc′ closed.𝓤 X Z (Y ∗ F))
-
-pub from-call : (X Y Z F : Pr) → ent closed.𝓤 ((X ∗ Z) ∗ (Y ∗ F)) (Z ∗ ((X ∗ Y) ∗ F))
-from-call X Y Z F =
-    via closed.𝓤 ((Z ∗ X) ∗ (Y ∗ F)) (monoL closed.𝓤 (Y ∗ F) (comm∗ closed.𝓤 X Z))
-    (via closed.𝓤 (Z ∗ (X ∗ (Y ∗ F))) (assoc∗ closed.𝓤 Z X (Y ∗ F)) (monoR closed.𝓤 Z (assoc′ closed.𝓤 X Y F)))
-
-abbrev Buffer : Places → List ℕ → Pr
-Buffer q d = Cell (bytesAt mut (q .buffer) d)
-
 -- the stores and a run, whatever it returned
 record Stopped (ρ : Routine) (q : Places) (s : Sizes) (f : List ℕ) (σ : machine.Memory) : Type 0 where
   pub between : machine.Memory
@@ -125,42 +112,32 @@ pub record Called (ρ : Routine) (q : Places) (s : Sizes) (f : List ℕ) (Φ : M
   pub says : Φ memory result
   pub small : result < 256
   pub size : length buffer ≡ n
-  pub holds : last ⊨ Cells (blocksOf q memory) ∗ (Buffer q buffer ∗ F)
+  pub holds : last ⊨ Cells (blocksOf q memory) ∗ (Buffer (q .buffer) buffer ∗ F)
 
 module _ (q : Places) (s : Sizes) (rooms : RoomsAt s) (n : ℕ) (small : n < 2 ^ 63) (f : List ℕ) (fits : FitsBuffer n f)
     (m : Memory) (sized : sizesOf m ≡ s) (d : List ℕ) (whole : length d ≡ n) (σ : machine.Memory) (F : Pr)
-    (held : σ ⊨ Cells (blocksOf q m) ∗ (Buffer q d ∗ F)) where
-  abbrev Front : Pr
-  Front = Cell (bytesAt shr (q .buffer) f)
-
-  abbrev Rest : Pr
-  Rest = Cell (bytesAt shr (behind (q .buffer) (length f)) (drop (length f) d))
-
+    (held : σ ⊨ Cells (blocksOf q m) ∗ (Buffer (q .buffer) d ∗ F)) where
   room : Room u8 (length f)
   room = (omega (arith, fits .size), omega (arith, fits .size))
 
-  stored : ∥ ((σ₀ : machine.Memory) × Stores (q .buffer .0) (q .buffer .1) f σ σ₀ × (σ₀ ⊨ (Front ∗ Cells (blocksOf q m)) ∗ (Rest ∗ F))) ∥₁
-  stored =
-      ∥∥₁-map (held-stores f d σ (q .buffer) mut shr (Cells (blocksOf q m) ∗ F) (omega (arith, fits .size, whole)) (fits .bytes)
-      (weaken σ (swap (Cells (blocksOf q m)) (Buffer q d) F) held)) (λ t. (t .0, t .1, weaken (t .0) (to-call Front Rest (Cells (blocksOf q m)) F) (t .2)))
+  abbrev front : Pr
+  front = Front (q .buffer) f d (blocksOf q m) σ F
 
-  again : (m' : Memory) (σ' : machine.Memory) → σ' ⊨ (Front ∗ Cells (blocksOf q m')) ∗ (Rest ∗ F) → σ' ⊨ Cells (blocksOf q m') ∗ (Buffer q (f ++ drop (length f) d) ∗ F)
-  again m' σ' h =
-      weaken σ' (via closed.𝓤 (Cells (blocksOf q m') ∗ ((Front ∗ Rest) ∗ F)) (from-call Front Rest (Cells (blocksOf q m')) F)
-      (monoR closed.𝓤 (Cells (blocksOf q m')) (monoL closed.𝓤 F (buffer-again f d (q .buffer) shr mut)))) h
+  abbrev rest : Pr
+  rest = Rest (q .buffer) f d (blocksOf q m) σ F
 
-  as-long : length (f ++ drop (length f) d) ≡ n
-  as-long = simp (length-append, length-drop) (omega (arith, fits .size, whole))
+  kept : ∥ ((σ₀ : machine.Memory) × Stores (q .buffer .0) (q .buffer .1) f σ σ₀ × (σ₀ ⊨ (front ∗ Cells (blocksOf q m)) ∗ (rest ∗ F))) ∥₁
+  kept = stored (q .buffer) f d (blocksOf q m) σ F (omega (arith, fits .size, whole)) (fits .bytes) held
 
   -- the routine ρ has run from the host's stores on, and what it left is lent again
   called : (ρ : Routine) (Φ : Memory → ℕ → Type 0) (k : Stopped ρ q s f σ) (m' : Memory) (r : ℕ) → k .value ≡ vint w8 r → Lies q s (k .last) m' → Φ m' r → r < 256
-      → k .last ⊨ (Front ∗ Cells (blocksOf q m')) ∗ (Rest ∗ F) → Called ρ q s f Φ n σ F
+      → k .last ⊨ (front ∗ Cells (blocksOf q m')) ∗ (rest ∗ F) → Called ρ q s f Φ n σ F
   called ρ Φ k m' r v l x small h =
       record {
         last = k .last;
         memory = m';
         result = r;
-        buffer = f ++ drop (length f) d;
+        buffer = overwritten f d;
         runs = record {
           between = k .between;
           stores = k .stores;
@@ -170,8 +147,8 @@ module _ (q : Places) (s : Sizes) (rooms : RoomsAt s) (n : ℕ) (small : n < 2 ^
         };
         says = x;
         small = small;
-        size = as-long;
-        holds = again m' (k .last) h;
+        size = as-long f d (omega (arith, fits .size, whole)) ∙ whole;
+        holds = lent-again (q .buffer) f d (blocksOf q m') (k .last) F h;
       }
 
   -- the same sizes as before
@@ -180,8 +157,8 @@ module _ (q : Places) (s : Sizes) (rooms : RoomsAt s) (n : ℕ) (small : n < 2 ^
 
   pub configure-called : ∥ Called configure-symbol.routine q s f (λ m' r. Configures f m m' r) n σ F ∥₁
   configure-called =
-      ∥∥₁-elim stored ∥∥₁-prop (λ t.
-      ∥∥₁-map (configure-runs q f m (room, subst RoomsAt (sym sized) rooms) (t .0) (Rest ∗ F) (t .2)) (λ k.
+      ∥∥₁-elim kept ∥∥₁-prop (λ t.
+      ∥∥₁-map (configure-runs q f m (room, subst RoomsAt (sym sized) rooms) (t .0) (rest ∗ F) (t .2)) (λ k.
       let m' : Memory = leftByConfigure q f m (k .last) in
       let e : sizesOf m' ≡ s = (λ i. record { config = k .same .1 .0 i; tables = k .same .1 .1 .0 i; slots = k .same .1 .1 .1 .0 i; timers = k .same .1 .1 .1 .1 .0 i; answer = k .same .1 .1 .1 .1 .1 .0 i }) ∙ sized in
       let stop : Stopped configure-symbol.routine q s f σ = record { between = t .0; stores = t .1; fuel = k .fuel; value = k .value; last = k .memory; run = sizes configure-symbol.routine (k .run) } in
@@ -189,8 +166,8 @@ module _ (q : Places) (s : Sizes) (rooms : RoomsAt s) (n : ℕ) (small : n < 2 ^
 
   pub frame-called : ∥ Called frame-symbol.routine q s f (λ m' r. Frames f m m' r) n σ F ∥₁
   frame-called =
-      ∥∥₁-elim stored ∥∥₁-prop (λ t.
-      ∥∥₁-map (frame-runs q f m (room, subst RoomsAt (sym sized) rooms) (t .0) (Rest ∗ F) (t .2)) (λ k.
+      ∥∥₁-elim kept ∥∥₁-prop (λ t.
+      ∥∥₁-map (frame-runs q f m (room, subst RoomsAt (sym sized) rooms) (t .0) (rest ∗ F) (t .2)) (λ k.
       let m' : Memory = leftByFrame q f m (k .last) in
       let e : sizesOf m' ≡ s = (λ i. record { config = length (m .config); tables = k .same .1 .1 .0 i; slots = k .same .1 .1 .1 .0 i; timers = k .same .1 .1 .1 .1 .0 i; answer = k .same .1 .1 .1 .1 .1 .0 i }) ∙ sized in
       let stop : Stopped frame-symbol.routine q s f σ = record { between = t .0; stores = t .1; fuel = k .fuel; value = k .value; last = k .memory; run = sizes frame-symbol.routine (k .run) } in
@@ -208,10 +185,10 @@ pub record Fed (q : Places) (s : Sizes) (O : List Slice) (σ : machine.Memory) (
 
 -- O is what else lies in the memory
 pub feeds : (q : Places) (s : Sizes) → RoomsAt s → (n : ℕ) → n < 2 ^ 63 → {fs : List (List ℕ)} → Every (FitsBuffer n) fs → (O : List Slice) (m : Memory) → sizesOf m ≡ s
-    → (d : List ℕ) → length d ≡ n → (σ : machine.Memory) (F : Pr) → σ ⊨ Cells (blocksOf q m) ∗ (Buffer q d ∗ (Cells O ∗ F)) → ∥ Fed q s O σ m fs ∥₁
+    → (d : List ℕ) → length d ≡ n → (σ : machine.Memory) (F : Pr) → σ ⊨ Cells (blocksOf q m) ∗ (Buffer (q .buffer) d ∗ (Cells O ∗ F)) → ∥ Fed q s O σ m fs ∥₁
 feeds q s room n small nil O m e d w σ F h =
     let B : Pr = Cells (blocksOf q m) in
-    ∥∥₁-map (held-loads σ O F (weaken σ (via closed.𝓤 (Buffer q d ∗ (Cells O ∗ F)) (snd∗ closed.𝓤 B (Buffer q d ∗ (Cells O ∗ F))) (snd∗ closed.𝓤 (Buffer q d) (Cells O ∗ F))) h)) (λ o.
+    ∥∥₁-map (held-loads σ O F (weaken σ (via closed.𝓤 (Buffer (q .buffer) d ∗ (Cells O ∗ F)) (snd∗ closed.𝓤 B (Buffer (q .buffer) d ∗ (Cells O ∗ F))) (snd∗ closed.𝓤 (Buffer (q .buffer) d) (Cells O ∗ F))) h)) (λ o.
     record { answers = []; numbers = []; last = σ; memory = m; runs = none; calls = contracts.none; others = o })
 feeds q s room n small (cons {x = f} l ls) O m e d w σ F h =
     ∥∥₁-elim (frame-called q s room n small f l m e d w σ (Cells O ∗ F) h) ∥∥₁-prop (λ k.

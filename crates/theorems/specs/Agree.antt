@@ -1,4 +1,5 @@
--- Two executives that meet the contract don't differ: what each call leaves is the same function of a ledger that the memory shows, and every memory that is lent well shows one.
+-- Two executives that meet the contract don't differ: what each call leaves is the same function of a ledger that the memory
+-- shows, and every memory that is lent well shows one.
 use Prim.Native.Nat.{ℕ}
 use mathlib.Core.Path.{_≡_, refl, ap, sym, _∙_}
 use mathlib.Core.Bool.{Bool, true, false}

@@ -10,7 +10,7 @@ use Rattle.ledger.specs.Session.{step, runFrom}
 use Rattle.configuration.specs.Block.{configured, rule}
 use Rattle.mcx11.specs.Contract.{Memory, lentWell, Displays}
 use Rattle.theorems.specs.Calls.{FrameCalls, none, call}
-use Rattle.mcx11.specs.Answer.{answerOf, answer-is}
+use Rattle.mcx11.specs.Answer.{answer-is}
 use Rattle.theorems.specs.Numbers.{numbersFrom}
 use Rattle.mcx11.specs.Sizes.{full-kept}
 use Rattle.mcx11.specs.Displayed.{well-full, well-rule, displays-well}

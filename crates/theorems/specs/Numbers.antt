@@ -1,4 +1,5 @@
--- The numbers with which the ledger refuses the frames of a list, 0 for an accepted one. None is 11: every check has another number, and so has the first that fails.
+-- The numbers with which the ledger refuses the frames of a list, 0 for an accepted one. None is 11: every check has another
+-- number, and so has the first that fails.
 use Prim.Native.Nat.{ℕ}
 use mathlib.Core.Path.{_≡_, refl}
 use mathlib.Core.Bool.{Bool, true, false, cond, not, _&&_}

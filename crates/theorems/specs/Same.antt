@@ -23,7 +23,8 @@ use Rattle.theorems.specs.Numbers.{numbers, Not11, none-11, configuratio
 use Rattle.mcx11.specs.Displayed.{itemsIn, items-shown}
 use Rattle.theorems.specs.Follows.{Follows, follows}
 
--- the calls for the configuration g and the frames fs, with these answers and numbers, those of the configuration first, left the memory m
+-- the calls for the configuration g and the frames fs, with these answers and numbers, those of the configuration first, left the
+-- memory m
 pub record Same (g : List ℕ) (fs answered : List (List ℕ)) (returned : List ℕ) (m : Memory) : Type 0 where
   -- byte by byte, the answers are the ledger's
   pub answers : answered ≡ session g fs

@@ -1,4 +1,5 @@
--- Every memory that is lent well shows some ledger: its configuration block lays out the tables, and the full sizes have room for them.
+-- Every memory that is lent well shows some ledger: its configuration block lays out the tables, and the full sizes have room for
+-- them.
 use Prim.Native.Nat.{ℕ, _+_, _*_, _≤_}
 use mathlib.Core.Path.{_≡_, ap, sym, _∙_, subst}
 use mathlib.Core.Bool.{true}
