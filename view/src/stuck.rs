@@ -50,7 +50,7 @@ impl Wakers {
             _ => None,
         };
         deed.into_iter().for_each(|deed| self.add(deed));
-        for event in step.trail() {
+        for event in step.trail {
             if let Event::Due { semaphore, .. } = event {
                 self.add((Deed::Signals(*semaphore), Source::Timer));
             }

@@ -101,7 +101,7 @@ impl Summary {
             return count(&mut self.refusals, step.refusal(), step.number);
         }
         self.wakers.step(step);
-        for event in step.trail() {
+        for event in step.trail {
             if let Event::Lost { semaphore } = event {
                 count(&mut self.lost, *semaphore, step.number);
             }

@@ -103,7 +103,7 @@ impl Words<'_> {
         if step.answer[2] > 0 {
             said += &format!("; {} reissued", step.answer[2]);
         }
-        step.trail().iter().filter_map(|event| self.lost(event)).for_each(|lost| said += &lost);
+        step.trail.iter().filter_map(|event| self.lost(event)).for_each(|lost| said += &lost);
         said
     }
 
@@ -241,7 +241,7 @@ impl Asked<'_> {
         if step.tock {
             said += ", a tock passes";
         }
-        for event in step.trail() {
+        for event in step.trail {
             if let Event::Due { task, semaphore } = event {
                 let (task, semaphore) = (self.words.task(*task), self.words.semaphore(*semaphore));
                 said += &format!(", a timer of {task} signals {semaphore}");
