@@ -19,7 +19,8 @@ class View {
       const follow = event.target.closest("[data-follow]");
       if (follow) app.follow(follow.dataset.follow);
     });
-    new ResizeObserver(() => { this.list.reveal(this.frame); this.draw(); }).observe(part);
+    const resized = new ResizeObserver(() => { this.list.reveal(this.frame); this.draw(); });
+    for (const panel of part.querySelectorAll(".lanes-scroll, .list, .plots-scroll")) resized.observe(panel);
   }
 
   get frame() { return Math.min(this.app.frame, this.session.count - 1); }

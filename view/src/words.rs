@@ -60,6 +60,15 @@ impl Words<'_> {
         own.map_or_else(|| format!("semaphore {number}"), |name| format!("{name}'s own semaphore"))
     }
 
+    /// A semaphore in a sentence about a task: the task's own is its own, where only the task has a name.
+    fn semaphore_of(&self, task: u8, number: u8) -> String {
+        let own = task > 0 && number == self.configuration.semaphore_of_task(task);
+        if own && self.names.of('t', task).is_some() && self.names.of('s', number).is_none() {
+            return "its own semaphore".to_string();
+        }
+        self.semaphore(number)
+    }
+
     pub fn queue(&self, number: u8) -> String {
         format!("queue {}", self.names.of('q', number).map_or_else(|| number.to_string(), str::to_string))
     }
@@ -99,7 +108,7 @@ impl Words<'_> {
             let on = if step.running() == 0 { "runs" } else { "goes on" };
             return format!("refused {}, {rule}; {running} {on}", step.refusal());
         }
-        let mut said = format!("{running} runs{}", self.outcome(&step.answer[3..]));
+        let mut said = format!("{running} runs{}", self.outcome(step.running(), &step.answer[3..]));
         if step.answer[2] > 0 {
             said += &format!("; {} reissued", step.answer[2]);
         }
@@ -112,7 +121,7 @@ impl Words<'_> {
         Some(format!("; {} was DONE, a signal is lost", self.semaphore(*semaphore)))
     }
 
-    fn outcome(&self, outcome: &[u8]) -> String {
+    fn outcome(&self, task: u8, outcome: &[u8]) -> String {
         match outcome {
             [answer::BEGIN, ..] => ", begins".to_string(),
             [answer::MESSAGE, message, sender, _] => {
@@ -122,7 +131,7 @@ impl Words<'_> {
             [answer::REFUSED, number] => {
                 format!(", its request met {number}: {}", refusals::SHORT[usize::from(*number)])
             }
-            [answer::SEMAPHORE, number] => format!(", has {}", self.semaphore(*number)),
+            [answer::SEMAPHORE, number] => format!(", has {}", self.semaphore_of(task, *number)),
             _ => String::new(),
         }
     }
@@ -189,8 +198,8 @@ impl Asked<'_> {
         match (self.b, of) {
             (0, 0) => "its own semaphore".to_string(),
             (0, of) if of > self.words.configuration.tasks => format!("the own semaphore of task {of}"),
-            (0, of) => self.words.semaphore(self.words.configuration.semaphore_of_task(of)),
-            (named, _) => self.words.semaphore(named),
+            (0, of) => self.words.semaphore_of(self.caller, self.words.configuration.semaphore_of_task(of)),
+            (named, _) => self.words.semaphore_of(self.caller, named),
         }
     }
 
@@ -243,7 +252,7 @@ impl Asked<'_> {
         }
         for event in step.trail {
             if let Event::Due { task, semaphore } = event {
-                let (task, semaphore) = (self.words.task(*task), self.words.semaphore(*semaphore));
+                let (task, semaphore) = (self.words.task(*task), self.words.semaphore_of(*task, *semaphore));
                 said += &format!(", a timer of {task} signals {semaphore}");
             }
         }

@@ -166,7 +166,7 @@ fn what_a_frame_changed_is_marked_and_the_trail_told() {
         opened.browser.text("[...document.querySelectorAll('.trail li')].map(line => line.textContent).join(' ')");
     assert_eq!(trail, "The message wakes lap. The receive from gate of lap is issued again: it completes.");
     let head = opened.browser.text("document.querySelector('.tables .asked').textContent");
-    assert_eq!(head, "9  gate sends message 1 to lap with gate's own semaphore and waits");
+    assert_eq!(head, "9  gate sends message 1 to lap with its own semaphore and waits");
     opened.browser.eval("page.choose(12)");
     let since = opened.browser.text("document.querySelector('.tasks tr[data-key=t1] .since').textContent");
     assert_eq!(since, "#9 (3 frames)");
