@@ -214,5 +214,5 @@ fn a_million_frames_in_seconds_with_a_line_on_the_way() {
     println!("a million frames in words: {took:?}");
     assert_eq!(text(&output.stdout).lines().count(), plain_executive::session::lines(&input).count());
     assert!(text(&output.stderr).contains("view: 500,000 frames"), "{}", text(&output.stderr));
-    assert!(took.as_secs() < 30, "{took:?}");
+    assert!(took.as_secs() < 60, "{took:?}");
 }
