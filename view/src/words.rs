@@ -31,6 +31,20 @@ pub fn hex(bytes: &[u8]) -> String {
     bytes.iter().map(|byte| format!("{byte:02X}")).collect()
 }
 
+/// Which of a queue's semaphores.
+#[derive(Clone, Copy, PartialEq, Eq)]
+pub enum Side {
+    NotEmpty,
+    NotFull,
+}
+
+/// The queue whose semaphore this is.
+pub fn queue_of(configuration: &Configuration, semaphore: u8) -> Option<(u8, Side)> {
+    let behind = semaphore.checked_sub(configuration.nameable_semaphores())?.checked_sub(1)?;
+    let side = if behind % 2 == 0 { Side::NotEmpty } else { Side::NotFull };
+    (behind / 2 < configuration.queue_count()).then_some((behind / 2 + 1, side))
+}
+
 impl Words<'_> {
     pub fn task(&self, task: u8) -> String {
         match self.names.of('t', task) {
@@ -46,17 +60,16 @@ impl Words<'_> {
     }
 
     pub fn semaphore(&self, number: u8) -> String {
-        let Configuration { named_semaphores, .. } = *self.configuration;
-        let nameable = self.configuration.nameable_semaphores();
         if let Some(name) = self.names.of('s', number) {
             return format!("semaphore {name}");
         }
-        if number > nameable && number <= self.configuration.semaphores() {
-            let of = number - nameable - 1;
-            let side = if of % 2 == 0 { "not-empty" } else { "not-full" };
-            return format!("{side} of {}", self.queue(of / 2 + 1));
+        match queue_of(self.configuration, number) {
+            Some((queue, Side::NotEmpty)) => return format!("not-empty of {}", self.queue(queue)),
+            Some((queue, Side::NotFull)) => return format!("not-full of {}", self.queue(queue)),
+            None => {}
         }
-        let own = number.checked_sub(named_semaphores).and_then(|task| self.names.of('t', task));
+        let task = number.checked_sub(self.configuration.named_semaphores);
+        let own = task.and_then(|task| self.names.of('t', task));
         own.map_or_else(|| format!("semaphore {number}"), |name| format!("{name}'s own semaphore"))
     }
 
