@@ -85,7 +85,8 @@ class App {
   // A long session that is opened at a frame shows what lies around it.
   near() {
     const { axis, session } = this.main;
-    if (session.count > 4 * NEAR) axis.show(axis.position(Math.max(0, this.frame - NEAR)), axis.position(Math.min(session.count, this.frame + NEAR)));
+    const [from, to] = [Math.max(0, this.frame - NEAR), Math.min(session.count, this.frame + NEAR)];
+    if (session.count > 4 * NEAR) axis.show(axis.position(from), axis.position(to));
   }
 
   // The session with the most frames says how far the axis goes.
@@ -94,8 +95,10 @@ class App {
   }
 
   head(sessions, about) {
-    const lines = sessions.map(({ frames, tocks, found }) =>
-      `${counted(frames, "frame")}, ${counted(tocks[frames], "tock")}, ${found.refusals.length.toLocaleString("en")} refused, ${found.reissues.length.toLocaleString("en")} with reissues`);
+    const lines = sessions.map(({ frames, tocks, found: { refusals, reissues } }) => {
+      const marks = `${grouped(refusals.length)} refused, ${grouped(reissues.length)} with reissues`;
+      return `${counted(frames, "frame")}, ${counted(tocks[frames], "tock")}, ${marks}`;
+    });
     document.getElementById("about").textContent = lines.join(" | ");
     if (sessions.length < 2) return;
     const box = document.getElementById("differences");

@@ -9,8 +9,9 @@ function matcherOf(session, typed) {
   if (/^\d+$/.test(text) && session.refusals.includes(Number(text))) return (frame) => session.refusal(frame) === Number(text);
   const asked = Uint8Array.from(session.asked, ([digits, , , words]) => holds(digits, words, text));
   const answered = Uint8Array.from(session.answered, ([digits, words]) => holds(digits, words, text));
-  const both = text.includes(":") ? (frame) => `${session.askedWords(frame)}: ${session.answerWords(frame)}`.toLowerCase().includes(text) : () => false;
-  return (frame) => asked[session.ask[frame]] === 1 || answered[session.answer[frame]] === 1 || both(frame);
+  const whole = (frame) => `${session.askedWords(frame)}: ${session.answerWords(frame)}`.toLowerCase();
+  const across = text.includes(":") ? (frame) => whole(frame).includes(text) : () => false;
+  return (frame) => asked[session.ask[frame]] === 1 || answered[session.answer[frame]] === 1 || across(frame);
 }
 
 const holds = (digits, words, text) => words.toLowerCase().includes(text) || digits.toLowerCase() === text ? 1 : 0;
@@ -70,9 +71,13 @@ class Search {
 
   count() {
     let count = 0;
-    const test = inAny(this.app.sessions, (session) => this.matchers.get(session));
+    const test = this.test();
     for (let frame = 0; frame < this.app.main.session.count; frame++) if (test(frame)) count++;
     return count;
+  }
+
+  test() {
+    return inAny(this.app.sessions, (session) => this.matchers.get(session));
   }
 
   matches(session, frame) {
@@ -82,7 +87,7 @@ class Search {
 
   next(way) {
     if (this.looked !== this.input.value) this.look();
-    if (this.matchers.size) this.app.goNext(way, inAny(this.app.sessions, (session) => this.matchers.get(session)), "no more matches");
+    if (this.matchers.size) this.app.goNext(way, this.test(), "no more matches");
   }
 
   say(text) {
