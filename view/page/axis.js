@@ -101,7 +101,8 @@ class Axis {
   reveal(frame) {
     const size = this.window.to - this.window.from;
     const place = this.position(frame);
-    if (place < this.window.from + size * 0.02 || place > this.window.to - size * 0.05) this.move(place - size / 2 - this.window.from);
+    const seen = place >= this.window.from + size * 0.02 && place <= this.window.to - size * 0.05;
+    if (!seen) this.move(place - size / 2 - this.window.from);
   }
 }
 

@@ -33,7 +33,7 @@ function drawScale(pen, paint, axis, session) {
     pen.fillStyle = paint.line;
     pen.fillRect(x, y - 7, 1, 14);
     pen.fillStyle = paint.quiet;
-    pen.fillText(at.toLocaleString("en"), x + 4, y);
+    pen.fillText(grouped(at), x + 4, y);
   }
 }
 
@@ -170,16 +170,20 @@ class Overview {
     lane.from.forEach((from, place) => busy.add(from, lane.value[place] === LANE.running ? LANE.none : LANE.running));
     if (busy.from[0] !== 0) busy.from.unshift(0), busy.value.unshift(LANE.running);
     paintSteps(new Strip(pen, paint, 14, height - 16), busy, whole);
-    for (const [frames, colour, top] of [[session.found.refusals, paint.refused, 1], [session.found.reissues, paint.reissued, 7]]) {
-      pen.fillStyle = colour;
-      let before = -1;
-      for (const frame of frames) {
-        const x = Math.floor(whole.x(frame));
-        if (x !== before) pen.fillRect(x, top, 1.5, 5);
-        before = x;
-      }
-    }
+    this.marks(pen, whole, session.found.refusals, paint.refused, 1);
+    this.marks(pen, whole, session.found.reissues, paint.reissued, 7);
     pen.restore();
+  }
+
+  // At most one a pixel.
+  marks(pen, whole, frames, colour, top) {
+    pen.fillStyle = colour;
+    let before = -1;
+    for (const frame of frames) {
+      const x = Math.floor(whole.x(frame));
+      if (x !== before) pen.fillRect(x, top, 1.5, 5);
+      before = x;
+    }
   }
 
   draw(paint) {

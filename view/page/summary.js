@@ -37,14 +37,15 @@ class Summary {
     this.box.append(element("h2", "", "Busiest stretch"));
     const line = element("p");
     const input = element("input");
-    Object.assign(input, { type: "number", min: 1, max: session.count, value: clamp(Math.round(session.count / 10), 1, STRETCH) });
+    const value = clamp(Math.round(session.count / 10), 1, STRETCH);
+    Object.assign(input, { type: "number", min: 1, max: session.count, value });
     input.setAttribute("aria-label", "Frames of the stretch");
     const told = element("span", "busiest");
     const tell = () => {
       const width = clamp(Number(input.value) || 1, 1, session.count);
       const { from, work } = busiestStretch(session, width);
       told.replaceChildren(" frames: from ", frameLink(from), " to ", frameLink(from + width - 1),
-        `, ${work.toLocaleString("en")} services, interrupts and reissues`);
+        `, ${grouped(work)} services, interrupts and reissues`);
     };
     input.addEventListener("input", tell);
     tell();

@@ -1,7 +1,8 @@
 // All tables after the chosen frame, in words, with what the frame changed.
 
 const hexOf = (bytes) => Array.from(bytes, (byte) => byte.toString(16).padStart(2, "0").toUpperCase()).join("");
-const counted = (count, what) => `${count.toLocaleString("en")} ${what}${count === 1 ? "" : "s"}`;
+const grouped = (count) => count.toLocaleString("en");
+const counted = (count, what) => `${grouped(count)} ${what}${count === 1 ? "" : "s"}`;
 
 // Things by their names, as src/words.rs says them.
 class Speech {
@@ -17,7 +18,8 @@ class Speech {
   semaphore(number) {
     const name = this.names.get(`s${number}`);
     if (name) return `semaphore ${name}`;
-    if (number > this.nameable) return `${this.isNotFull(number) ? "not-full" : "not-empty"} of ${this.queue(this.queueOf(number))}`;
+    const side = this.isNotFull(number) ? "not-full" : "not-empty";
+    if (number > this.nameable) return `${side} of ${this.queue(this.queueOf(number))}`;
     const owner = number > this.named && this.names.get(`t${number - this.named}`);
     return owner ? `${owner}'s own semaphore` : `semaphore ${number}`;
   }
@@ -144,8 +146,9 @@ class Tables {
     const asked = element("p", "asked", `${frame}  ${session.askedWords(frame)}`);
     if (session.refusal(frame)) asked.classList.add("refused");
     const { ticks, milliseconds } = session.configuration;
-    const seconds = ((state.tocks + state.ticks / ticks) * milliseconds / 1000).toLocaleString("en");
-    const digits = element("p", "quiet", `frame ${frame.toLocaleString("en")} of ${session.frames.toLocaleString("en")}, tock ${state.tocks.toLocaleString("en")}, tick ${state.ticks} of ${ticks}, ${seconds} s: `);
+    const seconds = grouped((state.tocks + state.ticks / ticks) * milliseconds / 1000);
+    const when = `tock ${grouped(state.tocks)}, tick ${state.ticks} of ${ticks}, ${seconds} s`;
+    const digits = element("p", "quiet", `frame ${grouped(frame)} of ${grouped(session.frames)}, ${when}: `);
     digits.append(element("span", "digits", `${session.askedDigits(frame)} \u2192 ${session.answerDigits(frame)}`));
     const answer = element("p", "answer", session.answerWords(frame));
     answer.prepend("\u2192 ");
@@ -188,7 +191,10 @@ class Tables {
       cell.textContent = text;
       if (name === "queues" && place === 1) cell.className = "entries";
       if (name === "tasks" && place === 4) cell.className = "digits";
-      if (!before || before.cells[place] !== text) cell.classList.add("changed"), cell.title = before ? `before: ${before.cells[place]}` : "new";
+      if (!before || before.cells[place] !== text) {
+        cell.classList.add("changed");
+        cell.title = before ? `before: ${before.cells[place]}` : "new";
+      }
       const theirs = other && other.get(key);
       if (other && !row.gone && (theirs ? theirs.cells[place] : "") !== text) cell.classList.add("differs");
       if (row.bar !== undefined && place === 0) line.insertCell().append(bar(row.bar));
