@@ -11,6 +11,7 @@ use crate::queues::Queues;
 use crate::semaphore::Semaphore;
 use crate::tasks::Tasks;
 use crate::timers::Timers;
+use crate::trail::Event;
 
 #[derive(Clone, Debug)]
 pub struct Executive {
@@ -23,6 +24,7 @@ pub struct Executive {
     pub(crate) queues: Queues,
     pub(crate) timers: Timers,
     pub(crate) history: Option<Vec<History>>,
+    pub(crate) trail: Option<Vec<Event>>,
     /// In a state that was given, several semaphores may be WAITING with one task.
     pub(crate) restored: bool,
 }
@@ -41,6 +43,7 @@ impl Executive {
             queues: Queues::fresh(&configuration.queues),
             timers: Timers::fresh(configuration.timers),
             history: None,
+            trail: None,
             restored: false,
             configuration,
         }
@@ -52,6 +55,7 @@ impl Executive {
     }
 
     pub fn frame(&mut self, frame: &[u8]) -> Answer {
+        self.begin_trail();
         match command::read(self, frame) {
             Err(refusal) => self.answer(refusal, 0),
             Ok(command) => {

@@ -5,6 +5,7 @@ use crate::executive::Executive;
 use crate::semaphore::Semaphore;
 use crate::tasks::{Block, Letter, Outcome, Request, SLOT_BYTES};
 use crate::timers::Start;
+use crate::trail::Event;
 
 impl Executive {
     pub(crate) fn carry_out(&mut self, command: Command) {
@@ -61,6 +62,9 @@ impl Executive {
     pub(crate) fn signal(&mut self, semaphore: u8) -> u8 {
         let woken = self.wake(semaphore);
         if woken == 0 {
+            if self.semaphore(semaphore) == Semaphore::Done {
+                self.note(Event::Lost { semaphore });
+            }
             self.set_semaphore(semaphore, Semaphore::Done);
         }
         woken
@@ -74,12 +78,16 @@ impl Executive {
         self.set_semaphore(semaphore, Semaphore::Pending);
         self.tasks.get_mut(task).waits_on = 0;
         self.tasks.unblock(task, Block::EventWait);
+        self.note(Event::Woken { task, semaphore });
         task
     }
 
     fn send(&mut self, own: u8, to: u8, letter: Letter) {
         self.mailboxes.insert(to, letter);
-        self.tasks.unblock(to, Block::MessageWait);
+        if self.tasks.get(to).blocks().has(Block::MessageWait) {
+            self.tasks.unblock(to, Block::MessageWait);
+            self.note(Event::Woken { task: to, semaphore: 0 });
+        }
         self.set_outcome(own, Outcome::Semaphore(letter.semaphore));
     }
 
@@ -163,6 +171,7 @@ impl Executive {
             return;
         }
         while let Some(timer) = self.timers.take_due(self.clock.tocks()) {
+            self.note(Event::Due { task: timer.task, semaphore: timer.semaphore });
             if (1..=self.configuration.semaphores()).contains(&timer.semaphore) {
                 self.signal(timer.semaphore);
             }

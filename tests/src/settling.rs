@@ -3,6 +3,7 @@
 use crate::executive::Executive;
 use crate::numbers::Number;
 use crate::tasks::{Outcome, Request};
+use crate::trail::{Ended, Event};
 
 impl Executive {
     /// Counts the reissues.
@@ -15,8 +16,14 @@ impl Executive {
                 return reissues;
             }
             self.tasks.get_mut(own).request = Request::None;
+            let noted = self.trail().len();
+            self.note(Event::Issued { task: own, request, ended: Ended::Completed });
             if let Err(number) = self.reissue(own, request) {
                 self.set_outcome(own, Outcome::Refused(number));
+                self.note_end(noted, Ended::Refused(number));
+            }
+            if self.tasks.get(own).request != Request::None {
+                self.note_end(noted, Ended::Waits);
             }
             reissues += 1;
         }

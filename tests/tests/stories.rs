@@ -20,7 +20,7 @@ fn stories() -> BTreeSet<String> {
     let names = files.map(|file| file.unwrap().file_name().into_string().unwrap());
     let story = |name: String| {
         let (story, ending) = name.rsplit_once('.').unwrap_or((&name, ""));
-        assert!(["session", "answers", "md"].contains(&ending), "examples/{name} belongs to no story");
+        assert!(["session", "answers", "md", "names"].contains(&ending), "examples/{name} belongs to no story");
         story.to_string()
     };
     names.filter(|name| name != "README.md").map(story).collect()

@@ -3,7 +3,7 @@ use mathlib.Core.Path.{_≡_, refl, sym, subst}
 use mathlib.Core.List.{List}
 use Prim.Native.Nat.{ℕ, zero, suc, _+_, _-_, _≤_}
 use native.Mathlib.Omega.{arith}
-use lib.ListN.{length, getD, drop, length-append, length-take, length-drop}
+use lib.ListN.{length, getD, drop, length-take}
 use lib.Seq.{take-at}
 use Rattle.rows.specs.Splice.{cut}
 use Rattle.rows.specs.Rows.{rowAt}
@@ -29,10 +29,6 @@ module _ (a old : List ℕ) where
   unfolding written
   read-answer = let e : 1 + length a - 1 ≡ length a = omega arith in rw e (take-at a (drop (suc (length a)) old) (length a) refl)
 
-  pub written-length : suc (length a) ≤ length old → length (written a old) ≡ length old
-  unfolding written
-  written-length h = simp (length-append, length-drop) (omega arith)
-
 -- 1 to 17 bytes show an outcome
 abbrev Short : List ℕ → Type 0
 Short l = (1 ≤ length l) × (length l ≤ 17)
@@ -51,8 +47,8 @@ module _ (c : Config) (s : Shape) (L : Ledger) (d z w : List ℕ) (h : Shows c s
   unfolding task at shown viewTask
   task-short zero hi = (omega arith, omega arith)
   task-short (suc t) hi =
-      subst (λ (k : ledger.Task). Short (shown (k .outcome))) (sym (shown-task c s L d z w h (suc t) (omega arith) hi))
-      (view-short (record-is c s L d z w h (suc t) (omega arith) hi .outcome) (rowAt 16 (suc t - 1) z) (simp length-take (omega arith)))
+      subst (λ (k : ledger.Task). Short (shown (k .outcome))) (sym (shown-task c s L d z w h (suc t) (omega arith, hi)))
+      (view-short (record-is c s L d z w h (suc t) (omega arith, hi) .outcome) (rowAt 16 (suc t - 1) z) (simp length-take (omega arith)))
 
   -- so the block of 21 bytes has room for every answer
   pub answer-short : running L ≤ s .tasks → (n m : ℕ) → (4 ≤ length (answer n m L)) × (length (answer n m L) ≤ 20)

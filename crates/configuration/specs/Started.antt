@@ -10,7 +10,7 @@ use borrow.Rule.Slice.PartMut.{putMid}
 use Rattle.rows.specs.Splice.{cut, splice}
 use Rattle.rows.specs.Laws.{length-cut, length-splice}
 use Rattle.ledger.specs.Lists.{byte}
-use Rattle.ledger.specs.Config.{Config, configIn, configRefusal}
+use Rattle.ledger.specs.Config.{Config, configIn, configRefusal, controller}
 use Rattle.ledger.specs.Ledger.{fresh}
 use Rattle.tables.specs.declared.shape.Shape.{Shape}
 use Rattle.tables.specs.Layout.{Fits, fitting}
@@ -24,7 +24,7 @@ use Rattle.configuration.specs.Written.{splice-in, lent-part}
 -- the block holds the frame's configuration and keeps the rule; the memory shows the fresh ledger, in the shape that the block has
 pub record Started (f g d z w : List ℕ) : Type 0 where
   pub holds : configured g ≡ configIn f
-  pub keeps : rule (configured g) ≡ true
+  pub keeps : rule controller (configured g) ≡ true
   pub shows : (s : Shape) → Of (configIn f) s → Shows (configIn f) s (fresh (configIn f)) d z w
 
 module _ (f : List ℕ) (zero : configRefusal f ≡ 0) where
@@ -88,7 +88,7 @@ module _ (f : List ℕ) (zero : configRefusal f ≡ 0) where
             let h : configured g ≡ c = configured-in f ok g (drop (0 + length f) g₀) eg in
             record {
               holds = h;
-              keeps = ap rule h ∙ ok .rule;
+              keeps = ap (rule controller) h ∙ ok .rule;
               shows = λ u p.
                   let l = p .laid in
                   fresh-shows c u p d z' (set w 0 0) (accepted-states f ok) (ok .states) (fresh-here u p)

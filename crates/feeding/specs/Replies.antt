@@ -25,10 +25,10 @@ use Rattle.line.specs.declared.Written.{Written}
 use Rattle.line.specs.declared.Written.the-variants as written-as
 use Rattle.executive.specs.Carried.{never}
 use Rattle.mcx11.specs.Contract.{Memory, memory, lentWell, Displays, SameSizes, answering, Configures, Frames}
-use Rattle.mcx11.specs.Calls.{answerOf}
+use Rattle.mcx11.specs.Answer.{answerOf}
 use Rattle.mcx11.specs.Sizes.{Full, sizes-full, full-kept}
 use Rattle.mcx11.specs.Displayed.{well-full, well-rule, displays-well, answer-short, step-short}
-use Rattle.mcx11.specs.Follows.{answer-is}
+use Rattle.mcx11.specs.Answer.{answer-is}
 use Rattle.feeding.specs.declared.Stage.{Stage}
 use Rattle.feeding.specs.declared.Stage.the-variants.{First, Running, Ended}
 use Rattle.feeding.specs.Input.{Stands, first, runs, over, Reply, configures, steps}

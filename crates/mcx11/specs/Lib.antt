@@ -2,14 +2,5 @@ pub mod Results
 pub mod Contract
 pub mod Sizes
 pub mod Feeding
-pub mod Calls
-pub mod Numbers
+pub mod Answer
 pub mod Displayed
-pub mod Follows
-pub mod Whole
-pub mod Some
-pub mod Agree
-pub mod Glued
-pub mod Pended
-pub mod Encode
-pub mod Exists
