@@ -19,8 +19,8 @@ const PAPERS: [&str; 5] = ["README.md", "docs/HOST.md", "docs/FRAMES.md", "examp
 /// Commands that the gate itself runs, before these tests or around them.
 const OF_THE_GATE: [&str; 2] = ["./test", "rt staticlib mcx11"];
 
-/// Sections whose blocks of four blanks are no snippets: a list of folders; and one that has a test of its own.
-const ELSEWHERE: [&str; 2] = ["## What is here", "## See a session"];
+/// The section whose block of four blanks is a list of folders, and no snippet.
+const FOLDERS: &str = "## What is here";
 
 struct Snippet {
     kind: String,
@@ -43,7 +43,7 @@ fn snippets(paper: &str) -> Vec<Snippet> {
         } else {
             section = if line.starts_with("## ") { line } else { section };
             let block = line.starts_with("    ") && before.ends_with("\n\n");
-            assert!(!block || ELSEWHERE.contains(&section), "{place}: fence it, and say sh, text, c, cmake or picture");
+            assert!(!block || section == FOLDERS, "{place}: fence it, and say sh, text, c, cmake or picture");
             before += line;
             before.push('\n');
         }
