@@ -11,7 +11,7 @@ use crate::queues::Queues;
 use crate::semaphore::Semaphore;
 use crate::tasks::Tasks;
 use crate::timers::Timers;
-use crate::trail::Event;
+use crate::trail::Notes;
 
 #[derive(Clone, Debug)]
 pub struct Executive {
@@ -24,7 +24,6 @@ pub struct Executive {
     pub(crate) queues: Queues,
     pub(crate) timers: Timers,
     pub(crate) history: Option<Vec<History>>,
-    pub(crate) trail: Option<Vec<Event>>,
     /// In a state that was given, several semaphores may be WAITING with one task.
     pub(crate) restored: bool,
 }
@@ -43,7 +42,6 @@ impl Executive {
             queues: Queues::fresh(&configuration.queues),
             timers: Timers::fresh(configuration.timers),
             history: None,
-            trail: None,
             restored: false,
             configuration,
         }
@@ -55,12 +53,16 @@ impl Executive {
     }
 
     pub fn frame(&mut self, frame: &[u8]) -> Answer {
-        self.begin_trail();
+        self.frame_noting(frame, &mut ())
+    }
+
+    /// Tells what the frame does on its way.
+    pub fn frame_noting(&mut self, frame: &[u8], notes: &mut impl Notes) -> Answer {
         match command::read(self, frame) {
             Err(refusal) => self.answer(refusal, 0),
             Ok(command) => {
-                self.carry_out(command);
-                let reissues = self.settle();
+                self.carry_out(command, notes);
+                let reissues = self.settle(notes);
                 self.answer(0, reissues)
             }
         }

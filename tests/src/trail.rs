@@ -1,6 +1,5 @@
-//! What a frame did on its way, for those who look at a session: the state behind it does not show all of this.
+//! What a frame does on its way, for those who look at a session: the state behind it does not show all of this.
 
-use crate::executive::Executive;
 use crate::numbers::Number;
 use crate::tasks::Request;
 
@@ -23,33 +22,30 @@ pub enum Ended {
     Refused(Number),
 }
 
-impl Executive {
-    /// From now on each frame's trail is kept.
-    pub fn keep_trail(&mut self) {
-        self.trail = Some(Vec::new());
+/// Whoever is told. Nobody is, unless a frame is fed with a list: then it costs nothing.
+pub trait Notes {
+    fn note(&mut self, event: Event);
+    /// How the request ended that was issued last.
+    fn end(&mut self, how: Ended);
+}
+
+impl Notes for () {
+    fn note(&mut self, _: Event) {}
+    fn end(&mut self, _: Ended) {}
+}
+
+impl Notes for Vec<Event> {
+    fn note(&mut self, event: Event) {
+        self.push(event);
     }
 
-    /// Of the last frame, in order; empty if none is kept.
-    pub fn trail(&self) -> &[Event] {
-        self.trail.as_deref().unwrap_or_default()
-    }
-
-    pub(crate) fn begin_trail(&mut self) {
-        if let Some(trail) = &mut self.trail {
-            trail.clear();
-        }
-    }
-
-    pub(crate) fn note(&mut self, event: Event) {
-        if let Some(trail) = &mut self.trail {
-            trail.push(event);
-        }
-    }
-
-    /// How the request ended that was noted at this place as completed.
-    pub(crate) fn note_end(&mut self, place: usize, now: Ended) {
-        if let Some(Event::Issued { ended, .. }) = self.trail.as_mut().and_then(|trail| trail.get_mut(place)) {
-            *ended = now;
+    fn end(&mut self, how: Ended) {
+        let issued = self.iter_mut().rev().find_map(|event| match event {
+            Event::Issued { ended, .. } => Some(ended),
+            _ => None,
+        });
+        if let Some(ended) = issued {
+            *ended = how;
         }
     }
 }

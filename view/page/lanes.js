@@ -22,7 +22,7 @@ class Paint {
     const pen = tile.getContext("2d");
     pen.fillStyle = colour;
     pen.fillRect(0, 0, 8, 8);
-    pen.strokeStyle = pen.fillStyle = "rgba(0, 0, 0, 0.38)";
+    pen.strokeStyle = pen.fillStyle = lane === LANE.suspended ? "rgba(255, 255, 255, 0.5)" : "rgba(0, 0, 0, 0.38)";
     pen.beginPath();
     if (lane === LANE.event) for (const at of [-4, 4, 12]) pen.moveTo(at - 5, 9), pen.lineTo(at + 5, -1);
     if (lane === LANE.suspended) pen.moveTo(2.5, 0), pen.lineTo(2.5, 8);

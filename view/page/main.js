@@ -1,5 +1,7 @@
 // The page: its views, what is chosen, keys and the link to a frame.
 
+const NEAR = 100; // frames on either side of one that a link leads to
+
 // One session's lanes, list, tables and plots.
 class View {
   constructor(app, session, part) {
@@ -17,7 +19,8 @@ class View {
       const follow = event.target.closest("[data-follow]");
       if (follow) app.follow(follow.dataset.follow);
     });
-    new ResizeObserver(() => { this.list.reveal(this.frame); this.draw(); }).observe(part);
+    const resized = new ResizeObserver(() => { this.list.reveal(this.frame); this.draw(); });
+    for (const panel of part.querySelectorAll(".lanes-scroll, .list, .plots-scroll")) resized.observe(panel);
   }
 
   get frame() { return Math.min(this.app.frame, this.session.count - 1); }
@@ -26,7 +29,7 @@ class View {
   follow(key) { this.app.follow(key); }
   moved() { this.app.draw(); }
   draw() { this.app.draw(); }
-  matches(frame) { return this.app.search.matcher !== null && this.app.search.matcher(frame); }
+  matches(frame) { return this.app.search.matches(this.session, frame); }
 
   // Whether the other session has other words at a frame.
   differs(frame) {
@@ -52,6 +55,7 @@ class View {
 
 class App {
   constructor(sessions, about) {
+    this.sessions = sessions;
     this.window = new Window();
     this.frame = 0;
     this.subject = "";
@@ -74,7 +78,14 @@ class App {
     addEventListener("keydown", (event) => this.key(event));
     addEventListener("beforeprint", () => this.print(true));
     addEventListener("afterprint", () => this.print(false));
-    if (!this.fromLink()) this.choose(0, { still: true });
+    if (this.fromLink()) this.near();
+    else this.choose(0, { still: true });
+  }
+
+  // A long session that is opened at a frame shows what lies around it.
+  near() {
+    const { axis, session } = this.main;
+    if (session.count > 4 * NEAR) axis.show(axis.position(Math.max(0, this.frame - NEAR)), axis.position(Math.min(session.count, this.frame + NEAR)));
   }
 
   // The session with the most frames says how far the axis goes.
@@ -183,16 +194,17 @@ class App {
   }
 
   next(kind, way) {
-    const { session } = this.main;
-    if (kind === "touch" && !this.subject) this.follow(`t${session.running(this.frame) || 1}`);
-    const test = kind === "refusal" ? (frame) => session.refusal(frame) > 0
-      : kind === "reissue" ? (frame) => session.reissues(frame) > 0
-      : session.toucher(this.subject);
-    this.goNext(way, test, `no more: ${kind}`);
+    if (kind === "touch" && !this.subject) this.follow(`t${this.main.session.running(this.frame) || 1}`);
+    const testOf = {
+      refusal: (session) => (frame) => session.refusal(frame) > 0,
+      reissue: (session) => (frame) => session.reissues(frame) > 0,
+      touch: (session) => session.toucher(this.subject),
+    }[kind];
+    this.goNext(way, inAny(this.sessions, testOf), `no more: ${kind}`);
   }
 
   goNext(way, test, none) {
-    const frame = nextFrame(this.main.session, this.frame, way, test);
+    const frame = nextFrame(this.main.session.count, this.frame, way, test);
     if (frame >= 0) this.choose(frame);
     else this.search.say(none);
   }

@@ -22,9 +22,15 @@ function keyOf(text) {
 }
 
 // The next frame in a direction that passes a test, or -1.
-function nextFrame(session, from, way, test) {
-  for (let frame = from + way; frame >= 0 && frame < session.count; frame += way) if (test(frame)) return frame;
+function nextFrame(count, from, way, test) {
+  for (let frame = from + way; frame >= 0 && frame < count; frame += way) if (test(frame)) return frame;
   return -1;
+}
+
+// A test that holds where it holds for one of the sessions.
+function inAny(sessions, testOf) {
+  const tests = sessions.map(testOf);
+  return (frame) => sessions.some((session, place) => frame < session.count && tests[place](frame));
 }
 
 class Search {
@@ -32,7 +38,7 @@ class Search {
     this.app = app;
     this.input = document.getElementById("search");
     this.found = document.getElementById("found");
-    this.matcher = null;
+    this.matchers = new Map(); // by session
     this.input.addEventListener("input", () => this.typed());
     this.input.addEventListener("keydown", (event) => {
       if (event.key === "Enter") this.next(event.shiftKey ? -1 : 1);
@@ -40,10 +46,6 @@ class Search {
     });
     document.getElementById("find").addEventListener("click", () => this.next(1));
     document.getElementById("find-back").addEventListener("click", () => this.next(-1));
-  }
-
-  get session() {
-    return this.app.views[0].session;
   }
 
   typed() {
@@ -56,17 +58,31 @@ class Search {
     clearTimeout(this.later);
     this.looked = this.input.value;
     const frame = /^#(\d+)$/.exec(this.looked.trim());
-    this.matcher = frame ? null : matcherOf(this.session, this.looked);
+    this.matchers.clear();
+    for (const session of this.app.sessions) {
+      const matcher = frame ? null : matcherOf(session, this.looked);
+      if (matcher) this.matchers.set(session, matcher);
+    }
     if (frame) this.app.choose(Number(frame[1]));
-    let count = 0;
-    if (this.matcher) for (let at = 0; at < this.session.count; at++) if (this.matcher(at)) count++;
-    this.found.textContent = this.matcher ? counted(count, "frame") : "";
+    this.found.textContent = this.matchers.size ? counted(this.count(), "frame") : "";
     this.app.draw();
+  }
+
+  count() {
+    let count = 0;
+    const test = inAny(this.app.sessions, (session) => this.matchers.get(session));
+    for (let frame = 0; frame < this.app.main.session.count; frame++) if (test(frame)) count++;
+    return count;
+  }
+
+  matches(session, frame) {
+    const matcher = this.matchers.get(session);
+    return matcher !== undefined && matcher(frame);
   }
 
   next(way) {
     if (this.looked !== this.input.value) this.look();
-    if (this.matcher) this.app.goNext(way, this.matcher, "no more matches");
+    if (this.matchers.size) this.app.goNext(way, inAny(this.app.sessions, (session) => this.matchers.get(session)), "no more matches");
   }
 
   say(text) {

@@ -113,7 +113,7 @@ impl<'a> Writer<'a> {
         if let Some(what) = items.as_ref().and_then(|items| unequal_items(items, &step.other.items())) {
             return Err(Stop::Differs(what));
         }
-        self.changes.frame(items, step.other.clock().tocks(), step.trail());
+        self.changes.frame(items, step.other.clock().tocks(), step.trail);
         self.summary.step(step, self.changes.before());
         Ok(())
     }

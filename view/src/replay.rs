@@ -22,6 +22,7 @@ pub struct Replay {
     call: Call,
     memory: Lent,
     other: Executive,
+    trail: Vec<Event>,
     answer: Vec<u8>,
     frames: usize,
 }
@@ -37,6 +38,8 @@ pub struct Step<'run> {
     pub answer: &'run [u8],
     /// Whether a tock passed.
     pub tock: bool,
+    /// What the frame did on its way.
+    pub trail: &'run [Event],
     /// After the step.
     pub memory: &'run Lent,
     pub other: &'run Executive,
@@ -49,14 +52,6 @@ impl Step<'_> {
 
     pub fn running(&self) -> u8 {
         self.answer[1]
-    }
-
-    pub fn trail(&self) -> &[Event] {
-        if self.frame.is_some() {
-            self.other.trail()
-        } else {
-            &[]
-        }
     }
 }
 
@@ -75,10 +70,9 @@ impl Replay {
         if other.as_ref().err().copied().unwrap_or(0) != number {
             return Err(Stop::Differs(format!("the configuration is answered with {number}, the other has {other:?}")));
         }
-        let mut other = other.map_err(Stop::Refused)?;
-        other.keep_trail();
+        let other = other.map_err(Stop::Refused)?;
         let answer = memory.answered().to_vec();
-        Ok(Replay { call, memory, other, answer, frames: 0 })
+        Ok(Replay { call, memory, other, trail: Vec::new(), answer, frames: 0 })
     }
 
     pub fn other(&self) -> &Executive {
@@ -88,12 +82,13 @@ impl Replay {
     /// The configuration as a step.
     pub fn first<'run>(&'run self, line: &'run [u8]) -> Step<'run> {
         let Replay { memory, other, answer, .. } = self;
-        Step { number: 0, line, frame: Some(line), caller: 0, answer, tock: false, memory, other }
+        Step { number: 0, line, frame: Some(line), caller: 0, answer, tock: false, trail: &[], memory, other }
     }
 
     /// Feeds a line. `room` holds its frame.
     pub fn feed<'run>(&'run mut self, line: &'run [u8], room: &'run mut [u8; MOST_BYTES]) -> Result<Step<'run>, Stop> {
         self.frames += 1;
+        self.trail.clear();
         let (caller, tocks) = (self.other.running(), self.other.clock().tocks());
         let frame = c::read_line(line, room).ok().map(|length| &room[..length]);
         match frame {
@@ -107,6 +102,7 @@ impl Replay {
             caller,
             answer: &self.answer,
             tock: self.other.clock().tocks() != tocks,
+            trail: &self.trail,
             memory: &self.memory,
             other: &self.other,
         })
@@ -115,7 +111,7 @@ impl Replay {
     /// Feeds a frame to both, and compares their answers.
     fn both(&mut self, frame: &[u8]) -> Result<(), Stop> {
         let number = (self.call)(&mut self.memory, frame);
-        let other = self.other.frame(frame);
+        let other = self.other.frame_noting(frame, &mut self.trail);
         self.answer.clear();
         self.answer.extend_from_slice(self.memory.answered());
         if self.answer == other.bytes() && number == other.refusal() {

@@ -9,7 +9,7 @@ use plain_executive::trail::Event;
 use crate::json::Json;
 use crate::replay::Step;
 use crate::summary::{caused, table, Cause, Wait};
-use crate::words::{counted, Words};
+use crate::words::{counted, queue_of, Side, Words};
 
 #[derive(Clone, Copy, PartialEq, Eq, PartialOrd, Ord)]
 enum Source {
@@ -50,7 +50,7 @@ impl Wakers {
             _ => None,
         };
         deed.into_iter().for_each(|deed| self.add(deed));
-        for event in step.trail() {
+        for event in step.trail {
             if let Event::Due { semaphore, .. } = event {
                 self.add((Deed::Signals(*semaphore), Source::Timer));
             }
@@ -74,17 +74,12 @@ impl Wakers {
     }
 
     fn could(&self, words: &Words, items: &Items, task: u8, cause: Cause, stuck: &BTreeSet<u8>) -> String {
-        let first_of_queues = words.configuration.nameable_semaphores() + 1;
         let (deed, how) = match cause {
-            Cause::Semaphore(number) if number >= first_of_queues => {
-                let (queue, room) = ((number - first_of_queues) / 2 + 1, (number - first_of_queues) % 2 == 1);
-                if room {
-                    (Deed::TakesFrom(queue), format!("a take from {}", words.queue(queue)))
-                } else {
-                    (Deed::PutsInto(queue), format!("a put into {}", words.queue(queue)))
-                }
-            }
-            Cause::Semaphore(number) => (Deed::Signals(number), format!("a signal of {}", words.semaphore(number))),
+            Cause::Semaphore(number) => match queue_of(words.configuration, number) {
+                Some((queue, Side::NotEmpty)) => (Deed::PutsInto(queue), format!("a put into {}", words.queue(queue))),
+                Some((queue, Side::NotFull)) => (Deed::TakesFrom(queue), format!("a take from {}", words.queue(queue))),
+                None => (Deed::Signals(number), format!("a signal of {}", words.semaphore(number))),
+            },
             Cause::Message(0) => (Deed::SendsTo(task), "a send to it".to_string()),
             Cause::Message(from) => (Deed::SendsTo(task), format!("a send to it by {}", words.task(from))),
             Cause::Suspended => (Deed::Resumes(task), "a resume".to_string()),

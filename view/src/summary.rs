@@ -13,7 +13,7 @@ use crate::json::Json;
 use crate::refusals::SHORT;
 use crate::replay::Step;
 use crate::stuck::Wakers;
-use crate::words::{grouped, Words};
+use crate::words::{grouped, queue_of, Side, Words};
 
 #[derive(Clone, Copy, Debug, PartialEq, Eq, PartialOrd, Ord)]
 pub enum Cause {
@@ -101,7 +101,7 @@ impl Summary {
             return count(&mut self.refusals, step.refusal(), step.number);
         }
         self.wakers.step(step);
-        for event in step.trail() {
+        for event in step.trail {
             if let Event::Lost { semaphore } = event {
                 count(&mut self.lost, *semaphore, step.number);
             }
@@ -264,15 +264,14 @@ fn suspended_or_message(task: &TaskItem) -> Option<Cause> {
     task.blocks.has(Block::Suspended).then_some(Cause::Suspended)
 }
 
+/// What a task waits for, in words.
 pub fn caused(words: &Words, cause: Cause) -> String {
-    let first_of_queues = words.configuration.nameable_semaphores() + 1;
     match cause {
-        Cause::Semaphore(number) if number >= first_of_queues => {
-            let of = number - first_of_queues;
-            let what = if of % 2 == 0 { "an entry of" } else { "room in" };
-            format!("{what} {}", words.queue(of / 2 + 1))
-        }
-        Cause::Semaphore(number) => words.semaphore(number),
+        Cause::Semaphore(number) => match queue_of(words.configuration, number) {
+            Some((queue, Side::NotEmpty)) => format!("an entry of {}", words.queue(queue)),
+            Some((queue, Side::NotFull)) => format!("room in {}", words.queue(queue)),
+            None => words.semaphore(number),
+        },
         Cause::Message(0) => "a message".to_string(),
         Cause::Message(from) => format!("a message from {}", words.task(from)),
         Cause::Suspended => "a resume".to_string(),

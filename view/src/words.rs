@@ -31,6 +31,20 @@ pub fn hex(bytes: &[u8]) -> String {
     bytes.iter().map(|byte| format!("{byte:02X}")).collect()
 }
 
+/// Which of a queue's semaphores.
+#[derive(Clone, Copy, PartialEq, Eq)]
+pub enum Side {
+    NotEmpty,
+    NotFull,
+}
+
+/// The queue whose semaphore this is.
+pub fn queue_of(configuration: &Configuration, semaphore: u8) -> Option<(u8, Side)> {
+    let behind = semaphore.checked_sub(configuration.nameable_semaphores())?.checked_sub(1)?;
+    let side = if behind % 2 == 0 { Side::NotEmpty } else { Side::NotFull };
+    (behind / 2 < configuration.queue_count()).then_some((behind / 2 + 1, side))
+}
+
 impl Words<'_> {
     pub fn task(&self, task: u8) -> String {
         match self.names.of('t', task) {
@@ -46,18 +60,26 @@ impl Words<'_> {
     }
 
     pub fn semaphore(&self, number: u8) -> String {
-        let Configuration { named_semaphores, .. } = *self.configuration;
-        let nameable = self.configuration.nameable_semaphores();
         if let Some(name) = self.names.of('s', number) {
             return format!("semaphore {name}");
         }
-        if number > nameable && number <= self.configuration.semaphores() {
-            let of = number - nameable - 1;
-            let side = if of % 2 == 0 { "not-empty" } else { "not-full" };
-            return format!("{side} of {}", self.queue(of / 2 + 1));
+        match queue_of(self.configuration, number) {
+            Some((queue, Side::NotEmpty)) => return format!("not-empty of {}", self.queue(queue)),
+            Some((queue, Side::NotFull)) => return format!("not-full of {}", self.queue(queue)),
+            None => {}
         }
-        let own = number.checked_sub(named_semaphores).and_then(|task| self.names.of('t', task));
+        let task = number.checked_sub(self.configuration.named_semaphores);
+        let own = task.and_then(|task| self.names.of('t', task));
         own.map_or_else(|| format!("semaphore {number}"), |name| format!("{name}'s own semaphore"))
+    }
+
+    /// A semaphore in a sentence about a task: the task's own is its own, where only the task has a name.
+    fn semaphore_of(&self, task: u8, number: u8) -> String {
+        let own = task > 0 && number == self.configuration.semaphore_of_task(task);
+        if own && self.names.of('t', task).is_some() && self.names.of('s', number).is_none() {
+            return "its own semaphore".to_string();
+        }
+        self.semaphore(number)
     }
 
     pub fn queue(&self, number: u8) -> String {
@@ -99,11 +121,11 @@ impl Words<'_> {
             let on = if step.running() == 0 { "runs" } else { "goes on" };
             return format!("refused {}, {rule}; {running} {on}", step.refusal());
         }
-        let mut said = format!("{running} runs{}", self.outcome(&step.answer[3..]));
+        let mut said = format!("{running} runs{}", self.outcome(step.running(), &step.answer[3..]));
         if step.answer[2] > 0 {
             said += &format!("; {} reissued", step.answer[2]);
         }
-        step.trail().iter().filter_map(|event| self.lost(event)).for_each(|lost| said += &lost);
+        step.trail.iter().filter_map(|event| self.lost(event)).for_each(|lost| said += &lost);
         said
     }
 
@@ -112,7 +134,7 @@ impl Words<'_> {
         Some(format!("; {} was DONE, a signal is lost", self.semaphore(*semaphore)))
     }
 
-    fn outcome(&self, outcome: &[u8]) -> String {
+    fn outcome(&self, task: u8, outcome: &[u8]) -> String {
         match outcome {
             [answer::BEGIN, ..] => ", begins".to_string(),
             [answer::MESSAGE, message, sender, _] => {
@@ -122,7 +144,7 @@ impl Words<'_> {
             [answer::REFUSED, number] => {
                 format!(", its request met {number}: {}", refusals::SHORT[usize::from(*number)])
             }
-            [answer::SEMAPHORE, number] => format!(", has {}", self.semaphore(*number)),
+            [answer::SEMAPHORE, number] => format!(", has {}", self.semaphore_of(task, *number)),
             _ => String::new(),
         }
     }
@@ -189,8 +211,8 @@ impl Asked<'_> {
         match (self.b, of) {
             (0, 0) => "its own semaphore".to_string(),
             (0, of) if of > self.words.configuration.tasks => format!("the own semaphore of task {of}"),
-            (0, of) => self.words.semaphore(self.words.configuration.semaphore_of_task(of)),
-            (named, _) => self.words.semaphore(named),
+            (0, of) => self.words.semaphore_of(self.caller, self.words.configuration.semaphore_of_task(of)),
+            (named, _) => self.words.semaphore_of(self.caller, named),
         }
     }
 
@@ -241,9 +263,9 @@ impl Asked<'_> {
         if step.tock {
             said += ", a tock passes";
         }
-        for event in step.trail() {
+        for event in step.trail {
             if let Event::Due { task, semaphore } = event {
-                let (task, semaphore) = (self.words.task(*task), self.words.semaphore(*semaphore));
+                let (task, semaphore) = (self.words.task(*task), self.words.semaphore_of(*task, *semaphore));
                 said += &format!(", a timer of {task} signals {semaphore}");
             }
         }

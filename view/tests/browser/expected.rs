@@ -14,7 +14,6 @@ use view::words::{counted, hex};
 pub fn states(input: &[u8]) -> Vec<Executive> {
     let mut lines = lines(input);
     let mut executive = Executive::configure(&line::read(lines.next().unwrap()).unwrap()).unwrap();
-    executive.keep_trail();
     let mut states = vec![executive.clone()];
     for line in lines {
         let read: Result<Vec<u8>, Number> = line::read(line);

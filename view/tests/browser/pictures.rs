@@ -33,6 +33,7 @@ fn pictures() {
         for (name, hash) in [("station", "#f=9"), ("long", "#f=25000"), ("two", "#f=14")] {
             browser.open(&folder.join(format!("{name}.html")), hash);
             if name == "long" {
+                browser.key("0");
                 save(&mut browser, &format!("{name}-{width}-whole"));
                 (0..10).for_each(|_| browser.key("+"));
                 browser.key("p");
@@ -48,7 +49,6 @@ fn pictures() {
     save(&mut browser, "readme");
     browser.size(1280, 800);
     browser.open(&folder.join("long.html"), "#f=12000");
-    (0..6).for_each(|_| browser.key("+"));
     save(&mut browser, "long-1280-near");
     browser.call("Emulation.setEmulatedMedia", vec![("media", "print".into())]);
     browser.size(1280, 2400);

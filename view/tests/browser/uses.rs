@@ -191,6 +191,13 @@ fn two_sessions_side_by_side() {
     assert_eq!(cells, "event wait; semaphore 2; WAITING with task 2; DONE");
     browser.eval("page.choose(13)");
     assert_eq!(browser.number("document.querySelectorAll('td.differs').length"), 0.0);
+    browser.key("r");
+    assert_eq!(chosen(browser), 15, "refused in the second session alone");
+    browser.eval("page.choose(0)");
+    browser.key("/");
+    "has semaphore 4".chars().for_each(|letter| browser.key(&letter.to_string()));
+    browser.key("Enter");
+    assert_eq!(chosen(browser), 16, "in the first session alone");
     assert_eq!(browser.complaints, Vec::<String>::new());
 }
 
