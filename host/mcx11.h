@@ -398,8 +398,8 @@ static inline const char *mcx11_number_name(uint8_t number)
 }
 
 /* ==== The state, read out of the lent memory between calls. This part, to the next such line, is all of the header that knows
-   the layout of docs/MEMORY.md. What there is not (a task above T, say) gives 0 or NULL; nothing outside *m is read, whatever
-   it holds. ==== */
+   the layout of docs/MEMORY.md, but for the answer's above. What there is not (a task above T, say) gives 0 or NULL; nothing
+   outside *m is read, whatever it holds. ==== */
 
 /** A task's blocks, as bits. */
 enum mcx11_block {

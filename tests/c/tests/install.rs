@@ -46,7 +46,7 @@ fn what_is_installed() {
     for paper in ["HOST", "FRAMES", "MEMORY", "CHANGES"] {
         same(&format!("share/doc/mcx11/{paper}.md"), &format!("docs/{paper}.md"));
         for link in text(&format!("docs/{paper}.md")).split("](").skip(1) {
-            let link = link.split(')').next().expect("a link");
+            let link = link.split([')', '#']).next().expect("a link");
             assert!(
                 prefix.join("share/doc/mcx11").join(link).exists(),
                 "{paper} leads to {link}, which is not installed"

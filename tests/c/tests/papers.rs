@@ -19,8 +19,8 @@ const PAPERS: [&str; 5] = ["README.md", "docs/HOST.md", "docs/FRAMES.md", "examp
 /// Commands that the gate itself runs, before these tests or around them.
 const OF_THE_GATE: [&str; 2] = ["./test", "rt staticlib mcx11"];
 
-/// Sections whose blocks of four blanks are no snippets: a list of folders; and one that has a test of its own.
-const ELSEWHERE: [&str; 2] = ["## What is here", "## See a session"];
+/// The section whose block of four blanks is a list of folders, and no snippet.
+const FOLDERS: &str = "## What is here";
 
 struct Snippet {
     kind: String,
@@ -43,7 +43,7 @@ fn snippets(paper: &str) -> Vec<Snippet> {
         } else {
             section = if line.starts_with("## ") { line } else { section };
             let block = line.starts_with("    ") && before.ends_with("\n\n");
-            assert!(!block || ELSEWHERE.contains(&section), "{place}: fence it, and say sh, text, c, cmake or picture");
+            assert!(!block || section == FOLDERS, "{place}: fence it, and say sh, text, c, cmake or picture");
             before += line;
             before.push('\n');
         }
@@ -158,11 +158,26 @@ fn every_link_leads_somewhere() {
     let papers = docs.filter(|name| name.ends_with(".md")).chain(PAPERS.map(str::to_string));
     for paper in papers {
         for link in text(&paper).split("](").skip(1) {
-            let link = link.split([')', '#']).next().expect("a link");
-            let target = folder.join(&paper).parent().expect("a folder").join(link);
-            assert!(link.starts_with("http") || target.exists(), "{paper}: {link}");
+            let link = link.split(')').next().expect("a link");
+            let (file, place) = link.split_once('#').unwrap_or((link, ""));
+            let target = if file.is_empty() { paper.clone() } else { beside(&paper, file) };
+            assert!(link.starts_with("http") || folder.join(&target).exists(), "{paper}: {link}");
+            assert!(place.is_empty() || places(&text(&target)).contains(&place.to_string()), "{paper}: {link}");
         }
     }
+}
+
+fn beside(paper: &str, file: &str) -> String {
+    Path::new(paper).parent().expect("a folder").join(file).display().to_string()
+}
+
+/// What a link writes behind # for each heading of a page.
+fn places(page: &str) -> Vec<String> {
+    let headings = page.lines().filter(|line| line.starts_with('#'));
+    let kept = |letter: &char| letter.is_alphanumeric() || [' ', '-', '_'].contains(letter);
+    let place =
+        |heading: &str| heading.trim_start_matches('#').trim().to_lowercase().chars().filter(kept).collect::<String>();
+    headings.map(|heading| place(heading).replace(' ', "-")).collect()
 }
 
 /// Every name of the header's that a paper has is in the header.
