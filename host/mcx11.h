@@ -28,7 +28,7 @@ extern "C" {
 /** @name The sizes of the lent blocks
  * @{ */
 #define MCX11_CONFIG_BYTES 198  /**< of mcx11_t::config */
-#define MCX11_TABLES_BYTES 7571 /**< of mcx11_t::tables */
+#define MCX11_TABLES_BYTES 7509 /**< of mcx11_t::tables */
 #define MCX11_SLOTS_BYTES 2016  /**< of mcx11_t::slots */
 #define MCX11_TIMERS_BYTES 641  /**< of mcx11_t::timers */
 #define MCX11_ANSWER_BYTES 21   /**< of mcx11_t::answer */
@@ -416,7 +416,7 @@ enum mcx11_block {
 /* How many there are of each, and where their bytes begin in their blocks. */
 struct mcx11_layout_t {
     size_t tasks, named, semaphores, queues, timers, messages;
-    size_t at_sizes, at_blocks, at_semaphores, at_rings, at_messages, at_entries;
+    size_t at_sizes, at_planes, at_semaphores, at_rings, at_messages, at_entries;
 };
 
 static inline struct mcx11_layout_t mcx11_layout(const mcx11_t *m)
@@ -432,8 +432,8 @@ static inline struct mcx11_layout_t mcx11_layout(const mcx11_t *m)
     at.messages = one * c[4];
     at.semaphores = one * semaphores;
     at.at_sizes = 8 + at.tasks;
-    at.at_blocks = 2;
-    at.at_semaphores = at.at_blocks + 7 * at.tasks;
+    at.at_planes = 2;
+    at.at_semaphores = at.at_planes + 64 + 6 * at.tasks;
     at.at_rings = at.at_semaphores + at.semaphores + 16 * at.tasks;
     at.at_messages = at.at_rings + 2 * at.queues;
     at.at_entries = at.at_messages + 4 * at.messages;
@@ -474,7 +474,16 @@ static inline uint8_t mcx11_own_semaphore(const mcx11_t *m, uint8_t task)
 static inline uint8_t mcx11_blocks(const mcx11_t *m, uint8_t task)
 {
     const struct mcx11_layout_t at = mcx11_layout(m);
-    return task >= 1 && task <= at.tasks ? (uint8_t)(m->tables[at.at_blocks + task - 1] & 15) : (uint8_t)0;
+    unsigned blocks = 0;
+    size_t plane;
+    if (task < 1 || task > at.tasks) {
+        return 0;
+    }
+    for (plane = 0; plane < 4; plane++) {
+        const unsigned bits = m->tables[at.at_planes + 16 * plane + (task - 1u) / 8];
+        blocks |= (bits >> (task - 1u) % 8 & 1u) << plane;
+    }
+    return (uint8_t)blocks;
 }
 
 /** The task's slot of 16 bytes; its last entry stands in front. */

@@ -138,7 +138,8 @@ fn everything_that_the_sheet_cites_is_there() {
     // and the page was read: statements, edits and a command
     let parts = parts(&sheet);
     let items: Vec<&str> = parts.iter().flat_map(|part| quoted(part)).collect();
-    for some in ["demand-3", "Same.answers", "theorems/specs/Same.antt", "clock/must-fail/ticks_ignored.edit", "./test"] {
+    for some in ["demand-3", "Same.answers", "theorems/specs/Same.antt", "clock/must-fail/ticks_ignored.edit", "./test"]
+    {
         assert!(items.contains(&some), "docs/SHEET.md does not cite {some}");
     }
 }
