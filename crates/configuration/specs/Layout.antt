@@ -136,5 +136,5 @@ of-one c s o =
     }
 
 -- the largest tables
-pub end-most : (c : Config) (s : Shape) → Of c s → s .end ≤ 7571
+pub end-most : (c : Config) (s : Shape) → Of c s → s .end ≤ 7509
 end-most c s o = let l = o .laid in omega arith

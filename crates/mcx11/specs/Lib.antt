@@ -1,6 +1,7 @@
 pub mod Results
 pub mod Contract
 pub mod Sizes
-pub mod Feeding
+pub mod Tested
+pub mod Entries
 pub mod Answer
 pub mod Displayed

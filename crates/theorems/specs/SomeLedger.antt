@@ -8,30 +8,30 @@ use native.Mathlib.Omega.{arith}
 use lib.ListN.{length}
 use Rattle.rows.specs.Laws.{length-cut}
 use Rattle.ledger.specs.Lists.{byte}
-use Rattle.ledger.specs.Config.{Config}
+use Rattle.ledger.specs.Config.{Config, controller}
 use Rattle.ledger.specs.Ledger.{Ledger}
 use Rattle.tables.specs.Shows.{Of}
 use Rattle.tables.specs.Some.{some, shows-some}
+use Rattle.configuration.specs.Limits.{controller-made}
 use Rattle.configuration.specs.Block.{configured, rule, read, configured-is}
 use Rattle.configuration.specs.Layout.{shapeOf, rule-head, of-shape, end-most}
 use Rattle.configuration.specs.Lent.{shapes-length}
 use Rattle.mcx11.specs.Contract.{Memory, messagesSound, lentWell, Displays}
-use Rattle.mcx11.specs.Sizes.{full-sizes}
-use Rattle.mcx11.specs.Displayed.{well-full, well-rule, well-messages}
+use Rattle.mcx11.specs.Sizes.{full-sizes, well-full, well-rule, well-messages}
 
 -- ---- a block that keeps the rule is laid out
 
-module _ (g : List ℕ) (full : 198 ≤ length g) (keeps : rule (read g) ≡ true) where
+module _ (g : List ℕ) (full : 198 ≤ length g) (keeps : rule controller (read g) ≡ true) where
   read-shapes : length (read g .shapes) ≡ read g .Q
   unfolding read
   read-shapes =
-      let h = rule-head (read g) keeps in
+      let h = rule-head controller controller-made (read g) keeps in
       shapes-length _ (byte 2 g) (length-cut g (8 + byte 0 g) (8 + byte 0 g + 2 * byte 2 g) (omega arith) ∙ omega arith)
 
-block-of : (g : List ℕ) → 198 ≤ length g → rule (configured g) ≡ true → Of (configured g) (shapeOf (configured g))
+block-of : (g : List ℕ) → 198 ≤ length g → rule controller (configured g) ≡ true → Of (configured g) (shapeOf (configured g))
 block-of g full h =
-    let keeps : rule (read g) ≡ true = ap rule (sym (configured-is g)) ∙ h in
-    subst (λ (c : Config). Of c (shapeOf c)) (sym (configured-is g)) (of-shape (read g) keeps (read-shapes g full keeps))
+    let keeps : rule controller (read g) ≡ true = ap (rule controller) (sym (configured-is g)) ∙ h in
+    subst (λ (c : Config). Of c (shapeOf c)) (sym (configured-is g)) (of-shape controller controller-made (read g) keeps (read-shapes g full keeps))
 
 -- ---- the ledger that it shows
 
