@@ -1,4 +1,4 @@
--- Calls and Memories at the closed model of the kit, in which nothing is assumed.
+-- OneRun and Memories at the closed model of the kit, in which nothing is assumed.
 --     σ ⊨ P          some resource of the model agrees with the machine's memory σ and has P
 --     Cells L        the bytes of the slices L are owned
 --     Ran            a routine was run on slices from a memory, and ended so
@@ -25,9 +25,9 @@ use denote.RattleType.{RattleType}
 use denote.Laws.{Is}
 use denote.Triple.Statement.{Contract, Triple}
 use Rattle.running.specs.Slices.{Kind, Slice, Ids, LastValues, afters, Rooms, SameLengths, AreBytes, leftsOf, cellsAt, cellsOf, toksOf}
-use Rattle.running.specs.Calls as any
+use Rattle.running.specs.OneRun as any
 use Rattle.running.specs.Memories as memories
-use Rattle.running.specs.Memories.{LoadsAll, sideBySide, joined, AllBytes}
+use Rattle.running.specs.Memories.{LoadsAll, sideBySide, inARow, AllBytes}
 
 abbrev pub Pr : Type 2
 Pr = SProp closed.𝓤
@@ -121,7 +121,7 @@ pub runs : (ρ : Routine) (c : Contract closed.𝓤) → Triple closed.𝓤 (�
     → (Φ : T .Denot → LastValues L → Type 0) → ((ids : Ids L) (v : Val) → ent closed.𝓤 (c .post (x ids) v) (Leaves L T Φ ids v))
     → Rooms L → (σ : Memory) (F : Pr) → σ ⊨ Cells L ∗ F → ∥ Ran ρ vs L T Φ σ F ∥₁
 runs ρ c met L T x vs args enters Φ leaves rooms σ F s =
-    ∥∥₁-elim (any.returns closed.𝓤 closed.H closed.model A₀ W₀ L T 𝓡₀ ρ c met x vs args enters Φ leaves rooms σ F s) ∥∥₁-prop (λ k.
+    ∥∥₁-elim (any.stops closed.𝓤 closed.H closed.model A₀ W₀ L T 𝓡₀ ρ c met x vs args enters Φ leaves rooms σ F s) ∥∥₁-prop (λ k.
     ∥∥₁-map (memories.sat-loads closed.𝓤 closed.H closed.model A₀ W₀ (k .3) (afters L (k .2 .1)) F (k .6)) (λ l.
     record {
       fuel = k .0;
@@ -139,7 +139,7 @@ runs ρ c met L T x vs args enters Φ leaves rooms σ F s =
     }))
 
 -- ---- memories
-pub begins : (ps : List (Kind × List ℕ)) → AllBytes ps → startMem (joined ps) [] ⊨ Cells (sideBySide 0 ps) ∗ emp closed.𝓤
+pub begins : (ps : List (Kind × List ℕ)) → AllBytes ps → startMem (inARow ps) [] ⊨ Cells (sideBySide 0 ps) ∗ emp closed.𝓤
 begins ps f = memories.begins closed.𝓤 closed.H closed.model A₀ W₀ ps f
 
 pub held-loads : (σ : Memory) (L : List Slice) (F : Pr) → σ ⊨ Cells L ∗ F → ∥ LoadsAll σ L ∥₁

@@ -1,6 +1,6 @@
 -- The machine's memory: which bytes it holds, and one that holds any bytes, side by side in its block 0.
 --     Loads σ b o xs         the bytes xs are what the machine loads from σ, from the offset o on in block b
---     sideBySide, joined     some lists of bytes as slices, one behind the other, and all of them in one list
+--     sideBySide, inARow     some lists of bytes as slices, one behind the other, and all of them in one list
 --     begins                 the memory with which a run begins, holding them
 use mathlib.Core.Path.{_≡_, refl, subst}
 use Prim.Native.Nat.{ℕ, _+_}
@@ -38,9 +38,9 @@ abbrev pub sideBySide : ℕ → List (Kind × List ℕ) → List Slice
 sideBySide o [] = []
 sideBySide o (p ∷ ps) = record { kind = p .0; bytes = p .1; b = 0; o = o } ∷ sideBySide (o + length (p .1)) ps
 
-abbrev pub joined : List (Kind × List ℕ) → List ℕ
-joined [] = []
-joined (p ∷ ps) = p .1 ++ joined ps
+abbrev pub inARow : List (Kind × List ℕ) → List ℕ
+inARow [] = []
+inARow (p ∷ ps) = p .1 ++ inARow ps
 
 abbrev pub AllBytes : List (Kind × List ℕ) → Type 0
 AllBytes [] = Unit {0}
@@ -50,9 +50,9 @@ pub fit-append : (xs ys : List ℕ) → AllFit w8 xs → AllFit w8 ys → AllFit
 fit-append [] ys f g = g
 fit-append (x ∷ xs) ys f g = (f .0, fit-append xs ys (f .1) g)
 
-pub fit-joined : (ps : List (Kind × List ℕ)) → AllBytes ps → AllFit w8 (joined ps)
-fit-joined [] f = tt
-fit-joined (p ∷ ps) f = fit-append (p .1) (joined ps) (f .0) (fit-joined ps (f .1))
+pub fit-in-a-row : (ps : List (Kind × List ℕ)) → AllBytes ps → AllFit w8 (inARow ps)
+fit-in-a-row [] f = tt
+fit-in-a-row (p ∷ ps) f = fit-append (p .1) (inARow ps) (f .0) (fit-in-a-row ps (f .1))
 
 module _ {M : Type 1} (𝓤 : URA M) (H : Heap 𝓤) (𝓜 : Model 𝓤 H) (A : Atoms 𝓤) (W : Given 𝓤 H A) where
   abbrev _∗_ : SProp 𝓤 → SProp 𝓤 → SProp 𝓤
@@ -90,7 +90,7 @@ module _ {M : Type 1} (𝓤 : URA M) (H : Heap 𝓤) (𝓜 : Model 𝓤 H) (A : 
   cut : (xs ys : List ℕ) (b o : ℕ) → ent 𝓤 (Run b o (xs ++ ys)) (Run b o xs ∗ Run b (o + length xs) ys)
   cut xs ys b o = cut-at xs ys b o (o + length xs) refl
 
-  -- and joined
+  -- and inARow
   join-at : (xs ys : List ℕ) (b o p : ℕ) → o + length xs ≡ p → ent 𝓤 (Run b o xs ∗ Run b p ys) (Run b o (xs ++ ys))
   join-at [] ys b o p e = subst (λ (q : ℕ). ent 𝓤 (emp 𝓤 ∗ Run b q ys) (Run b o ys)) (omega (arith, e)) (snd∗ 𝓤 (emp 𝓤) (Run b o ys))
   join-at (x ∷ xs) ys b o p e =
@@ -100,10 +100,10 @@ module _ {M : Type 1} (𝓤 : URA M) (H : Heap 𝓤) (𝓜 : Model 𝓤 H) (A : 
   pub join : (xs ys : List ℕ) (b o : ℕ) → ent 𝓤 (Run b o xs ∗ Run b (o + length xs) ys) (Run b o (xs ++ ys))
   join xs ys b o = join-at xs ys b o (o + length xs) refl
 
-  cuts : (o : ℕ) (ps : List (Kind × List ℕ)) → ent 𝓤 (Run 0 o (joined ps)) (cellsOf 𝓤 H A W (sideBySide o ps))
+  cuts : (o : ℕ) (ps : List (Kind × List ℕ)) → ent 𝓤 (Run 0 o (inARow ps)) (cellsOf 𝓤 H A W (sideBySide o ps))
   cuts o [] = id⊢ 𝓤 (emp 𝓤)
-  cuts o (p ∷ ps) = via 𝓤 (Run 0 o (p .1) ∗ Run 0 (o + length (p .1)) (joined ps)) (cut (p .1) (joined ps) 0 o) (monoR 𝓤 (Run 0 o (p .1)) (cuts (o + length (p .1)) ps))
+  cuts o (p ∷ ps) = via 𝓤 (Run 0 o (p .1) ∗ Run 0 (o + length (p .1)) (inARow ps)) (cut (p .1) (inARow ps) 0 o) (monoR 𝓤 (Run 0 o (p .1)) (cuts (o + length (p .1)) ps))
 
   -- the memory with which a run begins, holding the lists of bytes in its block 0
-  pub begins : (ps : List (Kind × List ℕ)) → AllBytes ps → Satisfies 𝓤 H 𝓜 (startMem (joined ps) []) (cellsOf 𝓤 H A W (sideBySide 0 ps) ∗ Run 1 0 [])
-  begins ps f = sat-weaken 𝓤 H 𝓜 (startMem (joined ps) []) (monoL 𝓤 (Run 1 0 []) (cuts 0 ps)) (start-satisfies 𝓤 H 𝓜 (joined ps) [] (fit-joined ps f) tt)
+  pub begins : (ps : List (Kind × List ℕ)) → AllBytes ps → Satisfies 𝓤 H 𝓜 (startMem (inARow ps) []) (cellsOf 𝓤 H A W (sideBySide 0 ps) ∗ Run 1 0 [])
+  begins ps f = sat-weaken 𝓤 H 𝓜 (startMem (inARow ps) []) (monoL 𝓤 (Run 1 0 []) (cuts 0 ps)) (start-satisfies 𝓤 H 𝓜 (inARow ps) [] (fit-in-a-row ps f) tt)

@@ -26,7 +26,7 @@ use ghost.Model as closed
 use denote.Builtin.{u8}
 use denote.Slice.{Room}
 use Rattle.running.specs.Slices.{Kind, shr, mut, Slice}
-use Rattle.running.specs.Memories.{Loads, joined}
+use Rattle.running.specs.Memories.{Loads, inARow}
 use Rattle.running.specs.Machine.{Pr, Cell, Cells, _∗_, _⊨_, weaken, begins, cells-append, bytesAt}
 use Rattle.running.specs.One.{number-one, loads-one, stores-one, run-one}
 use Rattle.ledger.specs.Config.{configIn, configRefusal}
@@ -49,7 +49,7 @@ pub record Lendable (d : List ℕ) : Type 0 where
   pub size : length d < 2 ^ 63
 
 -- the five blocks m, the host's buffer d and what else is in memory, o, are bytes
-pub record Begins (m : Memory) (d o : List ℕ) : Type 0 where
+pub record SessionStarts (m : Memory) (d o : List ℕ) : Type 0 where
   pub config : Lendable (m .config)
   pub tables : Lendable (m .tables)
   pub slots : Lendable (m .slots)
@@ -61,8 +61,8 @@ pub record Begins (m : Memory) (d o : List ℕ) : Type 0 where
 abbrev laid : Memory → List ℕ → List ℕ → List (Kind × List ℕ)
 laid m d o = (mut, m .config) ∷ (mut, m .tables) ∷ (mut, m .slots) ∷ (mut, m .timers) ∷ (mut, m .answer) ∷ (mut, d) ∷ (shr, o) ∷ []
 
-abbrev pub begun : Memory → (buffer others : List ℕ) → machine.Memory
-begun m d o = startMem (joined (laid m d o)) []
+abbrev pub sessionStart : Memory → (buffer others : List ℕ) → machine.Memory
+sessionStart m d o = startMem (inARow (laid m d o)) []
 
 abbrev pub placesOf : Memory → Places
 placesOf m = record {
@@ -81,7 +81,7 @@ othersAt m d = placesOf m .buffer .1 + length d
 pub room : {d : List ℕ} → Lendable d → Room u8 (length d)
 room {d} h = (omega (arith, h .size), omega (arith, h .size))
 
-module _ (m : Memory) (d o : List ℕ) (b : Begins m d o) where
+module _ (m : Memory) (d o : List ℕ) (b : SessionStarts m d o) where
   abbrev q : Places
   q = placesOf m
 
@@ -91,23 +91,23 @@ module _ (m : Memory) (d o : List ℕ) (b : Begins m d o) where
   rooms : RoomsAt (sizesOf m)
   rooms = (room (b .config), (room (b .tables), (room (b .slots), (room (b .timers), (room (b .answer), tt)))))
 
-  held : begun m d o ⊨ Cells (blocksOf q m) ∗ (Cell (bytesAt mut (q .buffer) d) ∗ (Cells others ∗ emp closed.𝓤))
+  held : sessionStart m d o ⊨ Cells (blocksOf q m) ∗ (Cell (bytesAt mut (q .buffer) d) ∗ (Cells others ∗ emp closed.𝓤))
   held =
       let B : Pr = Cells (blocksOf q m) in
       let D : Pr = Cell (bytesAt mut (q .buffer) d) in
       let O : Pr = Cells others in
-      weaken (begun m d o)
+      weaken (sessionStart m d o)
       (via closed.𝓤 ((B ∗ (D ∗ O)) ∗ emp closed.𝓤) (monoL closed.𝓤 (emp closed.𝓤) (cells-append (blocksOf q m) (bytesAt mut (q .buffer) d ∷ others)))
       (via closed.𝓤 (B ∗ ((D ∗ O) ∗ emp closed.𝓤)) (assoc∗ closed.𝓤 B (D ∗ O) (emp closed.𝓤)) (monoR closed.𝓤 B (assoc∗ closed.𝓤 D O (emp closed.𝓤)))))
       (begins (laid m d o) (b .config .bytes, (b .tables .bytes, (b .slots .bytes, (b .timers .bytes, (b .answer .bytes, (b .buffer .bytes, (b .others, tt))))))))
 
   pub frame-runs-from : {f : List ℕ} → FitsBuffer (length d) f
-      → ∥ Called frame-symbol.routine q (sizesOf m) f (λ m' r. Frames f m m' r) (length d) (begun m d o) (Cells others ∗ emp closed.𝓤) ∥₁
-  frame-runs-from {f} l = frame-called q (sizesOf m) rooms (length d) (b .buffer .size) f l m refl d refl (begun m d o) (Cells others ∗ emp closed.𝓤) held
+      → ∥ Called frame-symbol.routine q (sizesOf m) f (λ m' r. Frames f m m' r) (length d) (sessionStart m d o) (Cells others ∗ emp closed.𝓤) ∥₁
+  frame-runs-from {f} l = frame-called q (sizesOf m) rooms (length d) (b .buffer .size) f l m refl d refl (sessionStart m d o) (Cells others ∗ emp closed.𝓤) held
 
   pub configure-runs-from : {g : List ℕ} → FitsBuffer (length d) g
-      → ∥ Called configure-symbol.routine q (sizesOf m) g (λ m' r. Configures g m m' r) (length d) (begun m d o) (Cells others ∗ emp closed.𝓤) ∥₁
-  configure-runs-from {g} l = configure-called q (sizesOf m) rooms (length d) (b .buffer .size) g l m refl d refl (begun m d o) (Cells others ∗ emp closed.𝓤) held
+      → ∥ Called configure-symbol.routine q (sizesOf m) g (λ m' r. Configures g m m' r) (length d) (sessionStart m d o) (Cells others ∗ emp closed.𝓤) ∥₁
+  configure-runs-from {g} l = configure-called q (sizesOf m) rooms (length d) (b .buffer .size) g l m refl d refl (sessionStart m d o) (Cells others ∗ emp closed.𝓤) held
 
 -- ---- there are runs
 
@@ -116,16 +116,16 @@ pub record AsTheLedger (m : Memory) (d o g : List ℕ) (fs answers : List (List 
   pub same : Same g fs answers numbers m'
   pub others : Loads last 0 (othersAt m d) o
 
-pub record Ended (m : Memory) (buffer others g : List ℕ) (fs : List (List ℕ)) : Type 0 where
+pub record SessionRan (m : Memory) (buffer others g : List ℕ) (fs : List (List ℕ)) : Type 0 where
   pub answers : List (List ℕ)
   pub numbers : List ℕ
   pub last : machine.Memory
   pub memory : Memory
-  pub runs : SessionRuns (placesOf m) (sizesOf m) (begun m buffer others) g fs answers numbers last memory
+  pub runs : SessionRuns (placesOf m) (sizesOf m) (sessionStart m buffer others) g fs answers numbers last memory
   pub says : AsTheLedger m buffer others g fs answers numbers last memory
 
-pub runs : {g : List ℕ} {fs : List (List ℕ)} {m : Memory} {buffer others : List ℕ} → Begins m buffer others → fullSize m ≡ true
-    → configRefusal g ≡ 0 → FitsBuffer (length buffer) g → Every (FitsBuffer (length buffer)) fs → ∥ Ended m buffer others g fs ∥₁
+pub runs : {g : List ℕ} {fs : List (List ℕ)} {m : Memory} {buffer others : List ℕ} → SessionStarts m buffer others → fullSize m ≡ true
+    → configRefusal g ≡ 0 → FitsBuffer (length buffer) g → Every (FitsBuffer (length buffer)) fs → ∥ SessionRan m buffer others g fs ∥₁
 runs {g} {fs} {m} {buffer = d} {others = o} b full z l ls =
     ∥∥₁-elim (configure-runs-from m d o b l) ∥∥₁-prop (λ k.
     ∥∥₁-map (feeds (placesOf m) (sizesOf m) (rooms m d o b) (length d) (b .buffer .size) ls (others m d o b) (k .memory) (k .runs .lies .sizes) (k .buffer) (k .size) (k .last) (emp closed.𝓤) (k .holds)) (λ t.
@@ -175,9 +175,9 @@ session-one {q} {s} {fs = fs} (session {m₁ = m₁} c more) (session {σ₁ = �
     (ap₂ _∷_ (ap answerOf (o .1)) (rest .0), ap₂ _∷_ (o .2) (rest .1), rest .2, rest .3)
 
 -- ---- so what demand 3 says holds of every one
-pub every-run : {g : List ℕ} {fs : List (List ℕ)} {m : Memory} {buffer others : List ℕ} → Begins m buffer others → fullSize m ≡ true
+pub every-run : {g : List ℕ} {fs : List (List ℕ)} {m : Memory} {buffer others : List ℕ} → SessionStarts m buffer others → fullSize m ≡ true
     → configRefusal g ≡ 0 → FitsBuffer (length buffer) g → Every (FitsBuffer (length buffer)) fs
-    → {answers : List (List ℕ)} {numbers : List ℕ} {last : machine.Memory} {m' : Memory} → SessionRuns (placesOf m) (sizesOf m) (begun m buffer others) g fs answers numbers last m'
+    → {answers : List (List ℕ)} {numbers : List ℕ} {last : machine.Memory} {m' : Memory} → SessionRuns (placesOf m) (sizesOf m) (sessionStart m buffer others) g fs answers numbers last m'
     → ∥ AsTheLedger m buffer others g fs answers numbers last m' ∥₁
 every-run {g} {fs} {m} {buffer = d} {others = o} b full z l ls {answers} {numbers} {last} {m'} r =
     ∥∥₁-map (runs b full z l ls) (λ k.
@@ -191,27 +191,27 @@ every-run {g} {fs} {m} {buffer = d} {others = o} b full z l ls {answers} {number
 pub bytes-set : IsSet (List ℕ)
 bytes-set = List·isSet (hedberg ℕ-discrete)
 
-pub every-answer : {g : List ℕ} {fs : List (List ℕ)} {m : Memory} {buffer others : List ℕ} → Begins m buffer others → fullSize m ≡ true
+pub every-answer : {g : List ℕ} {fs : List (List ℕ)} {m : Memory} {buffer others : List ℕ} → SessionStarts m buffer others → fullSize m ≡ true
     → configRefusal g ≡ 0 → FitsBuffer (length buffer) g → Every (FitsBuffer (length buffer)) fs
-    → {answers : List (List ℕ)} {numbers : List ℕ} {last : machine.Memory} {m' : Memory} → SessionRuns (placesOf m) (sizesOf m) (begun m buffer others) g fs answers numbers last m'
+    → {answers : List (List ℕ)} {numbers : List ℕ} {last : machine.Memory} {m' : Memory} → SessionRuns (placesOf m) (sizesOf m) (sessionStart m buffer others) g fs answers numbers last m'
     → answers ≡ ledger.session g fs
 every-answer {g} {fs} b full z l ls {answers} r = ∥∥₁-elim (every-run b full z l ls r) (List·isSet bytes-set answers (ledger.session g fs)) (λ k. k .same .answers)
 
-pub every-number : {g : List ℕ} {fs : List (List ℕ)} {m : Memory} {buffer others : List ℕ} → Begins m buffer others → fullSize m ≡ true
+pub every-number : {g : List ℕ} {fs : List (List ℕ)} {m : Memory} {buffer others : List ℕ} → SessionStarts m buffer others → fullSize m ≡ true
     → configRefusal g ≡ 0 → FitsBuffer (length buffer) g → Every (FitsBuffer (length buffer)) fs
-    → {answers : List (List ℕ)} {numbers : List ℕ} {last : machine.Memory} {m' : Memory} → SessionRuns (placesOf m) (sizesOf m) (begun m buffer others) g fs answers numbers last m'
+    → {answers : List (List ℕ)} {numbers : List ℕ} {last : machine.Memory} {m' : Memory} → SessionRuns (placesOf m) (sizesOf m) (sessionStart m buffer others) g fs answers numbers last m'
     → numbers ≡ refused.numbers (configIn g) fs
 every-number {g} {fs} b full z l ls {numbers = numbers} r = ∥∥₁-elim (every-run b full z l ls r) (bytes-set numbers (refused.numbers (configIn g) fs)) (λ k. k .same .numbers)
 
 -- ---- one call, whatever the blocks hold
-pub every-frame : {f : List ℕ} {m : Memory} {buffer others : List ℕ} → Begins m buffer others → FitsBuffer (length buffer) f
-    → {last : machine.Memory} {m' : Memory} {r : ℕ} → FrameRuns (placesOf m) (sizesOf m) f (begun m buffer others) last m' r → ∥ Frames f m m' r ∥₁
+pub every-frame : {f : List ℕ} {m : Memory} {buffer others : List ℕ} → SessionStarts m buffer others → FitsBuffer (length buffer) f
+    → {last : machine.Memory} {m' : Memory} {r : ℕ} → FrameRuns (placesOf m) (sizesOf m) f (sessionStart m buffer others) last m' r → ∥ Frames f m m' r ∥₁
 every-frame {f} {m} {buffer = d} {others = o} b l {last} {m'} {r} c =
     ∥∥₁-map (frame-runs-from m d o b l) (λ k.
     let e = call-one (k .runs) c in subst (λ (x : Memory). Frames f m x r) (e .1) (subst (λ (n : ℕ). Frames f m (k .memory) n) (e .2) (k .says)))
 
-pub every-configuration : {g : List ℕ} {m : Memory} {buffer others : List ℕ} → Begins m buffer others → FitsBuffer (length buffer) g
-    → {last : machine.Memory} {m' : Memory} {r : ℕ} → ConfigureRuns (placesOf m) (sizesOf m) g (begun m buffer others) last m' r → ∥ Configures g m m' r ∥₁
+pub every-configuration : {g : List ℕ} {m : Memory} {buffer others : List ℕ} → SessionStarts m buffer others → FitsBuffer (length buffer) g
+    → {last : machine.Memory} {m' : Memory} {r : ℕ} → ConfigureRuns (placesOf m) (sizesOf m) g (sessionStart m buffer others) last m' r → ∥ Configures g m m' r ∥₁
 every-configuration {g} {m} {buffer = d} {others = o} b l {last} {m'} {r} c =
     ∥∥₁-map (configure-runs-from m d o b l) (λ k.
     let e = call-one (k .runs) c in subst (λ (x : Memory). Configures g m x r) (e .1) (subst (λ (n : ℕ). Configures g m (k .memory) n) (e .2) (k .says)))

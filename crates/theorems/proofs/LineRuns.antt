@@ -26,7 +26,7 @@ use denote.Steps.{only}
 use denote.Triple.Spec.{tripleOf}
 use denote.Triple.Statement.{Contract}
 use Rattle.running.specs.Slices.{shr, mut, Slice, Ids, LastValues, valsOf, lifetimesOf, sharesOf, referencesOf, passedOf, Rooms}
-use Rattle.running.specs.Memories.{Loads, sideBySide, joined}
+use Rattle.running.specs.Memories.{Loads, sideBySide, inARow}
 use Rattle.running.specs.Machine.{Pr, A₀, 𝓡₀, W₀, Cells, _∗_, _⊨_, weaken, Enters, Leaves, asks-nothing, drops, leaves-by, Ran, runs, begins, held-loads, bytesAt, cells-append}
 use Rattle.running.specs.One.{run-one}
 use Rattle.ledger.specs.Lines as lines
@@ -55,12 +55,12 @@ slices a d = sideBySide 0 ((shr, a) ∷ (mut, d) ∷ [])
 abbrev others : (a d o : List ℕ) → List Slice
 others a d o = bytesAt shr (0, 0 + length a + length d) o ∷ []
 
-abbrev pub begun : (a d o : List ℕ) → machine.Memory
-begun a d o = startMem (joined ((shr, a) ∷ (mut, d) ∷ (shr, o) ∷ [])) []
+abbrev pub lineStart : (a d o : List ℕ) → machine.Memory
+lineStart a d o = startMem (inARow ((shr, a) ∷ (mut, d) ∷ (shr, o) ∷ [])) []
 
 -- a run that ended with the value v and the memory `last`
 abbrev pub LineRuns : Routine → (a d o : List ℕ) → Val → machine.Memory → Type 0
-LineRuns ρ a d o v last = (fuel : ℕ) × (ρ .step fuel (valsOf (slices a d)) (begun a d o) ≡ ended (v, last))
+LineRuns ρ a d o v last = (fuel : ℕ) × (ρ .step fuel (valsOf (slices a d)) (lineStart a d o) ≡ ended (v, last))
 
 pub record LineDone (said : lines.Written) (a d o : List ℕ) (v : Val) (last : machine.Memory) : Type 0 where
   pub value : v ≡ int32 (returnedLength said)
@@ -68,15 +68,15 @@ pub record LineDone (said : lines.Written) (a d o : List ℕ) (v : Val) (last : 
   pub to : Loads last 0 (0 + length a) (leftIn d said)
   pub behind : Loads last 0 (0 + length a + length d) o
 
-abbrev Says : lines.Written → (a d : List ℕ) → ℤ → LastValues (slices a d) → Type 0
-Says said a d r ws = Returns said d (ws .1 .0) r
+abbrev LineSays : lines.Written → (a d : List ℕ) → ℤ → LastValues (slices a d) → Type 0
+LineSays said a d r ws = Returns said d (ws .1 .0) r
 
 module _ (ρ : Routine) (said : lines.Written) (a d : List ℕ)
-    (call : Rooms (slices a d) → (σ : machine.Memory) (F : Pr) → σ ⊨ Cells (slices a d) ∗ F → ∥ Ran ρ (valsOf (slices a d)) (slices a d) i32 (Says said a d) σ F ∥₁)
+    (call : Rooms (slices a d) → (σ : machine.Memory) (F : Pr) → σ ⊨ Cells (slices a d) ∗ F → ∥ Ran ρ (valsOf (slices a d)) (slices a d) i32 (LineSays said a d) σ F ∥₁)
     (ha : Lendable a) (hd : Lendable d) (o : List ℕ) (ho : AllFit w8 o) where
   done-once : ∥ ((v : Val) × (last : machine.Memory) × LineRuns ρ a d o v last × LineDone said a d o v last) ∥₁
   done-once =
-      let σ : machine.Memory = begun a d o in
+      let σ : machine.Memory = lineStart a d o in
       let S : Pr = Cells (slices a d) in
       let O : Pr = Cells (others a d o) in
       let held : σ ⊨ S ∗ (O ∗ emp closed.𝓤) =
@@ -114,10 +114,10 @@ module _ (line frame others : List ℕ) (hl : Lendable line) (hf : Lendable fram
   read-bound i = let L : List Slice = slices line frame in ((lifetimesOf L i, sharesOf L, tt, referencesOf L i, passedOf L), tt)
 
   reads : Rooms (slices line frame) → (σ : machine.Memory) (F : Pr) → σ ⊨ Cells (slices line frame) ∗ F
-      → ∥ Ran read-symbol.routine (valsOf (slices line frame)) (slices line frame) i32 (Says wasRead line frame) σ F ∥₁
+      → ∥ Ran read-symbol.routine (valsOf (slices line frame)) (slices line frame) i32 (LineSays wasRead line frame) σ F ∥₁
   reads =
       runs read-symbol.routine read-contract (read-met.met closed.𝓤 closed.H closed.model ghost₀ 𝓡₀) (slices line frame) i32 read-bound (valsOf (slices line frame)) (λ i. refl)
-      (λ i. asks-nothing (Enters (slices line frame) i32 i)) (Says wasRead line frame) (λ i v. id⊢ closed.𝓤 (read-contract .post (read-bound i) v))
+      (λ i. asks-nothing (Enters (slices line frame) i32 i)) (LineSays wasRead line frame) (λ i v. id⊢ closed.𝓤 (read-contract .post (read-bound i) v))
 
   pub read-runs : ∥ ((v : Val) × (last : machine.Memory) × LineRuns read-symbol.routine line frame others v last × LineDone wasRead line frame others v last) ∥₁
   read-runs = done-once read-symbol.routine wasRead line frame reads hl hf others ho
@@ -137,10 +137,10 @@ module _ (frame line others : List ℕ) (hf : Lendable frame) (hl : Lendable lin
   write-bound i = let L : List Slice = slices frame line in ((lifetimesOf L i, sharesOf L, tt, referencesOf L i, passedOf L), tt)
 
   writes : Rooms (slices frame line) → (σ : machine.Memory) (F : Pr) → σ ⊨ Cells (slices frame line) ∗ F
-      → ∥ Ran write-symbol.routine (valsOf (slices frame line)) (slices frame line) i32 (Says wasWritten frame line) σ F ∥₁
+      → ∥ Ran write-symbol.routine (valsOf (slices frame line)) (slices frame line) i32 (LineSays wasWritten frame line) σ F ∥₁
   writes =
       runs write-symbol.routine write-contract (write-met.met closed.𝓤 closed.H closed.model ghost₀ 𝓡₀) (slices frame line) i32 write-bound (valsOf (slices frame line)) (λ i. refl)
-      (λ i. asks-nothing (Enters (slices frame line) i32 i)) (Says wasWritten frame line) (λ i v. id⊢ closed.𝓤 (write-contract .post (write-bound i) v))
+      (λ i. asks-nothing (Enters (slices frame line) i32 i)) (LineSays wasWritten frame line) (λ i v. id⊢ closed.𝓤 (write-contract .post (write-bound i) v))
 
   pub write-runs : ∥ ((v : Val) × (last : machine.Memory) × LineRuns write-symbol.routine frame line others v last × LineDone wasWritten frame line others v last) ∥₁
   write-runs = done-once write-symbol.routine wasWritten frame line writes hf hl others ho
@@ -152,7 +152,7 @@ module _ (frame line others : List ℕ) (hf : Lendable frame) (hl : Lendable lin
 
 -- a run in a memory that holds the bytes o
 abbrev pub MillisecondsRuns : (ms per : ℕ) (o : List ℕ) → Val → machine.Memory → Type 0
-MillisecondsRuns ms per o v last = (fuel : ℕ) × (milliseconds-symbol.routine .step fuel (vint w16 ms ∷ vint w16 per ∷ []) (startMem (joined ((shr, o) ∷ [])) []) ≡ ended (v, last))
+MillisecondsRuns ms per o v last = (fuel : ℕ) × (milliseconds-symbol.routine .step fuel (vint w16 ms ∷ vint w16 per ∷ []) (startMem (inARow ((shr, o) ∷ [])) []) ≡ ended (v, last))
 
 pub record MillisecondsDone (ms per : ℕ) (o : List ℕ) (v : Val) (last : machine.Memory) : Type 0 where
   pub value : v ≡ int32 (returnedTocks (time.milliseconds ms per))
@@ -182,7 +182,7 @@ module _ (ms per : ℕ) (others : List ℕ) (hm : ms < 2 ^ 16) (hp : per < 2 ^ 1
 
   pub milliseconds-runs : ∥ ((v : Val) × (last : machine.Memory) × MillisecondsRuns ms per others v last × MillisecondsDone ms per others v last) ∥₁
   milliseconds-runs =
-      let σ : machine.Memory = startMem (joined ((shr, others) ∷ [])) [] in
+      let σ : machine.Memory = startMem (inARow ((shr, others) ∷ [])) [] in
       let O : List Slice = bytesAt shr (0, 0) others ∷ [] in
       ∥∥₁-elim (runs milliseconds-symbol.routine milliseconds-contract (milliseconds-met.met closed.𝓤 closed.H closed.model ghost₀ 𝓡₀) [] i32 milliseconds-bound (vint w16 ms ∷ vint w16 per ∷ []) (λ i. refl)
       enters (λ r ws. r ≡ returnedTocks (time.milliseconds ms per)) leaves tt σ (Cells O ∗ emp closed.𝓤)

@@ -23,7 +23,7 @@ use denote.Ref.{RefT}
 use denote.Slice.{sliceVal, Room}
 use denote.Steps.{only}
 use Rattle.running.specs.Slices.{Kind, mut}
-use Rattle.running.specs.Memories.{Loads, LoadsAll, joined}
+use Rattle.running.specs.Memories.{Loads, LoadsAll, inARow}
 use Rattle.running.specs.Stores.{Stores}
 use Rattle.running.specs.Machine.{Pr, Cells, _∗_, _⊨_, weaken, begins, cells-append, bytesAt}
 use Rattle.running.specs.Buffer.{Buffer, overwritten, as-long, Rest, stored, lent-again}
@@ -321,7 +321,7 @@ finish-one {p} {z} {r} {xs = xs} {ys = ys} k h =
     (loads-one _ (p .out .0) (p .out .1) xs ys (k .size ∙ sym (h .size)) (k .loads) (subst (λ (σ₁ : machine.Memory). Loads σ₁ (p .out .0) (p .out .1) ys) (sym (e .1)) (h .loads)), number-one w64 (e .0))
 
 -- ---- from the memory with which a run begins: all that is lent, and the input's buffer, side by side
-pub record ProgramBegins (x : Lent) (d : List ℕ) : Type 0 where
+pub record ProgramStarts (x : Lent) (d : List ℕ) : Type 0 where
   pub line : Lendable (x .line)
   pub config : Lendable (x .memory .config)
   pub tables : Lendable (x .memory .tables)
@@ -339,8 +339,8 @@ pub record ProgramBegins (x : Lent) (d : List ℕ) : Type 0 where
 abbrev laid : Lent → List ℕ → List (Kind × List ℕ)
 laid x d = (mut, x .line) ∷ (mut, x .memory .config) ∷ (mut, x .memory .tables) ∷ (mut, x .memory .slots) ∷ (mut, x .memory .timers) ∷ (mut, x .memory .answer) ∷ (mut, x .out) ∷ (mut, d) ∷ []
 
-abbrev pub programBegun : Lent → (input : List ℕ) → machine.Memory
-programBegun x d = startMem (joined (laid x d)) []
+abbrev pub programStart : Lent → (input : List ℕ) → machine.Memory
+programStart x d = startMem (inARow (laid x d)) []
 
 abbrev pub programPlaces : Lent → ProgramPlaces
 programPlaces x =
@@ -356,8 +356,8 @@ full-as : (m₀ m : Memory) → Full m₀ → sizesOf m ≡ sizesOf m₀ → Ful
 full-as m₀ m f e =
     full-sizes m (full-kept (record { config = ap (λ (k : Sizes). k .config) e; tables = ap (λ (k : Sizes). k .tables) e; slots = ap (λ (k : Sizes). k .slots) e; timers = ap (λ (k : Sizes). k .timers) e; answer = ap (λ (k : Sizes). k .answer) e }) ∙ sizes-full m₀ f)
 
-pub prints : (x : Lent) (d : List ℕ) → ProgramBegins x d → {blocks : List (List ℕ)} → Every (FitsBuffer (length d)) blocks
-    → ∥ Printed (programPlaces x) (lentSizes x) (programBegun x d) feeding.begun x blocks ∥₁
+pub prints : (x : Lent) (d : List ℕ) → ProgramStarts x d → {blocks : List (List ℕ)} → Every (FitsBuffer (length d)) blocks
+    → ∥ Printed (programPlaces x) (lentSizes x) (programStart x d) feeding.begun x blocks ∥₁
 prints x d b ls =
     let p : ProgramPlaces = programPlaces x in
     let L : Pr = Cells (lentSlices p x) in
@@ -371,15 +371,15 @@ prints x d b ls =
       least = b .least;
       full = λ m e. full-as (x .memory) m (b .full) e;
     })
-    ls feeding.begun (omega arith) x refl d refl (programBegun x d) (emp closed.𝓤)
-    (weaken (programBegun x d)
+    ls feeding.begun (omega arith) x refl d refl (programStart x d) (emp closed.𝓤)
+    (weaken (programStart x d)
     (via closed.𝓤 ((L ∗ D) ∗ emp closed.𝓤) (monoL closed.𝓤 (emp closed.𝓤) (cells-append (lentSlices p x) (bytesAt mut (p .blocks .buffer) d ∷ [])))
     (via closed.𝓤 (L ∗ (D ∗ emp closed.𝓤)) (assoc∗ closed.𝓤 L D (emp closed.𝓤)) (monoR closed.𝓤 L (monoL closed.𝓤 (emp closed.𝓤) (fst∗ closed.𝓤 (Input p d) (emp closed.𝓤))))))
     (begins (laid x d) (b .line .bytes, (b .config .bytes, (b .tables .bytes, (b .slots .bytes, (b .timers .bytes, (b .answer .bytes, (b .out .bytes, (b .input .bytes, tt))))))))))
 
-pub every-print : (x : Lent) (d : List ℕ) → ProgramBegins x d → {blocks : List (List ℕ)} → Every (FitsBuffer (length d)) blocks
+pub every-print : (x : Lent) (d : List ℕ) → ProgramStarts x d → {blocks : List (List ℕ)} → Every (FitsBuffer (length d)) blocks
     → {outputs : List (List ℕ)} {σ last : machine.Memory} {r : Reached} {x' : Lent} {out : List ℕ} {printed : ℕ}
-    → InputRuns (programPlaces x) (lentSizes x) (programBegun x d) feeding.begun x blocks outputs σ r x' → FinishRuns (programPlaces x) (lentSizes x) r σ last out printed
+    → InputRuns (programPlaces x) (lentSizes x) (programStart x d) feeding.begun x blocks outputs σ r x' → FinishRuns (programPlaces x) (lentSizes x) r σ last out printed
     → calls.joined outputs ++ take printed out ≡ output (calls.joined blocks)
 every-print x d b {blocks} ls {outputs} {σ} {last} {r} {x'} {out} {printed} run end =
     ∥∥₁-elim (prints x d b ls) (bytes-set (calls.joined outputs ++ take printed out) (output (calls.joined blocks))) (λ k.

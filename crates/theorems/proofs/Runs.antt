@@ -174,7 +174,7 @@ module _ (q : Places) (s : Sizes) (rooms : RoomsAt s) (n : ℕ) (small : n < 2 ^
       called frame-symbol.routine (λ m' r. Frames f m m' r) stop m' (k .result) (ap only (k .is .0)) (record { sizes = e; loads = k .loads .1; bytes = k .bytes .1 }) (k .says) (k .is .1) (k .holds)))
 
 -- ---- a list of frames
-pub record Fed (q : Places) (s : Sizes) (O : List Slice) (σ : machine.Memory) (m : Memory) (fs : List (List ℕ)) : Type 0 where
+pub record FramesRan (q : Places) (s : Sizes) (O : List Slice) (σ : machine.Memory) (m : Memory) (fs : List (List ℕ)) : Type 0 where
   pub answers : List (List ℕ)
   pub numbers : List ℕ
   pub last : machine.Memory
@@ -185,14 +185,14 @@ pub record Fed (q : Places) (s : Sizes) (O : List Slice) (σ : machine.Memory) (
 
 -- O is what else lies in the memory
 pub feeds : (q : Places) (s : Sizes) → RoomsAt s → (n : ℕ) → n < 2 ^ 63 → {fs : List (List ℕ)} → Every (FitsBuffer n) fs → (O : List Slice) (m : Memory) → sizesOf m ≡ s
-    → (d : List ℕ) → length d ≡ n → (σ : machine.Memory) (F : Pr) → σ ⊨ Cells (blocksOf q m) ∗ (Buffer (q .buffer) d ∗ (Cells O ∗ F)) → ∥ Fed q s O σ m fs ∥₁
-feeds q s room n small nil O m e d w σ F h =
+    → (d : List ℕ) → length d ≡ n → (σ : machine.Memory) (F : Pr) → σ ⊨ Cells (blocksOf q m) ∗ (Buffer (q .buffer) d ∗ (Cells O ∗ F)) → ∥ FramesRan q s O σ m fs ∥₁
+feeds q s rooms n small nil O m e d w σ F h =
     let B : Pr = Cells (blocksOf q m) in
     ∥∥₁-map (held-loads σ O F (weaken σ (via closed.𝓤 (Buffer (q .buffer) d ∗ (Cells O ∗ F)) (snd∗ closed.𝓤 B (Buffer (q .buffer) d ∗ (Cells O ∗ F))) (snd∗ closed.𝓤 (Buffer (q .buffer) d) (Cells O ∗ F))) h)) (λ o.
     record { answers = []; numbers = []; last = σ; memory = m; runs = none; calls = contracts.none; others = o })
-feeds q s room n small (cons {x = f} l ls) O m e d w σ F h =
-    ∥∥₁-elim (frame-called q s room n small f l m e d w σ (Cells O ∗ F) h) ∥∥₁-prop (λ k.
-    ∥∥₁-map (feeds q s room n small ls O (k .memory) (k .runs .lies .sizes) (k .buffer) (k .size) (k .last) F (k .holds)) (λ t.
+feeds q s rooms n small (cons {x = f} l ls) O m e d w σ F h =
+    ∥∥₁-elim (frame-called q s rooms n small f l m e d w σ (Cells O ∗ F) h) ∥∥₁-prop (λ k.
+    ∥∥₁-map (feeds q s rooms n small ls O (k .memory) (k .runs .lies .sizes) (k .buffer) (k .size) (k .last) F (k .holds)) (λ t.
     record {
       answers = answerOf (k .memory) ∷ t .answers;
       numbers = k .result ∷ t .numbers;

@@ -1,5 +1,5 @@
 -- What a function's theorem buys at the machine, for a function of byte slices (and of values, which its `enters` brings):
--- from every memory that holds the slices it runs, ends and returns a value of its type, and leaves the slices at last
+-- from every memory that holds the slices it runs, ends and stops a value of its type, and leaves the slices at last
 -- values of which its contract holds. It is the kit's `adequate`, between the two steps of Slices. For every model.
 use mathlib.Core.Path.{_≡_, subst}
 use mathlib.Core.Logic.{∥∥₁-prop, ∥∥₁-elim, ∥∥₁-map}
@@ -80,13 +80,13 @@ module _ {M : Type 1} (𝓤 : URA M) (H : Heap 𝓤) (𝓜 : Model 𝓤 H) (A : 
       abbrev 𝓣 : MachineTables 𝓤 H 𝓜
       𝓣 = tables 𝓤 H 𝓜 𝓡 (λ _. ρ)
 
-      abbrev pub Returns : Memory → SProp 𝓤 → Type 1
-      Returns σ F =
+      abbrev pub Stops : Memory → SProp 𝓤 → Type 1
+      Stops σ F =
           (n : ℕ) × (v : Val) × (t : T .Denot × LastValues L) × (σ′ : Memory) × (ρ .step n vs σ ≡ ended (v, σ′)) × Known Φ v t
           × (σ′ ⊨ Cells (afters L (t .1)) ∗ F)
 
-      pub returns : Rooms L → (σ : Memory) (F : SProp 𝓤) → σ ⊨ Cells L ∗ F → ∥ Returns σ F ∥₁
-      returns rooms σ F s =
+      pub stops : Rooms L → (σ : Memory) (F : SProp 𝓤) → σ ⊨ Cells L ∗ F → ∥ Stops σ F ∥₁
+      stops rooms σ F s =
           let Given-out : Ids L → SProp 𝓤 = HandedAll 𝓤 H A W 0 L in
           ∥∥₁-elim (sat-ex∗ 𝓤 H 𝓜 σ Given-out F (sat-⇛ 𝓤 H 𝓜 σ (ex 𝓤 Given-out) F (sat-weaken 𝓤 H 𝓜 σ (monoL 𝓤 F (hands-out 𝓤 H A W 0 L rooms)) s))) ∥∥₁-prop (λ i.
           let ids : Ids L = i .0 in
