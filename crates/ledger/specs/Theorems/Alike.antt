@@ -16,7 +16,7 @@ use Rattle.ledger.specs.Config.{Config}
 use Rattle.ledger.specs.Time.{TockValue, tockValue, tocks, period}
 use Rattle.ledger.specs.Ledger.{Semaphore, PENDING, DONE, WAITING, Outcome, plain, begin, message, entry, refused, semaphore, Request, none, receive, dequeue, enqueue, Blocks, Task, Message, Queue, Timer, Ledger, nullTask, noBlock, onlyIdle, emptyQueue, task, semaphoreOf, mailbox, queue, held, running, setTask, setSemaphores, setSemaphore, setMailbox, setQueue, setTimers, setClock, setBlocks, setOutcome, setSlot, setRequest, setSuspended, setEventWait, setMessageWait}
 use Rattle.ledger.specs.Services.{waitFor, signalled, signal, woken, wakeWaiter, waited, wait, notWaiting, withdrawWait, send, wanted, notEmpty, notFull, shape, empty, full, copyInto, takeEntry, putEntry, received, dequeued, enqueued, issue, terminate, execute, insertTimer, startTimer, purge, tock, tick, Code, WAIT, SIGNAL, PEND, SEND, SENDW, RECEIVE, DEQUEUE, ENQUEUE, RESUME, SUSPEND, TERMINATE, EXECUTE, DELAY, TIMER, PURGE, TICK, EXIT, effect}
-use Rattle.ledger.specs.Refusals.{Waits, noWait, onB, onNotEmpty, onNotFull, call, fields, wouldWaitOn, isWaiting, meets21, inAMailbox, haveTimer, idleOrWaiting, isService, refusal}
+use Rattle.ledger.specs.Refusals.{Waits, noWait, onB, taskOnB, onNotEmpty, onNotFull, call, fields, wouldWaitOn, isWaiting, meets21, inAMailbox, haveTimer, idleOrWaiting, meets25, fromState, refusal}
 use Rattle.ledger.specs.Session.{openRequest, isOpen, refused21, issueAgain, reissue, Settled, settle, answer, accept, Stepped, step, TimerLeft, timerLeft, Items, items}
 use Rattle.ledger.specs.Theorems.Both.{Both, nil, cons, both-to, map-both, both-map, both-length, both-any, both-keep, both-insert, both-at, both-put}
 use Rattle.ledger.specs.Theorems.Tocks.{again, renew, renewAll, dueAt, renewed, signalAll, tock-is}
@@ -410,8 +410,7 @@ alike-effect {l} {l'} EXIT c t n b x e a = go (eqb b 0)
 -- ---- refusals
 
 module _ {l l' : Ledger} (c : Config) (a : Alike l l') where
-  same-call : (f : List ℕ) → call c l f ≡ call c l' f
-  unfolding call
+  same-call : (f : List ℕ) → call c (running l) f ≡ call c (running l') f
   same-call f = rw (same-running a)
 
   same-meets : (w : Waits) (q b : ℕ) → meets21 c l w q b ≡ meets21 c l' w q b
@@ -421,6 +420,7 @@ module _ {l l' : Ledger} (c : Config) (a : Alike l l') where
       on : (w : Waits) → wouldWaitOn c l w q b ≡ wouldWaitOn c l' w q b
       on noWait = refl
       on onB = refl
+      on taskOnB = refl
       on onNotEmpty = ap (λ z. cond z (notEmpty c q) 0) (same-empty q a)
       on onNotFull = ap (λ z. cond z (notFull c q) 0) (same-full c q a)
 
@@ -436,20 +436,28 @@ module _ {l l' : Ledger} (c : Config) (a : Alike l l') where
   unfolding idleOrWaiting
   same-idle n = ap (λ (t : Task). t .blocks .idle || t .blocks .eventWait || t .blocks .messageWait) (same-task a n)
 
+  same-busy : (w : Waits) (n : ℕ) → meets25 l w n ≡ meets25 l' w n
+  unfolding meets25
+  same-busy noWait n = refl
+  same-busy onB n = refl
+  same-busy taskOnB n = same-idle n
+  same-busy onNotEmpty n = refl
+  same-busy onNotFull n = refl
+
   same-refusal : (f : List ℕ) → refusal c l f ≡ refusal c l' f
-  unfolding refusal
+  unfolding refusal fromState
   same-refusal f =
-      let k = call c l' f in
-      rw (same-call f, same-idle (k .a), same-mail (k .x), same-meets (fields (k .code) .waits) (k .a) (k .b), same-timer (k .a) (k .b), both-length (a .timers))
+      let k = call c (running l') f in
+      rw (same-running a, same-busy (fields (k .code) .waits) (k .a), same-mail (k .x), same-meets (fields (k .code) .waits) (k .a) (k .b), same-timer (k .a) (k .b), both-length (a .timers))
 
 -- ---- settling and the step
 
 alike-accept : {l l' : Ledger} (c : Config) (f : List ℕ) → Alike l l' → Alike (accept c f l) (accept c f l')
 unfolding accept
-alike-accept {l} {l'} c f a = let k = call c l' f in rw (same-call c a f) (alike-effect (k .code) c (k .self) (k .a) (k .b) (k .x) (k .bytes) (go (isService f)))
+alike-accept {l} {l'} c f a = let k = call c (running l') f in rw (same-running a) (alike-effect (k .code) c (k .self) (k .a) (k .b) (k .x) (k .bytes) (go (fields (k .code) .service)))
   where
-    go : (z : Bool) → Alike (cond z (setOutcome (call c l' f .self) plain l) l) (cond z (setOutcome (call c l' f .self) plain l') l')
-    go true = set-outcome a (call c l' f .self) plain
+    go : (z : Bool) → Alike (cond z (setOutcome (call c (running l') f .self) plain l) l) (cond z (setOutcome (call c (running l') f .self) plain l') l')
+    go true = set-outcome a (call c (running l') f .self) plain
     go false = a
 
 same-refused21 : {l l' : Ledger} (c : Config) (r : Request) → Alike l l' → refused21 c r l ≡ refused21 c r l'
