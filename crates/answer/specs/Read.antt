@@ -51,8 +51,8 @@ module _ (c : Config) (s : Shape) (L : Ledger) (d z w : List ℕ) (h : Shows c s
   unfolding task at shown viewTask
   task-short zero hi = (omega arith, omega arith)
   task-short (suc t) hi =
-      subst (λ (k : ledger.Task). Short (shown (k .outcome))) (sym (shown-task c s L d z w h (suc t) (omega arith) hi))
-      (view-short (record-is c s L d z w h (suc t) (omega arith) hi .outcome) (rowAt 16 (suc t - 1) z) (simp length-take (omega arith)))
+      subst (λ (k : ledger.Task). Short (shown (k .outcome))) (sym (shown-task c s L d z w h (suc t) (omega arith, hi)))
+      (view-short (record-is c s L d z w h (suc t) (omega arith, hi) .outcome) (rowAt 16 (suc t - 1) z) (simp length-take (omega arith)))
 
   -- so the block of 21 bytes has room for every answer
   pub answer-short : running L ≤ s .tasks → (n m : ℕ) → (4 ≤ length (answer n m L)) × (length (answer n m L) ≤ 20)

@@ -4,19 +4,17 @@
 use tables::shape::Shape;
 use tables::tasks::Outcome;
 ghost use mathlib.Core.Path.{_≡_};
-ghost use mathlib.Core.List.{List, [], _∷_};
-ghost use Prim.Native.Nat.{ℕ, _-_, _*_, _≤_};
+ghost use mathlib.Core.List.{[], _∷_};
+ghost use Prim.Native.Nat.{_-_, _*_, _≤_};
 ghost use lib.ListN.{length, take};
 ghost use Rattle.rows.specs.Splice.{splice};
 ghost use Rattle.rows.specs.Rows.{rowAt};
 ghost use Rattle.tables.specs.Decode.{viewOutcome};
 ghost use Rattle.tables.specs.Layout.{Fits};
-ghost use Rattle.tables.specs.Shows.{Shows};
-ghost use Rattle.ledger.specs.Config.{Config};
 ghost use Rattle.ledger.specs.Ledger as ledger;
-ghost use Rattle.ledger.specs.Ledger.{Ledger};
 ghost use Rattle.ledger.specs.Session as session;
 ghost use Rattle.answer.specs.Written.{written, parts, line, narrow};
+ghost use Rattle.answer.specs.Answered.{Answers};
 
 // What stands before the outcome.
 struct Head {
@@ -65,13 +63,13 @@ fn narrowed(width: u8) -> u8
 }
 
 // The entry in the slot of task t.
-fn put_entry(answer: &mut [u8], head: Head, width: u8, slots: &[u8], t: usize)
+fn put_entry(answer: &mut [u8], head: Head, width: u8, slots: &[u8], t: u8)
     requires { ⌜ (21 ≤ length (now answer)) × (1 ≤ t) × (16 * t ≤ length (now slots)) ⌝ }
     ensures { λ _. ⌜ now (answer .exit) ≡ written (line head (ledger.entry (take width (rowAt 16 (t - 1) (now (slots .entry)))))) (now (answer .entry)) ⌝ }
 {
     let w = narrowed(width);
     put_head(answer, w + 4, head, 3);
-    let at = (t - 1) * 16;
+    let at = (t as usize - 1) * 16;
     let end = at + w as usize;
     rows::copy_in(&slots[at..end], answer, 5);
 }
@@ -93,7 +91,7 @@ fn put_semaphore(answer: &mut [u8], head: Head, semaphore: u8)
 }
 
 // An outcome of task t.
-fn put_outcome(answer: &mut [u8], head: Head, o: Outcome, slots: &[u8], t: usize)
+fn put_outcome(answer: &mut [u8], head: Head, o: Outcome, slots: &[u8], t: u8)
     requires { ⌜ (21 ≤ length (now answer)) × (1 ≤ t) × (16 * t ≤ length (now slots)) ⌝ }
     ensures { λ _. ⌜ now (answer .exit) ≡ written (line head (viewOutcome o (rowAt 16 (t - 1) (now (slots .entry))))) (now (answer .entry)) ⌝ }
 {
@@ -112,17 +110,17 @@ pub fn write(
     tables: &[u8],
     slots: &[u8],
     shape: Shape,
-    running: usize,
+    running: u8,
     number: u8,
     reissues: u8,
     answer: &mut [u8],
 )
     requires { ⌜ Fits shape (length (now tables)) × (16 * shape .tasks ≤ length (now slots)) × (21 ≤ length (now answer)) × (running ≤ shape .tasks) ⌝ }
-    ensures { λ _. ⌜ ((c : Config) (L : Ledger) (w : List ℕ) → Shows c shape L (now (tables .entry)) (now (slots .entry)) w → running ≡ ledger.running L → now (answer .exit) ≡ written (session.answer number reissues L) (now (answer .entry))) ⌝ }
+    ensures { λ _. ⌜ Answers shape (now (tables .entry)) (now (slots .entry)) running number reissues (now (answer .entry)) (now (answer .exit)) ⌝ }
 {
     let head = Head {
         number: number,
-        running: running as u8,
+        running: running,
         reissues: reissues,
     };
     if running == 0 {

@@ -2,14 +2,15 @@
 use mathlib.Core.Path.{_≡_, refl, sym, ap, _∙_}
 use mathlib.Core.Bool.{Bool, true, false, not, _&&_, _||_}
 use mathlib.Core.List.{List, map}
-use Prim.Native.Nat.{ℕ, _%_}
+use Prim.Native.Nat.{ℕ, _%_, _<_}
 use native.Mathlib.Omega.{arith}
 use lib.Dec.{eqb}
 use lib.ListN.{length, getD, drop}
 use Rattle.ledger.specs.Lists.{keep}
 use Rattle.ledger.specs.Config.{Config}
+use Rattle.ledger.specs.Time.{TockValue, tocks, period}
 use Rattle.ledger.specs.Ledger.{Timer, Ledger, setTimers}
-use Rattle.ledger.specs.Services.{purge}
+use Rattle.ledger.specs.Services.{startTimer, purge}
 use Rattle.ledger.specs.Session.{timerLeft}
 use Rattle.timers.specs.Timers.{timersIn}
 use Rattle.tables.specs.declared.shape.Shape.{Shape}
@@ -26,6 +27,14 @@ DoesTimers s w w' f = (c : Config) (L : Ledger) (d z : List ℕ) → Shows c s L
 -- the value r is the ledger's
 abbrev pub TellsTimers : {A : Type 0} → Shape → List ℕ → (Config → Ledger → A) → A → Type 0
 TellsTimers s w f r = (c : Config) (L : Ledger) (d z : List ℕ) → Shows c s L d z w → r ≡ f c L
+
+-- where P holds of the ledger
+abbrev pub DoesTimersIf : Shape → (w w' : List ℕ) → (Config → Ledger → Type 0) → (Config → Ledger → Ledger) → Type 0
+DoesTimersIf s w w' P f = (c : Config) (L : Ledger) (d z : List ℕ) → P c L → Shows c s L d z w → Shows c s (f c L) d z w'
+
+-- a timer is started, where a record is left for it
+abbrev pub Starts : Shape → (w w' : List ℕ) → (task semaphore left again : ℕ) → Type 0
+Starts s w w' a b left again = (v : TockValue) → tocks v ≡ left → period v ≡ again → DoesTimersIf s w w' (λ c L. length (L .timers) < c .R) (λ c L. startTimer a b v L)
 
 -- ---- a purge: task a loses all its timers, or only those on semaphore b
 unfoldable pub purged : ℕ → Bool → ℕ → Ledger → Ledger

@@ -2,27 +2,28 @@
 // Promises: each operation is the ledger's own change, for every ledger that the memory shows.
 // Rests on tables (what the memory shows) and timers (records of ten bytes in a slice), and on the ledger's definitions.
 use tables::shape::Shape;
+use tables::shape::TICKS_AT;
 ghost use mathlib.Core.Path.{_≡_};
 ghost use mathlib.Core.Bool.{cond, not};
-ghost use mathlib.Core.List.{List};
-ghost use Prim.Native.Nat.{ℕ, suc, _+_, _-_, _<_, _≤_};
+ghost use Prim.Native.Nat.{suc, _+_, _-_, _<_, _≤_};
 ghost use lib.Dec.{ltb};
 ghost use lib.ListN.{length, getD};
-ghost use Rattle.ledger.specs.Config.{Config};
-ghost use Rattle.ledger.specs.Time as time;
-ghost use Rattle.ledger.specs.Time.{TockValue, tocks};
-ghost use Rattle.ledger.specs.Ledger.{Ledger, setClock};
-ghost use Rattle.ledger.specs.Services.{startTimer};
+ghost use Rattle.ledger.specs.Ledger.{setClock};
 ghost use Rattle.ledger.specs.Refusals.{haveTimer};
 ghost use Rattle.timers.specs.Timers.{dueIn};
 ghost use Rattle.timers.specs.Drained.{nextDue, takeDue};
 ghost use Rattle.tables.specs.Decode.{countOf, leftOf};
-ghost use Rattle.tables.specs.Layout.{Fits};
-ghost use Rattle.tables.specs.Shows.{Shows, Does, Tells};
+ghost use Rattle.tables.specs.Layout.{ticksAt, Fits};
+ghost use Rattle.tables.specs.Shows.{Does, Tells};
 ghost use Rattle.clock.specs.Held.{Holds, heldIn};
-ghost use Rattle.clock.specs.Does.{DoesTimers, TellsTimers, purged};
+ghost use Rattle.clock.specs.Does.{DoesTimers, TellsTimers, Starts, purged};
 ghost use Rattle.clock.specs.Ticks.{AfterTick};
 ghost use Rattle.clock.specs.Tocks.{Advanced};
+
+// The block `timers`: the number of timers, and their records behind it.
+const NUMBER_AT: usize = 0;
+
+const RECORDS_AT: usize = 1;
 
 // A count, the most that there can be where the byte says more.
 fn counted(most: usize, x: u8) -> usize
@@ -39,7 +40,7 @@ pub fn count(timers: &[u8], shape: Shape) -> usize
     requires { ⌜ Holds shape (length (now timers)) ⌝ }
     ensures { λ r. ⌜ (r ≤ shape .timers) × (r ≡ countOf (shape .timers) (getD (now (timers .entry)) 0 0)) × TellsTimers shape (now (timers .entry)) (λ c L. length (L .timers)) r ⌝ }
 {
-    counted(shape.timers, timers[0])
+    counted(shape.timers, timers[NUMBER_AT])
 }
 
 // Whether a task has a timer on a semaphore.
@@ -48,7 +49,7 @@ pub fn has(timers: &[u8], shape: Shape, task: u8, semaphore: u8) -> bool
     ensures { λ r. ⌜ TellsTimers shape (now (timers .entry)) (λ c L. haveTimer L task semaphore) r ⌝ }
 {
     let n = count(timers, shape);
-    timers::has(&timers[1..], n, task, semaphore)
+    timers::has(&timers[RECORDS_AT..], n, task, semaphore)
 }
 
 // A small number as a byte.
@@ -62,14 +63,14 @@ fn byte(n: usize) -> u8
 // Starts a timer, where a record is left for it.
 pub fn start(timers: &mut [u8], shape: Shape, task: u8, semaphore: u8, left: u32, period: u32)
     requires { ⌜ Holds shape (length (now timers)) ⌝ }
-    ensures { λ _. ⌜ ((c : Config) (L : Ledger) (d z : List ℕ) (v : TockValue) → tocks v ≡ left → time.period v ≡ period → length (L .timers) < c .R → Shows c shape L d z (now (timers .entry)) → Shows c shape (startTimer task semaphore v L) d z (now (timers .exit))) ⌝ }
+    ensures { λ _. ⌜ Starts shape (now (timers .entry)) (now (timers .exit)) task semaphore left period ⌝ }
 {
     let n = count(timers, shape);
     if n >= shape.timers {
         return;
     }
-    timers::insert(&mut timers[1..], n, task, semaphore, left, period);
-    timers[0] = byte(n + 1);
+    timers::insert(&mut timers[RECORDS_AT..], n, task, semaphore, left, period);
+    timers[NUMBER_AT] = byte(n + 1);
 }
 
 // Takes out all timers of a task, or only those on a semaphore.
@@ -78,8 +79,8 @@ pub fn purge(timers: &mut [u8], shape: Shape, task: u8, all: bool, semaphore: u8
     ensures { λ _. ⌜ DoesTimers shape (now (timers .entry)) (now (timers .exit)) (λ c L. purged task all semaphore L) ⌝ }
 {
     let n = count(timers, shape);
-    let left = timers::purge(&mut timers[1..], n, task, all, semaphore);
-    timers[0] = byte(left);
+    let left = timers::purge(&mut timers[RECORDS_AT..], n, task, all, semaphore);
+    timers[NUMBER_AT] = byte(left);
 }
 
 // Takes the first due timer out, and puts it in again if it is cyclic. Gives the semaphore that it signals.
@@ -88,8 +89,8 @@ pub fn take_due(timers: &mut [u8], shape: Shape) -> u8
     ensures { λ r. ⌜ (dueIn (heldIn shape (now (timers .exit))) ≡ dueIn (heldIn shape (now (timers .entry))) - 1) × TellsTimers shape (now (timers .entry)) (λ c L. nextDue L .semaphore) r × DoesTimers shape (now (timers .entry)) (now (timers .exit)) (λ c L. takeDue L) ⌝ }
 {
     let n = count(timers, shape);
-    let due = timers::take_due(&mut timers[1..], n);
-    timers[0] = byte(due.count);
+    let due = timers::take_due(&mut timers[RECORDS_AT..], n);
+    timers[NUMBER_AT] = byte(due.count);
     due.semaphore
 }
 
@@ -99,7 +100,7 @@ fn pass(timers: &mut [u8], shape: Shape) -> usize
     ensures { λ r. ⌜ (r ≤ shape .timers) × (r ≡ dueIn (heldIn shape (now (timers .exit)))) × DoesTimers shape (now (timers .entry)) (now (timers .exit)) (λ c L. setClock (suc (L .N)) (L .ticks) L) ⌝ }
 {
     let n = count(timers, shape);
-    timers::pass(&mut timers[1..], n)
+    timers::pass(&mut timers[RECORDS_AT..], n)
 }
 
 // The tick's record: the ticks left in the tock, and the ticks per tock.
@@ -171,9 +172,9 @@ fn left_of(ticks: usize, x: u8) -> usize
 // The ticks left in the tock.
 fn ticks_left(tables: &[u8], shape: Shape) -> usize
     requires { ⌜ Fits shape (length (now tables)) ⌝ }
-    ensures { λ r. ⌜ (1 ≤ r) × (r ≤ shape .ticks) × (r ≡ leftOf (shape .ticks) (getD (now (tables .entry)) 0 0)) ⌝ }
+    ensures { λ r. ⌜ (1 ≤ r) × (r ≤ shape .ticks) × (r ≡ leftOf (shape .ticks) (getD (now (tables .entry)) ticksAt 0)) ⌝ }
 {
-    left_of(shape.ticks, tables[0])
+    left_of(shape.ticks, tables[TICKS_AT])
 }
 
 // One tick in the tables. Gives whether a tock passed.
@@ -183,7 +184,7 @@ fn tick(tables: &mut [u8], shape: Shape) -> bool
 {
     let left = ticks_left(tables, shape);
     let after = lent_tick(left, shape.ticks);
-    tables[0] = byte(after.left);
+    tables[TICKS_AT] = byte(after.left);
     after.tock
 }
 

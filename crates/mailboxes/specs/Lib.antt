@@ -2,4 +2,4 @@
 pub mod Received
 -- Where the messages lie, and what is shown when they change.
 pub mod Mail
-pub mod Done
+pub mod Operations

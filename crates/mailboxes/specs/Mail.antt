@@ -12,7 +12,7 @@ use Rattle.rows.specs.Splice.{cut, splice}
 use Rattle.rows.specs.Laws.{length-cut, length-splice, lent-back, splice-whole}
 use Rattle.messages.specs.Pending.{Pending, pendingIn, mailboxOf, completeIn}
 use Rattle.tables.specs.declared.shape.Shape.{Shape}
-use Rattle.tables.specs.Layout.{Laid, Fits, fitting, bound, region, Regions, named, regions, but, written, byte-written, region-at, region-length}
+use Rattle.tables.specs.Layout.{OneOf, ticksAt, countAt, Laid, Fits, fitting, bound, region, Regions, named, regions, but, written, byte-written, region-at, region-length}
 use Rattle.tables.specs.Decode.{countOf}
 use Rattle.tables.specs.Shows.{Shows, pendingOf}
 use Rattle.tables.specs.Items.{withMessages, mailbox-is, mailbox-shown}
@@ -22,7 +22,7 @@ use Rattle.ledger.specs.Ledger.{Ledger, Message, mailbox, setMailbox}
 
 -- the messages' region, and the byte that counts them, lie within n bytes
 pub record Lies (s : Shape) (n : ℕ) : Type 0 where
-  pub counted : 1 < n
+  pub counted : countAt < n
   pub start : s .messageat ≤ s .bodyat
   pub within : s .bodyat ≤ n
   pub room : s .bodyat - s .messageat ≡ s .messages * 4
@@ -37,7 +37,7 @@ abbrev pub bytes : Shape → List ℕ → List ℕ
 bytes s d = cut d (s .messageat) (s .bodyat)
 
 abbrev pub mail : Shape → List ℕ → List Pending
-mail s d = pendingIn (countOf (s .messages) (getD d 1 0)) (bytes s d)
+mail s d = pendingIn (countOf (s .messages) (getD d countAt 0)) (bytes s d)
 
 pub bytes-are : (s : Shape) (d : List ℕ) → regions s d .messages ≡ bytes s d
 unfolding regions named region bound
@@ -47,12 +47,12 @@ pub bytes-length : {s : Shape} (d : List ℕ) → Fits s (length d) → length (
 bytes-length {s} d f = let l = lies f in length-cut d (s .messageat) (s .bodyat) (l .within) ∙ l .room
 
 -- a test of them, by the count that was read
-pub sound-told : (s : Shape) (d : List ℕ) (n : ℕ) (r : Bool) → n ≡ countOf (s .messages) (getD d 1 0) → r ≡ completeIn (s .tasks) (s .messages) (pendingIn n (bytes s d))
-    → r ≡ completeIn (s .tasks) (s .messages) (pendingIn (countOf (s .messages) (getD d 1 0)) (regions s d .messages))
+pub sound-told : (s : Shape) (d : List ℕ) (n : ℕ) (r : Bool) → n ≡ countOf (s .messages) (getD d countAt 0) → r ≡ completeIn (s .tasks) (s .messages) (pendingIn n (bytes s d))
+    → r ≡ completeIn (s .tasks) (s .messages) (pendingIn (countOf (s .messages) (getD d countAt 0)) (regions s d .messages))
 sound-told s d n r e q = q ∙ rw (e, bytes-are s d)
 
 module _ (c : Config) (s : Shape) (L : Ledger) (d z w : List ℕ) (h : Shows c s L d z w) where
-  counter : getD (regions s d .clock) 1 0 ≡ getD d 1 0
+  counter : getD (regions s d .clock) countAt 0 ≡ getD d countAt 0
   unfolding regions named bound
   counter = region-at s d 0 1 (omega arith)
 
@@ -61,11 +61,11 @@ module _ (c : Config) (s : Shape) (L : Ledger) (d z w : List ℕ) (h : Shows c s
   unfolding pendingOf
   mail-is =
       ap₂ (λ (g x : ℕ). pendingIn (countOf g x) (bytes s d)) (h .of .messages) (sym counter)
-      ∙ ap (pendingIn (countOf (c .G) (getD (regions s d .clock) 1 0))) (sym (bytes-are s d))
+      ∙ ap (pendingIn (countOf (c .G) (getD (regions s d .clock) countAt 0))) (sym (bytes-are s d))
 
 -- the region came back as other bytes, and the byte that counts them is new
 abbrev pub renewed : Shape → (d ys : List ℕ) → ℕ → List ℕ
-renewed s d ys v = set (putMid (s .messageat) (s .bodyat - s .messageat) d ys) 1 v
+renewed s d ys v = set (putMid (s .messageat) (s .bodyat - s .messageat) d ys) countAt v
 
 module _ (s : Shape) (l : Laid s) (d : List ℕ) (space : s .end ≤ length d) (ys : List ℕ) (n : length ys ≡ length (bytes s d)) where
   abbrev back : List ℕ
@@ -88,22 +88,22 @@ module _ (s : Shape) (l : Laid s) (d : List ℕ) (space : s .end ≤ length d) (
 
   module _ (v : ℕ) where
     pub renewed-length : length (renewed s d ys v) ≡ length d
-    renewed-length = length-set back 1 v ∙ back-length
+    renewed-length = length-set back countAt v ∙ back-length
 
-    pub renewed-regions : regions s (renewed s d ys v) ≡ withMessages (set (regions s d .clock) 1 v) ys (regions s d)
+    pub renewed-regions : regions s (renewed s d ys v) ≡ withMessages (set (regions s d .clock) countAt v) ys (regions s d)
     unfolding regions named but bound withMessages
     renewed-regions =
         byte-written s l back (omega (arith, back-length)) 0 1 v (omega arith)
-        ∙ ap (λ (p : Regions). withMessages (set (p .clock) 1 v) (p .messages) p) back-regions
+        ∙ ap (λ (p : Regions). withMessages (set (p .clock) countAt v) (p .messages) p) back-regions
 
 -- what is then shown: one mailbox is new, the others are as they were
-module _ (c : Config) (s : Shape) (L : Ledger) (d z w : List ℕ) (h : Shows c s L d z w) (t : ℕ) (lo : 1 ≤ t) (hi : t ≤ s .tasks) where
+module _ (c : Config) (s : Shape) (L : Ledger) (d z w : List ℕ) (h : Shows c s L d z w) (t : ℕ) (to : OneOf (s .tasks) t) where
   pub mailbox-in : mailbox L t ≡ mailboxOf t (mail s d)
-  mailbox-in = mailbox-is c L (regions s d) z w (h .shown) t lo (omega (arith, h .of .tasks)) ∙ ap (mailboxOf t) (sym (mail-is c s L d z w h))
+  mailbox-in = mailbox-is c L (regions s d) z w (h .shown) t (to .0, omega (arith, h .of .tasks)) ∙ ap (mailboxOf t) (sym (mail-is c s L d z w h))
 
   module _ (ys : List ℕ) (n : length ys ≡ length (bytes s d)) (v : ℕ) (few : v ≤ s .messages) where
     abbrev clock : List ℕ
-    clock = set (regions s d .clock) 1 v
+    clock = set (regions s d .clock) countAt v
 
     clock-length : length (regions s d .clock) ≡ 2
     unfolding regions named bound
@@ -112,7 +112,7 @@ module _ (c : Config) (s : Shape) (L : Ledger) (d z w : List ℕ) (h : Shows c s
     mail-new : pendingOf c (withMessages clock ys (regions s d)) ≡ pendingIn v ys
     unfolding pendingOf withMessages
     mail-new =
-        let e : getD clock 1 0 ≡ v = getD-set-same (regions s d .clock) 1 v 0 (omega (arith, clock-length)) in
+        let e : getD clock countAt 0 ≡ v = getD-set-same (regions s d .clock) countAt v 0 (omega (arith, clock-length)) in
         let m : v ≤ c .G = omega (arith, h .of .messages) in
         ap (λ (x : ℕ). pendingIn (countOf (c .G) x) ys) e ∙ rw (le-leb v (c .G) m)
 
@@ -123,7 +123,7 @@ module _ (c : Config) (s : Shape) (L : Ledger) (d z w : List ℕ) (h : Shows c s
         shows-as c s L d z w (renewed s d ys v) z (withMessages clock ys p) h (renewed-length s (h .of .laid) d (h .room) ys n v) refl
         (renewed-regions s (h .of .laid) d (h .room) ys n v)
         (setMailbox t x L)
-        (mailbox-shown c L p z w (h .shown) clock ys t x (getD-set-other (p .clock) 1 0 v 0 (λ e. omega arith)) lo
+        (mailbox-shown c L p z w (h .shown) clock ys t x (getD-set-other (p .clock) countAt 0 v 0 (λ e. omega arith)) (to .0)
         (sym new ∙ ap (mailboxOf t) (sym mail-new))
         (λ j ne. ap (mailboxOf j) (sym (mail-is c s L d z w h)) ∙ sym (others j (λ e. ne (sym e))) ∙ ap (mailboxOf j) (sym mail-new))
         (ap (completeIn (c .T) (c .G)) mail-new ∙ ap₂ (λ (a b : ℕ). completeIn a b (pendingIn v ys)) (sym (h .of .tasks)) (sym (h .of .messages)) ∙ all))

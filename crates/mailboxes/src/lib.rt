@@ -1,22 +1,22 @@
 // The mailboxes in the lent memory: the region of the messages, and their number in the clock's region.
 // Promises: each change is the ledger's own, for every ledger that the memory shows, and each answer is that ledger's.
 // Rests on tables, for what the memory shows, and on messages, for what a change of the records makes of every mailbox.
+use tables::shape::COUNT_AT;
 use tables::shape::Shape;
 ghost use mathlib.Core.Path.{_≡_};
 ghost use mathlib.Core.Bool.{false};
-ghost use mathlib.Core.List.{List, []};
-ghost use Prim.Native.Nat.{ℕ, _≤_};
+ghost use mathlib.Core.List.{[]};
+ghost use Prim.Native.Nat.{_≤_};
 ghost use lib.ListN.{length, getD};
 ghost use Rattle.messages.specs.Pending.{pendingIn, completeIn};
 ghost use Rattle.tables.specs.Decode.{countOf};
-ghost use Rattle.tables.specs.Layout.{Fits, regions};
-ghost use Rattle.tables.specs.Shows.{Shows, Does, Tells};
-ghost use Rattle.ledger.specs.Config.{Config};
-ghost use Rattle.ledger.specs.Lists.{find, insertBy};
-ghost use Rattle.ledger.specs.Ledger.{Ledger, mailbox, setMailbox};
+ghost use Rattle.tables.specs.Layout.{OneOf, Fits, countAt, regions};
+ghost use Rattle.tables.specs.Shows.{Does, DoesIf, Tells};
+ghost use Rattle.ledger.specs.Lists.{find};
+ghost use Rattle.ledger.specs.Ledger.{mailbox, setMailbox};
 ghost use Rattle.ledger.specs.Services.{wanted};
 ghost use Rattle.ledger.specs.Refusals.{inAMailbox};
-ghost use Rattle.mailboxes.specs.Received.{viewReceived, taken};
+ghost use Rattle.mailboxes.specs.Received.{viewReceived, inserted, taken};
 
 // A message that was received: its number, its sender, its semaphore.
 pub enum Received {
@@ -40,63 +40,63 @@ pub fn holds(tables: &[u8], shape: Shape, number: u8) -> bool
     requires { ⌜ Fits shape (length (now tables)) ⌝ }
     ensures { λ r. ⌜ Tells shape (now (tables .entry)) (λ c L. inAMailbox L number) r ⌝ }
 {
-    let n = count(tables[1], shape.messages);
+    let n = count(tables[COUNT_AT], shape.messages);
     let at = shape.messageat;
     let end = shape.bodyat;
     messages::holds(&tables[at..end], n, shape.tasks, number)
 }
 
 // Puts a message that lies in no mailbox into that of task `to`.
-pub fn insert(tables: &mut [u8], shape: Shape, to: usize, number: u8, sender: u8, semaphore: u8)
-    requires { ⌜ Fits shape (length (now tables)) × (1 ≤ to) × (to ≤ shape .tasks) × (1 ≤ number) × (number ≤ shape .messages) ⌝ }
-    ensures { λ _. ⌜ ((c : Config) (L : Ledger) (z w : List ℕ) → inAMailbox L number ≡ false → Shows c shape L (now (tables .entry)) z w → Shows c shape (setMailbox to (insertBy (λ m. m .sender) (record { number = number; sender = sender; semaphore = semaphore }) (mailbox L to)) L) (now (tables .exit)) z w) ⌝ }
+pub fn insert(tables: &mut [u8], shape: Shape, to: u8, number: u8, sender: u8, semaphore: u8)
+    requires { ⌜ Fits shape (length (now tables)) × OneOf (shape .tasks) to × OneOf (shape .messages) number ⌝ }
+    ensures { λ _. ⌜ DoesIf shape (now (tables .entry)) (now (tables .exit)) (λ c L. inAMailbox L number ≡ false) (λ c L. inserted to (record { number = number; sender = sender; semaphore = semaphore }) L) ⌝ }
 {
-    let n = count(tables[1], shape.messages);
+    let n = count(tables[COUNT_AT], shape.messages);
     if n >= shape.messages {
         return;
     }
     let at = shape.messageat;
     let end = shape.bodyat;
-    messages::insert(&mut tables[at..end], n, to as u8, number, sender, semaphore);
-    tables[1] = (n + 1) as u8;
+    messages::insert(&mut tables[at..end], n, to, number, sender, semaphore);
+    tables[COUNT_AT] = (n + 1) as u8;
 }
 
 // Takes the first message for task t that is from `from`, or from any if that is 0.
-pub fn take(tables: &mut [u8], shape: Shape, t: usize, from: u8) -> Received
-    requires { ⌜ Fits shape (length (now tables)) × (1 ≤ t) × (t ≤ shape .tasks) ⌝ }
-    ensures { λ r. ⌜ ((c : Config) (L : Ledger) (z w : List ℕ) → Shows c shape L (now (tables .entry)) z w → (viewReceived r ≡ find (wanted from) (mailbox L t)) × Shows c shape (taken r t from L) (now (tables .exit)) z w) ⌝ }
+pub fn take(tables: &mut [u8], shape: Shape, t: u8, from: u8) -> Received
+    requires { ⌜ Fits shape (length (now tables)) × OneOf (shape .tasks) t ⌝ }
+    ensures { λ r. ⌜ Tells shape (now (tables .entry)) (λ c L. find (wanted from) (mailbox L t)) (viewReceived r) × Does shape (now (tables .entry)) (now (tables .exit)) (λ c L. taken r t from L) ⌝ }
 {
-    let n = count(tables[1], shape.messages);
+    let n = count(tables[COUNT_AT], shape.messages);
     let at = shape.messageat;
     let end = shape.bodyat;
-    let k = messages::find(&tables[at..end], n, t as u8, from);
+    let k = messages::find(&tables[at..end], n, t, from);
     if k >= n {
         return Received::Nothing;
     }
     let p = messages::load(&tables[at..end], k);
     messages::remove(&mut tables[at..end], n, k);
-    tables[1] = (n - 1) as u8;
+    tables[COUNT_AT] = (n - 1) as u8;
     Received::Message(p.number, p.sender, p.semaphore)
 }
 
 // Empties the mailbox of task t.
-pub fn clear(tables: &mut [u8], shape: Shape, t: usize)
-    requires { ⌜ Fits shape (length (now tables)) × (1 ≤ t) × (t ≤ shape .tasks) ⌝ }
+pub fn clear(tables: &mut [u8], shape: Shape, t: u8)
+    requires { ⌜ Fits shape (length (now tables)) × OneOf (shape .tasks) t ⌝ }
     ensures { λ _. ⌜ Does shape (now (tables .entry)) (now (tables .exit)) (λ c L. setMailbox t [] L) ⌝ }
 {
-    let n = count(tables[1], shape.messages);
+    let n = count(tables[COUNT_AT], shape.messages);
     let at = shape.messageat;
     let end = shape.bodyat;
-    let m = messages::remove_all(&mut tables[at..end], n, t as u8);
-    tables[1] = m as u8;
+    let m = messages::remove_all(&mut tables[at..end], n, t);
+    tables[COUNT_AT] = m as u8;
 }
 
 // Whether each message that lies in the memory is for one of the tasks, is one of those that there are, and lies there once.
 pub fn sound(tables: &[u8], shape: Shape) -> bool
     requires { ⌜ Fits shape (length (now tables)) ⌝ }
-    ensures { λ r. ⌜ r ≡ completeIn (shape .tasks) (shape .messages) (pendingIn (countOf (shape .messages) (getD (now (tables .entry)) 1 0)) (regions shape (now (tables .entry)) .messages)) ⌝ }
+    ensures { λ r. ⌜ r ≡ completeIn (shape .tasks) (shape .messages) (pendingIn (countOf (shape .messages) (getD (now (tables .entry)) countAt 0)) (regions shape (now (tables .entry)) .messages)) ⌝ }
 {
-    let n = count(tables[1], shape.messages);
+    let n = count(tables[COUNT_AT], shape.messages);
     let at = shape.messageat;
     let end = shape.bodyat;
     messages::complete(&tables[at..end], n, shape.messages, shape.tasks)

@@ -20,7 +20,7 @@ use Rattle.ledger.specs.Ledger.{Ledger, Queue, queue, held, setQueue}
 use Rattle.ledger.specs.Services.{shape, putEntry}
 use Rattle.tables.specs.declared.shape.Shape.{Shape}
 use Rattle.tables.specs.Decode.{headOf, countOf}
-use Rattle.tables.specs.Back.{head-in, count-in}
+use Rattle.tables.specs.Encoded.{head-in, count-in}
 use Rattle.tables.specs.Layout.{Regions}
 use Rattle.tables.specs.Shows.{begins, heldAt, Of, Shown}
 use Rattle.tables.specs.Items.{withQueues, queue-is, queue-shown}
@@ -60,7 +60,7 @@ module _ (c : Config) (s : Shape) (o : Of c s) (L : Ledger) (p : Regions) (z w :
 
   was : held (queue L (suc i)) ≡ holds wide deep first many body
   unfolding heldAt
-  was = queue-is c L p z w h (suc i) (omega arith) (omega arith) ∙ ap (heldAt c p) last
+  was = queue-is c L p z w h (suc i) (omega arith, omega arith) ∙ ap (heldAt c p) last
 
   -- another queue's, in bytes that lie apart
   other-as : (r b : List ℕ) (j : ℕ) → j < c .Q → (j ≡ i → ⊥) → getD r (j * 2) 0 ≡ getD (p .rings) (j * 2) 0 → getD r (j * 2 + 1) 0 ≡ getD (p .rings) (j * 2 + 1) 0

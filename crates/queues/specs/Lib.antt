@@ -1,4 +1,5 @@
 pub mod Rings
+pub mod Waits
 pub mod Holding
+pub mod Putting
 pub mod Taking
-pub mod Slots

@@ -13,12 +13,12 @@ use Rattle.ledger.specs.Lists.{at, sum}
 use Rattle.ledger.specs.Config as config
 use Rattle.ledger.specs.Config.{Config}
 use Rattle.ledger.specs.Ledger.{Ledger, queue, held}
-use Rattle.ledger.specs.Services.{shape}
+use Rattle.ledger.specs.Services.{shape, takeEntry}
 use Rattle.tables.specs.declared.shape.Shape.{Shape}
 use Rattle.tables.specs.Decode.{headOf, countOf}
-use Rattle.tables.specs.Back.{head-in, count-in}
-use Rattle.tables.specs.Layout.{regions, region, named, bound, Fits, fitting, laid, region-at}
-use Rattle.tables.specs.Shows.{bytesOf, begins, heldAt, Of, Shows}
+use Rattle.tables.specs.Encoded.{head-in, count-in}
+use Rattle.tables.specs.Layout.{OneOf, regions, region, named, bound, Fits, fitting, laid, region-at}
+use Rattle.tables.specs.Shows.{bytesOf, begins, heldAt, Of, Shows, DoesWithSlotsIf}
 use Rattle.tables.specs.Items.{queue-is}
 use Rattle.queues.specs.declared.Ring.{Ring}
 
@@ -58,7 +58,7 @@ unfoldable pub bodyIn : Ring → List ℕ → List ℕ
 bodyIn r d = cut d (r .base) (r .base + r .depth * r .width)
 
 -- ---- the two bytes, read
-module _ {s : Shape} {n : ℕ} (f : Fits s n) (q : ℕ) (lo : 1 ≤ q) (hi : q ≤ s .queues) where
+module _ {s : Shape} {n : ℕ} (f : Fits s n) (q : ℕ) (one : OneOf (s .queues) q) where
   pub rings-in : s .ringat + (q - 1) * 2 + 1 < n
   rings-in = go f
     where
@@ -128,10 +128,10 @@ module _ (c : Config) (s : Shape) (o : Of c s) where
   inside i h = omega (arith, ends i h, whole (c .shapes) (suc i), o .bodies)
 
   -- every ring of the configuration lies within the bodies
-  pub ring-fits : (q : ℕ) → 1 ≤ q → q ≤ c .Q → RingFits s (ringOf c s q)
+  pub ring-fits : (q : ℕ) → OneOf (c .Q) q → RingFits s (ringOf c s q)
   unfolding ringOf
-  ring-fits zero a b = absurd (not-suc-le-zero a)
-  ring-fits (suc i) a b =
+  ring-fits zero (a, b) = absurd (not-suc-le-zero a)
+  ring-fits (suc i) (a, b) =
       record {
         some = o .depths (suc i) a b .0;
         few = o .depths (suc i) a b .1;
@@ -156,19 +156,23 @@ module _ (c : Config) (s : Shape) (L : Ledger) (d z w : List ℕ) (h : Shows c s
   held-at i b r e =
       let k : config.Shape = shape c (suc i) in
       let m : suc i - 1 ≡ i = omega arith in
-      queue-is c L (regions s d) z w (h .shown) (suc i) (omega arith) (omega arith) ∙ ap (heldAt c (regions s d)) m
+      queue-is c L (regions s d) z w (h .shown) (suc i) (omega arith, omega arith) ∙ ap (heldAt c (regions s d)) m
       ∙ ap (holds (k .width) (k .depth) (headOf (k .depth) (getD (regions s d .rings) (i * 2) 0)) (countOf (k .depth) (getD (regions s d .rings) (i * 2 + 1) 0))) (body-is c s (h .of) d i b)
       ∙ ap (λ (u : Ring). holds (u .width) (u .depth) (headIn s u d i) (countIn s u d i) (bodyIn u d)) (sym e)
 
-  pub held-is : (q : ℕ) → 1 ≤ q → q ≤ s .queues → (r : Ring) → r ≡ ringOf c s q → held (queue L q) ≡ holds (r .width) (r .depth) (headIn s r d (q - 1)) (countIn s r d (q - 1)) (bodyIn r d)
-  held-is zero a b r e = absurd (not-suc-le-zero a)
-  held-is (suc i) a b r e =
+  pub held-is : (q : ℕ) → OneOf (s .queues) q → (r : Ring) → r ≡ ringOf c s q → held (queue L q) ≡ holds (r .width) (r .depth) (headIn s r d (q - 1)) (countIn s r d (q - 1)) (bodyIn r d)
+  held-is zero o r e = absurd (not-suc-le-zero (o .0))
+  held-is (suc i) o r e =
       let m : i ≡ suc i - 1 = omega arith in
       held-at i (omega (arith, h .of .queues)) r e ∙ ap (λ (j : ℕ). holds (r .width) (r .depth) (headIn s r d j) (countIn s r d j) (bodyIn r d)) m
 
-  pub held-length : (q : ℕ) → 1 ≤ q → q ≤ s .queues → (r : Ring) → r ≡ ringOf c s q → length (held (queue L q)) ≡ countIn s r d (q - 1)
-  held-length q a b r e = ap length (held-is q a b r e) ∙ holds-length (r .width) (r .depth) (headIn s r d (q - 1)) (countIn s r d (q - 1)) (bodyIn r d)
+  pub held-length : (q : ℕ) → OneOf (s .queues) q → (r : Ring) → r ≡ ringOf c s q → length (held (queue L q)) ≡ countIn s r d (q - 1)
+  held-length q o r e = ap length (held-is q o r e) ∙ holds-length (r .width) (r .depth) (headIn s r d (q - 1)) (countIn s r d (q - 1)) (bodyIn r d)
 
 pub body-length : (s : Shape) (d : List ℕ) (r : Ring) → RingFits s r → s .end ≤ length d → r .depth * r .width ≤ length (bodyIn r d)
 unfolding bodyIn
 body-length s d r f k = omega (arith, length-cut d (r .base) (r .base + r .depth * r .width) (omega (arith, f .room)))
+
+-- the oldest entry of queue q is taken into the slot of task t, where the queue has one
+abbrev pub Takes : Shape → (d z d' z' : List ℕ) → Ring → (t q : ℕ) → Type 0
+Takes s d z d' z' r t q = (e : List ℕ) (es : List (List ℕ)) → DoesWithSlotsIf s d z d' z' (λ c L. (r ≡ ringOf c s q) × (held (queue L q) ≡ e ∷ es)) (λ c L. takeEntry c t q e L)

@@ -4,16 +4,16 @@
 use tables::shape::Shape;
 use tables::tasks::Outcome;
 ghost use mathlib.Core.Path.{_≡_};
-ghost use mathlib.Core.List.{List, _∷_};
-ghost use Prim.Native.Nat.{ℕ, _+_, _-_, _*_, _<_, _≤_};
+ghost use Prim.Native.Nat.{_+_, _-_, _*_, _<_, _≤_};
 ghost use lib.ListN.{length, set};
 ghost use Rattle.tables.specs.Decode.{headOf, countOf};
-ghost use Rattle.tables.specs.Layout.{Fits};
-ghost use Rattle.tables.specs.Shows.{Shows};
-ghost use Rattle.ledger.specs.Config.{Config};
-ghost use Rattle.ledger.specs.Ledger.{Ledger, queue, held};
-ghost use Rattle.ledger.specs.Services.{putEntry, takeEntry};
-ghost use Rattle.queues.specs.Rings.{RingFits, ringOf, headIn, countIn};
+ghost use Rattle.tables.specs.Layout.{OneOf, Fits};
+ghost use Rattle.tables.specs.Shows.{DoesIf};
+ghost use Rattle.ledger.specs.Ledger.{queue, held};
+ghost use Rattle.ledger.specs.Services.{putEntry};
+ghost use Rattle.ledger.specs.Refusals.{onNotEmpty, onNotFull, meets21};
+ghost use Rattle.queues.specs.Rings.{RingFits, ringOf, headIn, countIn, Takes};
+ghost use Rattle.queues.specs.Waits.{notFullOf, TellsRing};
 
 // A queue's width and depth, and where its entries lie in the tables: of the configuration.
 pub struct Ring {
@@ -47,27 +47,57 @@ fn count_of(most: usize, x: usize) -> usize
 }
 
 // The place of the oldest entry.
-fn head(tables: &[u8], shape: Shape, ring: Ring, q: usize) -> usize
-    requires { ⌜ Fits shape (length (now tables)) × (1 ≤ q) × (q ≤ shape .queues) ⌝ }
+fn head(tables: &[u8], shape: Shape, ring: Ring, q: u8) -> usize
+    requires { ⌜ Fits shape (length (now tables)) × OneOf (shape .queues) q ⌝ }
     ensures { λ r. ⌜ r ≡ headIn shape ring (now (tables .entry)) (q - 1) ⌝ }
 {
-    let at = shape.ringat + (q - 1) * 2;
+    let at = shape.ringat + (q as usize - 1) * 2;
     head_of(ring.depth, wide(tables[at]))
 }
 
 // How many entries a queue holds.
-pub fn count(tables: &[u8], shape: Shape, ring: Ring, q: usize) -> usize
-    requires { ⌜ Fits shape (length (now tables)) × (1 ≤ q) × (q ≤ shape .queues) ⌝ }
+pub fn count(tables: &[u8], shape: Shape, ring: Ring, q: u8) -> usize
+    requires { ⌜ Fits shape (length (now tables)) × OneOf (shape .queues) q ⌝ }
     ensures { λ r. ⌜ r ≡ countIn shape ring (now (tables .entry)) (q - 1) ⌝ }
 {
-    let at = shape.ringat + (q - 1) * 2 + 1;
+    let at = shape.ringat + (q as usize - 1) * 2 + 1;
     count_of(ring.depth, wide(tables[at]))
 }
 
+// The semaphore not-full of a queue; not-empty is the one before it.
+pub fn not_full(shape: Shape, q: u8) -> u8
+    requires { ⌜ Fits shape (shape .end) × OneOf (shape .queues) q ⌝ }
+    ensures { λ r. ⌜ (r ≡ notFullOf shape q) × OneOf (shape .semaphores) r × OneOf (shape .semaphores) (r - 1) ⌝ }
+{
+    (shape.named + shape.tasks + 2 * (q as usize)) as u8
+}
+
+// Whether a dequeue would wait where another task waits: on not-empty, if the queue is empty.
+pub fn take_waits(tables: &[u8], shape: Shape, ring: Ring, q: u8) -> bool
+    requires { ⌜ Fits shape (length (now tables)) × OneOf (shape .queues) q ⌝ }
+    ensures { λ r. ⌜ TellsRing shape (now (tables .entry)) ring q (λ c L. meets21 c L onNotEmpty q 0) r ⌝ }
+{
+    if count(tables, shape, ring, q) != 0 {
+        return false;
+    }
+    tables::semaphores::is_waiting(tables, shape, not_full(shape, q) - 1)
+}
+
+// Whether an enqueue would wait where another task waits: on not-full, if the queue is full.
+pub fn put_waits(tables: &[u8], shape: Shape, ring: Ring, q: u8) -> bool
+    requires { ⌜ Fits shape (length (now tables)) × OneOf (shape .queues) q ⌝ }
+    ensures { λ r. ⌜ TellsRing shape (now (tables .entry)) ring q (λ c L. meets21 c L onNotFull q 0) r ⌝ }
+{
+    if count(tables, shape, ring, q) < ring.depth {
+        return false;
+    }
+    tables::semaphores::is_waiting(tables, shape, not_full(shape, q))
+}
+
 // Puts an entry behind those that the queue holds. The caller has seen that it is not full.
-pub fn put(tables: &mut [u8], shape: Shape, ring: Ring, q: usize, entry: &[u8])
-    requires { ⌜ Fits shape (length (now tables)) × RingFits shape ring × (1 ≤ q) × (q ≤ shape .queues) × (length (now entry) ≡ ring .width) ⌝ }
-    ensures { λ _. ⌜ ((c : Config) (L : Ledger) (z w : List ℕ) → ring ≡ ringOf c shape q → length (held (queue L q)) < ring .depth → Shows c shape L (now (tables .entry)) z w → Shows c shape (putEntry q (now (entry .entry)) L) (now (tables .exit)) z w) ⌝ }
+pub fn put(tables: &mut [u8], shape: Shape, ring: Ring, q: u8, entry: &[u8])
+    requires { ⌜ Fits shape (length (now tables)) × RingFits shape ring × OneOf (shape .queues) q × (length (now entry) ≡ ring .width) ⌝ }
+    ensures { λ _. ⌜ DoesIf shape (now (tables .entry)) (now (tables .exit)) (λ c L. (ring ≡ ringOf c shape q) × (length (held (queue L q)) < ring .depth)) (λ c L. putEntry q (now (entry .entry)) L) ⌝ }
 {
     let depth = ring.depth;
     let first = head(tables, shape, ring, q);
@@ -85,23 +115,23 @@ pub fn put(tables: &mut [u8], shape: Shape, ring: Ring, q: usize, entry: &[u8])
         depth,
         entry,
     );
-    let at = shape.ringat + (q - 1) * 2 + 1;
+    let at = shape.ringat + (q as usize - 1) * 2 + 1;
     tables[at] = (many + 1) as u8;
 }
 
-fn step_on(tables: &mut [u8], shape: Shape, q: usize, next: u8, many: u8)
-    requires { ⌜ Fits shape (length (now tables)) × (1 ≤ q) × (q ≤ shape .queues) ⌝ }
+fn step_on(tables: &mut [u8], shape: Shape, q: u8, next: u8, many: u8)
+    requires { ⌜ Fits shape (length (now tables)) × OneOf (shape .queues) q ⌝ }
     ensures { λ _. ⌜ now (tables .exit) ≡ set (set (now (tables .entry)) (shape .ringat + (q - 1) * 2) next) (shape .ringat + (q - 1) * 2 + 1) many ⌝ }
 {
-    let at = shape.ringat + (q - 1) * 2;
+    let at = shape.ringat + (q as usize - 1) * 2;
     tables[at] = next;
     tables[at + 1] = many;
 }
 
 // Takes the oldest entry into the slot of task t. The caller has seen that there is one.
-pub fn take(tables: &mut [u8], slots: &mut [u8], shape: Shape, ring: Ring, q: usize, t: usize)
-    requires { ⌜ Fits shape (length (now tables)) × RingFits shape ring × (1 ≤ q) × (q ≤ shape .queues) × (1 ≤ t) × (t ≤ shape .tasks) × (16 * shape .tasks ≤ length (now slots)) ⌝ }
-    ensures { λ _. ⌜ ((c : Config) (L : Ledger) (w : List ℕ) (e : List ℕ) (es : List (List ℕ)) → ring ≡ ringOf c shape q → held (queue L q) ≡ e ∷ es → Shows c shape L (now (tables .entry)) (now (slots .entry)) w → Shows c shape (takeEntry c t q e L) (now (tables .exit)) (now (slots .exit)) w) ⌝ }
+pub fn take(tables: &mut [u8], slots: &mut [u8], shape: Shape, ring: Ring, q: u8, t: u8)
+    requires { ⌜ Fits shape (length (now tables)) × RingFits shape ring × OneOf (shape .queues) q × OneOf (shape .tasks) t × (16 * shape .tasks ≤ length (now slots)) ⌝ }
+    ensures { λ _. ⌜ Takes shape (now (tables .entry)) (now (slots .entry)) (now (tables .exit)) (now (slots .exit)) ring t q ⌝ }
 {
     let depth = ring.depth;
     let width = ring.width;
@@ -112,7 +142,7 @@ pub fn take(tables: &mut [u8], slots: &mut [u8], shape: Shape, ring: Ring, q: us
     }
     let base = ring.base;
     let end = base + depth * width;
-    let a = (t - 1) * 16;
+    let a = (t as usize - 1) * 16;
     let e = a + 16;
     let next = rings::take_out(
         &tables[base..end],

@@ -1,13 +1,13 @@
 -- What the bytes mean: any byte decodes to one of the program's items, and each of these is one of the ledger's.
-use mathlib.Core.Bool.{Bool, true, false, cond}
+use mathlib.Core.Bool.{cond}
 use mathlib.Core.List.{List, [], _∷_}
-use Prim.Native.Nat.{ℕ, _/_, _%_}
+use Prim.Native.Nat.{ℕ}
 use lib.Dec.{eqb, leb, ltb}
-use lib.Bits.{bitOr}
 use lib.ListN.{getD, take}
-use Rattle.tables.specs.declared.tasks.Blocks.{Blocks}
+use Rattle.tables.specs.declared.blocks.Blocks.{Blocks}
 use Rattle.tables.specs.declared.tasks.Outcome.{Outcome}
 use Rattle.tables.specs.declared.tasks.Outcome.the-variants.{Plain, Begin, Message, Entry, Refused, Semaphore}
+use Rattle.tables.specs.declared.tasks.OutcomeBytes.{OutcomeBytes}
 use Rattle.tables.specs.declared.tasks.Request.{Request}
 use Rattle.tables.specs.declared.tasks.Request.the-variants.{None, Receive, Dequeue, Enqueue}
 use Rattle.tables.specs.declared.tasks.Task.{Task}
@@ -17,62 +17,25 @@ use Rattle.ledger.specs.Config.{Config}
 use Rattle.ledger.specs.Ledger as ledger
 use Rattle.ledger.specs.Services.{shape}
 
--- ---- the block set: bit 0 idle, bit 1 suspended, bit 2 event wait, bit 3 message wait
-
-abbrev pub blocksOf : ℕ → Blocks
-blocksOf x = record { idle = eqb (x % 2) 1; suspended = eqb (x / 2 % 2) 1; event = eqb (x / 4 % 2) 1; message = eqb (x / 8 % 2) 1 }
-
-abbrev pub bit : Bool → ℕ → ℕ
-bit true n = n
-bit false n = 0
-
-abbrev pub blocksByte : Blocks → ℕ
-blocksByte b = bitOr (bitOr (bitOr (bit (b .idle) 1) (bit (b .suspended) 2)) (bit (b .event) 4)) (bit (b .message) 8)
-
--- runnable when it has no block
-abbrev pub free : Blocks → Bool
-free b = cond (b .idle) false (cond (b .suspended) false (cond (b .event) false (cond (b .message) false true)))
-
 -- ---- an outcome: its kind and three bytes of value. An entry's value is its width: its bytes are the first of the slot
 
 abbrev pub outcomeOf : ℕ → ℕ → ℕ → ℕ → Outcome
 outcomeOf k a b c =
     cond (eqb k 1) Begin (cond (eqb k 2) (Message a b c) (cond (eqb k 3) (Entry a) (cond (eqb k 4) (Refused a) (cond (eqb k 5) (Semaphore a) Plain))))
 
-abbrev pub outcomeKind : Outcome → ℕ
-outcomeKind Plain = 0
-outcomeKind Begin = 1
-outcomeKind (Message a b c) = 2
-outcomeKind (Entry a) = 3
-outcomeKind (Refused a) = 4
-outcomeKind (Semaphore a) = 5
+abbrev bytes : (kind first second third : ℕ) → OutcomeBytes
+bytes k a b c = record { kind = k; first = a; second = b; third = c }
 
-abbrev pub outcomeFirst : Outcome → ℕ
-outcomeFirst Plain = 0
-outcomeFirst Begin = 0
-outcomeFirst (Message a b c) = a
-outcomeFirst (Entry a) = a
-outcomeFirst (Refused a) = a
-outcomeFirst (Semaphore a) = a
-
-abbrev pub outcomeSecond : Outcome → ℕ
-outcomeSecond Plain = 0
-outcomeSecond Begin = 0
-outcomeSecond (Message a b c) = b
-outcomeSecond (Entry a) = 0
-outcomeSecond (Refused a) = 0
-outcomeSecond (Semaphore a) = 0
-
-abbrev pub outcomeThird : Outcome → ℕ
-outcomeThird Plain = 0
-outcomeThird Begin = 0
-outcomeThird (Message a b c) = c
-outcomeThird (Entry a) = 0
-outcomeThird (Refused a) = 0
-outcomeThird (Semaphore a) = 0
+abbrev pub outcomeWritten : Outcome → OutcomeBytes
+outcomeWritten Plain = bytes 0 0 0 0
+outcomeWritten Begin = bytes 1 0 0 0
+outcomeWritten (Message a b c) = bytes 2 a b c
+outcomeWritten (Entry a) = bytes 3 a 0 0
+outcomeWritten (Refused a) = bytes 4 a 0 0
+outcomeWritten (Semaphore a) = bytes 5 a 0 0
 
 abbrev pub outcomeBytes : Outcome → List ℕ
-outcomeBytes o = outcomeKind o ∷ outcomeFirst o ∷ outcomeSecond o ∷ outcomeThird o ∷ []
+outcomeBytes o = let b = outcomeWritten o in b .kind ∷ b .first ∷ b .second ∷ b .third ∷ []
 
 -- ---- a request: its kind, and the task or the queue. A queue that is none of the Q is no request
 
@@ -97,13 +60,13 @@ requestBytes q = requestKind q ∷ requestArgument q ∷ []
 
 -- ---- a semaphore: 0 is PENDING, 1 to T the task that it is WAITING with, anything else DONE
 
-abbrev pub semaphoreOf : (T x : ℕ) → state.Semaphore
-semaphoreOf T x = cond (eqb x 0) Pending (cond (leb x T) (Waiting x) Done)
+abbrev pub stateOf : (T x : ℕ) → state.Semaphore
+stateOf T x = cond (eqb x 0) Pending (cond (leb x T) (Waiting x) Done)
 
-abbrev pub semaphoreByte : state.Semaphore → ℕ
-semaphoreByte Pending = 0
-semaphoreByte Done = 255
-semaphoreByte (Waiting t) = t
+abbrev pub stateByte : state.Semaphore → ℕ
+stateByte Pending = 0
+stateByte Done = 255
+stateByte (Waiting t) = t
 
 -- its byte once task t waits no more
 abbrev pub clearedOf : (t x : ℕ) → ℕ
@@ -151,10 +114,10 @@ viewTask c k e z = record { blocks = viewBlocks (k .blocks); outcome = viewOutco
 
 -- ---- what lies in row i of the tasks' regions
 
-unfoldable pub recordOf : (Q blocks : ℕ) (row : List ℕ) → Task
+unfoldable pub recordOf : (Q : ℕ) → Blocks → (row : List ℕ) → Task
 recordOf Q b r =
     record {
-      blocks = blocksOf b;
+      blocks = b;
       outcome = outcomeOf (getD r 0 0) (getD r 1 0) (getD r 2 0) (getD r 3 0);
       request = requestOf Q (getD r 4 0) (getD r 5 0);
     }

@@ -12,7 +12,7 @@ use Rattle.ledger.specs.Config.{Config}
 use Rattle.ledger.specs.Ledger as ledger
 use Rattle.ledger.specs.Ledger.{Ledger, Task, Semaphore, Message, Queue, Timer, task, semaphoreOf, mailbox, queue, held, setTask, setSemaphores, setSemaphore, setMailbox, setQueue, setTimers, setClock}
 use Rattle.ledger.specs.Session.{timerLeft}
-use Rattle.tables.specs.Layout.{Regions}
+use Rattle.tables.specs.Layout.{OneOf, ticksAt, countAt, Regions}
 use Rattle.tables.specs.Decode.{countOf, leftOf}
 use Rattle.tables.specs.Shows.{taskAt, tasksIn, semaphoreCount, semaphoreAt, semaphoresIn, heldAt, queuesIn, pendingOf, mailboxesIn, timersOf, ticksIn, Shown}
 
@@ -33,20 +33,20 @@ withMessages k m p = record { clock = k; blocks = p .blocks; records = p .record
 module _ (c : Config) (L : Ledger) (p : Regions) (z w : List ℕ) (h : Shown c L p z w) where
   -- ---- what is shown of one item
 
-  pub task-is : (t : ℕ) → 1 ≤ t → t ≤ c .T → task L t ≡ taskAt c p z (t - 1)
+  pub task-is : (t : ℕ) → OneOf (c .T) t → task L t ≡ taskAt c p z (t - 1)
   unfolding task tasksIn
-  task-is t a b = ap (λ (l : List Task). at l t ledger.nullTask) (h .tasks) ∙ tab-at (c .T) t (taskAt c p z) ledger.nullTask a b
+  task-is t (a, b) = ap (λ (l : List Task). at l t ledger.nullTask) (h .tasks) ∙ tab-at (c .T) t (taskAt c p z) ledger.nullTask a b
 
-  pub semaphore-is : (b : ℕ) → 1 ≤ b → b ≤ semaphoreCount c → semaphoreOf L b ≡ semaphoreAt c p (b - 1)
+  pub semaphore-is : (b : ℕ) → OneOf (semaphoreCount c) b → semaphoreOf L b ≡ semaphoreAt c p (b - 1)
   unfolding semaphoreOf semaphoresIn
-  semaphore-is b x y = ap (λ (l : List Semaphore). at l b ledger.PENDING) (h .semaphores) ∙ tab-at (semaphoreCount c) b (semaphoreAt c p) ledger.PENDING x y
+  semaphore-is b (x, y) = ap (λ (l : List Semaphore). at l b ledger.PENDING) (h .semaphores) ∙ tab-at (semaphoreCount c) b (semaphoreAt c p) ledger.PENDING x y
 
   -- ---- tasks
 
-  pub task-shown : (b r e z' : List ℕ) (t : ℕ) (k : Task) → 1 ≤ t → t ≤ c .T → k ≡ taskAt c (withTasks b r e p) z' (t - 1)
+  pub task-shown : (b r e z' : List ℕ) (t : ℕ) (k : Task) → OneOf (c .T) t → k ≡ taskAt c (withTasks b r e p) z' (t - 1)
       → ((j : ℕ) → j < c .T → (j ≡ t - 1 → ⊥) → taskAt c p z j ≡ taskAt c (withTasks b r e p) z' j) → Shown c (setTask t k L) (withTasks b r e p) z' w
   unfolding setTask tasksIn semaphoresIn semaphoreAt queuesIn heldAt pendingOf mailboxesIn ticksIn queue timerLeft withTasks
-  task-shown b r e z' t k x y new other =
+  task-shown b r e z' t k (x, y) new other =
       record {
         ticks = h .ticks;
         tasks = ap (λ (l : List Task). put l t k) (h .tasks) ∙ tab-put (c .T) t (taskAt c p z) (taskAt c (withTasks b r e p) z') k x other (λ q. new);
@@ -74,9 +74,9 @@ module _ (c : Config) (L : Ledger) (p : Regions) (z w : List ℕ) (h : Shown c L
 
   -- ---- queues
 
-  pub queue-is : (q : ℕ) → 1 ≤ q → q ≤ c .Q → held (queue L q) ≡ heldAt c p (q - 1)
+  pub queue-is : (q : ℕ) → OneOf (c .Q) q → held (queue L q) ≡ heldAt c p (q - 1)
   unfolding queue queuesIn
-  queue-is q a b =
+  queue-is q (a, b) =
       sym (at-map held (L .queues) q ledger.emptyQueue) ∙ ap (λ (l : List (List (List ℕ))). at l q (held ledger.emptyQueue)) (h .queues)
       ∙ tab-at (c .Q) q (heldAt c p) (held ledger.emptyQueue) a b
 
@@ -97,9 +97,9 @@ module _ (c : Config) (L : Ledger) (p : Regions) (z w : List ℕ) (h : Shown c L
 
   -- ---- mailboxes. The ticks left are the same
 
-  pub mailbox-is : (t : ℕ) → 1 ≤ t → t ≤ c .T → mailbox L t ≡ mailboxOf t (pendingOf c p)
+  pub mailbox-is : (t : ℕ) → OneOf (c .T) t → mailbox L t ≡ mailboxOf t (pendingOf c p)
   unfolding mailbox mailboxesIn mailboxesOf
-  mailbox-is t a b =
+  mailbox-is t (a, b) =
       let e : suc (t - 1) ≡ t = omega arith in
       ap (λ (l : List (List Message)). at l t []) (h .mailboxes) ∙ tab-at (c .T) t (λ i. mailboxOf (suc i) (pendingOf c p)) [] a b ∙ ap (λ (i : ℕ). mailboxOf i (pendingOf c p)) e
 

@@ -14,6 +14,23 @@ use Rattle.rows.specs.Laws.{length-cut, cut-inside, cut-apart, set-is-splice}
 use Rattle.rows.specs.Rows.{rowAt, row-of-cut}
 use Rattle.tables.specs.declared.shape.Shape.{Shape}
 
+-- one of so many, counted from 1
+abbrev pub OneOf : (n i : ℕ) → Type 0
+OneOf n i = (1 ≤ i) × (i ≤ n)
+
+-- where the first regions begin: the ticks left, the number of messages, the planes of the blocks, the records
+abbrev pub ticksAt : ℕ
+ticksAt = 0
+
+abbrev pub countAt : ℕ
+countAt = 1
+
+abbrev pub planesAt : ℕ
+planesAt = 2
+
+abbrev pub recordsAt : ℕ
+recordsAt = 66
+
 -- a shape's numbers are a configuration's, and its regions follow each other
 pub record Laid (s : Shape) : Type 0 where
   pub some : 1 ≤ s .tasks
@@ -25,7 +42,7 @@ pub record Laid (s : Shape) : Type 0 where
   pub messages : s .messages ≤ 64
   pub ticks : 1 ≤ s .ticks
   pub tocks : s .ticks ≤ 255
-  pub records : s .recordat ≡ 2 + s .tasks
+  pub records : s .recordat ≡ recordsAt
   pub states : s .semaphoreat ≡ s .recordat + 6 * s .tasks
   pub waiting : s .waitingat ≡ s .semaphoreat + s .semaphores
   pub rings : s .ringat ≡ s .waitingat + 16 * s .tasks
@@ -53,8 +70,8 @@ pub fits-end : {s : Shape} {n : ℕ} → Fits s n → Fits s (s .end)
 fits-end (fitting l r) = fitting l (omega arith)
 
 -- where an item's bytes lie, all of them within the tables
-pub semaphore-in : {s : Shape} {n : ℕ} → Fits s n → (b : ℕ) → 1 ≤ b → b ≤ s .semaphores → s .semaphoreat + (b - 1) < n
-semaphore-in (fitting l r) b lo hi = omega arith
+pub semaphore-in : {s : Shape} {n : ℕ} → Fits s n → (b : ℕ) → OneOf (s .semaphores) b → s .semaphoreat + (b - 1) < n
+semaphore-in (fitting l r) b i = omega arith
 
 pub semaphores-in : {s : Shape} {n : ℕ} → Fits s n → (s .semaphoreat ≤ s .waitingat) × (s .waitingat ≤ n)
 semaphores-in (fitting l r) = (omega arith, omega arith)
@@ -62,22 +79,19 @@ semaphores-in (fitting l r) = (omega arith, omega arith)
 pub few : {s : Shape} {n : ℕ} → Fits s n → s .tasks ≤ 126
 few (fitting l r) = l .few
 
-pub block-sets-in : {s : Shape} {n : ℕ} → Fits s n → 2 + s .tasks ≤ n
-block-sets-in (fitting l r) = omega arith
+pub planes-in : {s : Shape} {n : ℕ} → Fits s n → recordsAt ≤ n
+planes-in (fitting l r) = omega arith
 
-pub blocks-in : {s : Shape} {n : ℕ} → Fits s n → (t : ℕ) → 1 ≤ t → t ≤ s .tasks → 2 + (t - 1) < n
-blocks-in (fitting l r) t lo hi = omega arith
+pub record-in : {s : Shape} {n : ℕ} → Fits s n → (t : ℕ) → OneOf (s .tasks) t → s .recordat + (t - 1) * 6 + 6 ≤ n
+record-in (fitting l r) t i = omega arith
 
-pub record-in : {s : Shape} {n : ℕ} → Fits s n → (t : ℕ) → 1 ≤ t → t ≤ s .tasks → s .recordat + (t - 1) * 6 + 6 ≤ n
-record-in (fitting l r) t lo hi = omega arith
-
-pub waiting-in : {s : Shape} {n : ℕ} → Fits s n → (t : ℕ) → 1 ≤ t → t ≤ s .tasks → s .waitingat + (t - 1) * 16 + 16 ≤ n
-waiting-in (fitting l r) t lo hi = omega arith
+pub waiting-in : {s : Shape} {n : ℕ} → Fits s n → (t : ℕ) → OneOf (s .tasks) t → s .waitingat + (t - 1) * 16 + 16 ≤ n
+waiting-in (fitting l r) t i = omega arith
 
 -- region k lies from bound k up to the next
 unfoldable pub bound : Shape → ℕ → ℕ
-bound s zero = 0
-bound s (suc zero) = 2
+bound s zero = ticksAt
+bound s (suc zero) = planesAt
 bound s (suc (suc zero)) = s .recordat
 bound s (suc (suc (suc zero))) = s .semaphoreat
 bound s (suc (suc (suc (suc zero)))) = s .waitingat
@@ -89,7 +103,7 @@ bound s (suc (suc (suc (suc (suc (suc (suc (suc n)))))))) = s .end
 unfoldable pub region : Shape → List ℕ → ℕ → List ℕ
 region s d k = cut d (bound s k) (bound s (suc k))
 
--- the regions by name: ticks left and number of messages; block sets; outcomes and requests; semaphores; entries that wait to be put;
+-- the regions by name: ticks left and number of messages; planes of the blocks; outcomes and requests; semaphores; entries that wait to be put;
 -- the rings' places; messages; the rings' entries
 pub record Regions : Type 0 where
   pub clock : List ℕ
@@ -191,15 +205,21 @@ pub region-at : (s : Shape) (d : List ℕ) (k i : ℕ) → i < bound s (suc k) -
 unfolding region
 region-at s d k i h = getD-take (bound s (suc k) - bound s k) (drop (bound s k) d) i 0 h ∙ getD-drop (bound s k) d i 0
 
-module _ {s : Shape} {n : ℕ} (f : Fits s n) (d : List ℕ) (t : ℕ) (lo : 1 ≤ t) (hi : t ≤ s .tasks) where
-  pub blocks-at : getD (regions s d .blocks) (t - 1) 0 ≡ getD d (2 + (t - 1)) 0
-  unfolding regions named bound
-  blocks-at = region-at s d 1 (t - 1) (let l = laid f in omega arith)
-
+module _ {s : Shape} {n : ℕ} (f : Fits s n) (d : List ℕ) (t : ℕ) (i : OneOf (s .tasks) t) where
   pub record-at : rowAt 6 (t - 1) (regions s d .records) ≡ cut d (s .recordat + (t - 1) * 6) (s .recordat + (t - 1) * 6 + 6)
   unfolding regions named bound region
   record-at = row-of-cut 6 (t - 1) d (s .recordat) (s .semaphoreat) (let l = laid f in omega arith)
 
-pub semaphore-at : {s : Shape} {n : ℕ} → Fits s n → (d : List ℕ) (b : ℕ) → 1 ≤ b → b ≤ s .semaphores → getD (regions s d .semaphores) (b - 1) 0 ≡ getD d (s .semaphoreat + (b - 1)) 0
+pub semaphore-at : {s : Shape} {n : ℕ} → Fits s n → (d : List ℕ) (b : ℕ) → OneOf (s .semaphores) b → getD (regions s d .semaphores) (b - 1) 0 ≡ getD d (s .semaphoreat + (b - 1)) 0
 unfolding regions named bound
-semaphore-at {s} f d b lo hi = region-at s d 3 (b - 1) (let l = laid f in omega arith)
+semaphore-at {s} f d b i = region-at s d 3 (b - 1) (let l = laid f in omega arith)
+
+-- the planes, lent
+pub planes-are : {s : Shape} {n : ℕ} → Fits s n → (d : List ℕ) → regions s d .blocks ≡ cut d planesAt recordsAt
+unfolding regions named region bound
+planes-are f d = ap (cut d planesAt) (laid f .records)
+
+-- and one byte of them
+pub plane-at : {s : Shape} {n : ℕ} → Fits s n → (d : List ℕ) (i : ℕ) → i < 64 → getD (regions s d .blocks) i 0 ≡ getD d (planesAt + i) 0
+unfolding regions named bound
+plane-at {s} f d i h = region-at s d 1 i (let l = laid f in omega arith)

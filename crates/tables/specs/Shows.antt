@@ -1,5 +1,5 @@
 -- Which ledgers the memory shows, and what it is for a function over the memory to do what the ledger does.
-use mathlib.Core.Path.{_≡_, sym, ap, _∙_}
+use mathlib.Core.Path.{_≡_, sym, ap, _∙_, subst}
 use mathlib.Core.Bool.{true}
 use mathlib.Core.List.{List, map}
 use Prim.Native.Nat.{ℕ, suc, _+_, _-_, _*_, _≤_}
@@ -11,12 +11,13 @@ use Rattle.rings.specs.Ring.{holds}
 use Rattle.messages.specs.Pending.{Pending, pendingIn, mailboxesOf, completeIn}
 use Rattle.timers.specs.Timers.{timersIn}
 use Rattle.tables.specs.declared.shape.Shape.{Shape}
-use Rattle.tables.specs.declared.tasks.Blocks.{Blocks}
+use Rattle.tables.specs.declared.blocks.Blocks.{Blocks}
 use Rattle.tables.specs.declared.tasks.Outcome.{Outcome}
 use Rattle.tables.specs.declared.tasks.Request.{Request}
 use Rattle.tables.specs.declared.tasks.Task.{Task}
-use Rattle.tables.specs.Layout.{Laid, Fits, Regions, regions, blocks-at, record-at}
-use Rattle.tables.specs.Decode.{outcomeOf, requestOf, semaphoreOf, headOf, countOf, leftOf, viewSemaphore, viewTask, recordOf}
+use Rattle.tables.specs.Layout.{OneOf, Laid, Fits, Regions, regions, record-at}
+use Rattle.tables.specs.Planes.{blocksAt}
+use Rattle.tables.specs.Decode.{outcomeOf, requestOf, stateOf, headOf, countOf, leftOf, viewSemaphore, viewTask, recordOf}
 use Rattle.ledger.specs.Lists.{sum}
 use Rattle.ledger.specs.Config as config
 use Rattle.ledger.specs.Config.{Config}
@@ -28,7 +29,7 @@ use Rattle.ledger.specs.Session.{TimerLeft, timerLeft}
 -- ---- the items that the regions, the slots and the timers' block are
 
 unfoldable pub taskAt : Config → Regions → (slots : List ℕ) → ℕ → ledger.Task
-taskAt c p z i = viewTask c (recordOf (c .Q) (getD (p .blocks) i 0) (rowAt 6 i (p .records))) (rowAt 16 i (p .waiting)) (rowAt 16 i z)
+taskAt c p z i = viewTask c (recordOf (c .Q) (blocksAt (p .blocks) i) (rowAt 6 i (p .records))) (rowAt 16 i (p .waiting)) (rowAt 16 i z)
 
 unfoldable pub tasksIn : Config → Regions → (slots : List ℕ) → List ledger.Task
 tasksIn c p z = tab (c .T) (taskAt c p z)
@@ -38,7 +39,7 @@ unfoldable pub semaphoreCount : Config → ℕ
 semaphoreCount c = c .S + c .T + 2 * c .Q
 
 unfoldable pub semaphoreAt : Config → Regions → ℕ → ledger.Semaphore
-semaphoreAt c p i = viewSemaphore (semaphoreOf (c .T) (getD (p .semaphores) i 0))
+semaphoreAt c p i = viewSemaphore (stateOf (c .T) (getD (p .semaphores) i 0))
 
 unfoldable pub semaphoresIn : Config → Regions → List ledger.Semaphore
 semaphoresIn c p = tab (semaphoreCount c) (semaphoreAt c p)
@@ -114,32 +115,49 @@ pub record Shows (c : Config) (s : Shape) (L : Ledger) (d z w : List ℕ) : Type
 abbrev pub Does : Shape → (d d' : List ℕ) → (Config → Ledger → Ledger) → Type 0
 Does s d d' f = (c : Config) (L : Ledger) (z w : List ℕ) → Shows c s L d z w → Shows c s (f c L) d' z w
 
+-- where P holds of the ledger
+abbrev pub DoesIf : Shape → (d d' : List ℕ) → (Config → Ledger → Type 0) → (Config → Ledger → Ledger) → Type 0
+DoesIf s d d' P f = (c : Config) (L : Ledger) (z w : List ℕ) → P c L → Shows c s L d z w → Shows c s (f c L) d' z w
+
+-- the tables with the slots, from d, z to d', z'
+abbrev pub DoesWithSlotsIf : Shape → (d z d' z' : List ℕ) → (Config → Ledger → Type 0) → (Config → Ledger → Ledger) → Type 0
+DoesWithSlotsIf s d z d' z' P f = (c : Config) (L : Ledger) (w : List ℕ) → P c L → Shows c s L d z w → Shows c s (f c L) d' z' w
+
+-- the tables with the timers, from d, w to d', w'
+abbrev pub DoesWithTimers : Shape → (d w d' w' : List ℕ) → (Config → Ledger → Ledger) → Type 0
+DoesWithTimers s d w d' w' f = (c : Config) (L : Ledger) (z : List ℕ) → Shows c s L d z w → Shows c s (f c L) d' z w'
+
+abbrev pub DoesWithTimersIf : Shape → (d w d' w' : List ℕ) → (Config → Ledger → Type 0) → (Config → Ledger → Ledger) → Type 0
+DoesWithTimersIf s d w d' w' P f = (c : Config) (L : Ledger) (z : List ℕ) → P c L → Shows c s L d z w → Shows c s (f c L) d' z w'
+
 -- the value r is the ledger's
 abbrev pub Tells : {A : Type 0} → Shape → List ℕ → (Config → Ledger → A) → A → Type 0
 Tells s d f r = (c : Config) (L : Ledger) (z w : List ℕ) → Shows c s L d z w → r ≡ f c L
 
+abbrev pub TellsIf : {A : Type 0} → Shape → List ℕ → (Config → Ledger → Type 0) → (Config → Ledger → A) → A → Type 0
+TellsIf s d P f r = (c : Config) (L : Ledger) (z w : List ℕ) → P c L → Shows c s L d z w → r ≡ f c L
+
+-- what is shown is another name of the same ledger
+pub moved : {c : Config} {s : Shape} {L L' : Ledger} {d z w : List ℕ} → L ≡ L' → Shows c s L d z w → Shows c s L' d z w
+moved {c} {s} {d = d} {z = z} {w = w} e h = subst (λ (X : Ledger). Shows c s X d z w) e h
+
 -- the task record that the tables hold
 unfoldable pub recordIn : Shape → List ℕ → ℕ → Task
-recordIn s d t = recordOf (s .queues) (getD (regions s d .blocks) (t - 1) 0) (rowAt 6 (t - 1) (regions s d .records))
+recordIn s d t = recordOf (s .queues) (blocksAt (regions s d .blocks) (t - 1)) (rowAt 6 (t - 1) (regions s d .records))
 
 -- the entry that waits to be put, and what lies behind it
 unfoldable pub waitingIn : Shape → List ℕ → ℕ → List ℕ
 waitingIn s d t = rowAt 16 (t - 1) (regions s d .waiting)
 
 -- a record, read in its six bytes
-module _ {s : Shape} {n : ℕ} (f : Fits s n) (d : List ℕ) (t : ℕ) (lo : 1 ≤ t) (hi : t ≤ s .tasks) where
-  pub record-read : recordIn s d t ≡ recordOf (s .queues) (getD d (2 + (t - 1)) 0) (cut d (s .recordat + (t - 1) * 6) (s .recordat + (t - 1) * 6 + 6))
-  unfolding recordIn
-  record-read = rw (blocks-at f d t lo hi, record-at f d t lo hi)
-
+module _ {s : Shape} {n : ℕ} (f : Fits s n) (d : List ℕ) (t : ℕ) (i : OneOf (s .tasks) t) where
   abbrev row : List ℕ
   row = cut d (s .recordat + (t - 1) * 6) (s .recordat + (t - 1) * 6 + 6)
 
   pub record-made : (b : Blocks) (o : Outcome) (q : Request) → b ≡ recordIn s d t .blocks → o ≡ outcomeOf (getD row 0 0) (getD row 1 0) (getD row 2 0) (getD row 3 0)
       → q ≡ requestOf (s .queues) (getD row 4 0) (getD row 5 0) → record { blocks = b; outcome = o; request = q } ≡ recordIn s d t
-  unfolding recordOf
+  unfolding recordIn recordOf
   record-made b o q eb eo eq =
-      let e : recordIn s d t ≡ recordOf (s .queues) (getD d (2 + (t - 1)) 0) row = record-read in
-      let x : record { blocks = b; outcome = o; request = q } ≡ recordOf (s .queues) (getD d (2 + (t - 1)) 0) row =
-      λ i. record { blocks = (eb ∙ ap (λ (k : Task). k .blocks) e) i; outcome = eo i; request = eq i } in
-      x ∙ sym e
+      let x : record { blocks = b; outcome = o; request = q } ≡ recordOf (s .queues) (blocksAt (regions s d .blocks) (t - 1)) row =
+      λ i. record { blocks = eb i; outcome = eo i; request = eq i } in
+      x ∙ ap (recordOf (s .queues) (blocksAt (regions s d .blocks) (t - 1))) (sym (record-at f d t i))

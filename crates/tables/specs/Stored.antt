@@ -1,4 +1,4 @@
--- What each store of a task's or a semaphore's bytes is on the ledgers that the memory shows.
+-- What each store of a task's bytes is on the ledgers that the memory shows.
 use mathlib.Core.Path.{_≡_, refl, sym, ap, _∙_, subst}
 use mathlib.Core.List.{List}
 use Prim.Native.Nat.{ℕ, _+_, _-_, _*_, _<_, _≤_}
@@ -9,19 +9,21 @@ use borrow.Rule.Slice.PartMut.{putMid}
 use Rattle.rows.specs.Splice.{cut, splice}
 use Rattle.rows.specs.Laws.{length-splice, lent-back}
 use Rattle.rows.specs.Rows.{rowAt, elems, drop-elems, length-row, row-fits, row-inside, row-outside}
+use Rattle.rows.specs.Tab.{tab-length}
 use Rattle.ledger.specs.Config.{Config}
 use Rattle.ledger.specs.Ledger as ledger
-use Rattle.ledger.specs.Ledger.{Ledger, task, setTask, setSemaphore, setBlocks, setOutcome, setRequest}
+use Rattle.ledger.specs.Ledger.{Ledger, task, setTask, setSemaphore, setOutcome, setRequest}
 use Rattle.tables.specs.declared.shape.Shape.{Shape}
-use Rattle.tables.specs.declared.tasks.Blocks.{Blocks}
+use Rattle.tables.specs.declared.blocks.Blocks.{Blocks}
 use Rattle.tables.specs.declared.tasks.Outcome.{Outcome}
 use Rattle.tables.specs.declared.tasks.Request.{Request}
 use Rattle.tables.specs.declared.tasks.Task.{Task}
 use Rattle.tables.specs.declared.semaphores.Semaphore as state
-use Rattle.tables.specs.Layout.{fitting, record-in, bound, Regions, named, regions, but, written, byte-written, region-length}
-use Rattle.tables.specs.Decode.{blocksOf, blocksByte, outcomeOf, requestOf, outcomeBytes, requestBytes, semaphoreOf, semaphoreByte, viewBlocks, viewOutcome, viewRequest, viewSemaphore, viewTask, recordOf}
-use Rattle.tables.specs.Back.{Waiter, Asked, blocks-back, outcome-back, request-back, semaphore-back}
-use Rattle.tables.specs.Shows.{waitingIn, taskAt, semaphoreAt, Shown, Shows}
+use Rattle.tables.specs.Layout.{OneOf, fitting, record-in, bound, Regions, named, regions, but, written, byte-written, region-length}
+use Rattle.tables.specs.Planes.{blocksAt}
+use Rattle.tables.specs.Decode.{outcomeOf, requestOf, outcomeBytes, requestBytes, stateOf, stateByte, viewOutcome, viewRequest, viewSemaphore, viewTask, recordOf}
+use Rattle.tables.specs.Encoded.{Waiter, AsksFor, outcome-back, request-back, state-back}
+use Rattle.tables.specs.Shows.{waitingIn, taskAt, tasksIn, semaphoreAt, Shown, Shows}
 use Rattle.tables.specs.Items.{withTasks, withSemaphores, task-is, task-shown, semaphore-shown}
 
 -- what is shown in the regions of other bytes
@@ -36,60 +38,44 @@ shows-as c s L d z w d' z' p h ld lz e L' g =
       shown = subst (λ (x : Regions). Shown c L' x z' w) (sym e) g;
     }
 
--- ---- semaphores
-
-pub semaphore-stored : (c : Config) (s : Shape) (L : Ledger) (d z w : List ℕ) → Shows c s L d z w → (b : ℕ) → 1 ≤ b → b ≤ s .semaphores → (x : state.Semaphore) → Waiter (s .tasks) x
-    → Shows c s (setSemaphore b (viewSemaphore x) L) (set d (s .semaphoreat + (b - 1)) (semaphoreByte x)) z w
-unfolding semaphoreAt regions named but bound withSemaphores
-semaphore-stored c s L d z w h b lo hi x q =
-    let l = h .of .laid in
-    let p : Regions = regions s d in
-    let v : List ℕ = set (p .semaphores) (b - 1) (semaphoreByte x) in
-    let n : length (p .semaphores) ≡ s .waitingat - s .semaphoreat = region-length s l d (h .room) 3 in
-    shows-as c s L d z w (set d (s .semaphoreat + (b - 1)) (semaphoreByte x)) z (withSemaphores v p) h (length-set d (s .semaphoreat + (b - 1)) (semaphoreByte x)) refl
-    (byte-written s l d (h .room) 3 (b - 1) (semaphoreByte x) (omega arith))
-    (setSemaphore b (viewSemaphore x) L)
-    (semaphore-shown c L p z w (h .shown) v b (viewSemaphore x) lo
-    (sym (ap (λ (y : ℕ). viewSemaphore (semaphoreOf (c .T) y)) (getD-set-same (p .semaphores) (b - 1) (semaphoreByte x) 0 (omega arith)) ∙ ap viewSemaphore (semaphore-back (c .T) x (omega (arith, h .of .tasks)) (subst (λ (k : ℕ). Waiter k x) (h .of .tasks) q))))
-    (λ j g ne. ap (λ (y : ℕ). viewSemaphore (semaphoreOf (c .T) y)) (sym (getD-set-other (p .semaphores) (b - 1) j (semaphoreByte x) 0 ne))))
-
 -- ---- a task's record with another outcome, with another request
 
 six : (r : List ℕ) → length r ≡ 6 → r ≡ elems 6 0 r
 six r h = drop-elems 6 0 r h
 
-record-outcome : (Q b : ℕ) (r : List ℕ) (o : Outcome) → length r ≡ 6
+record-outcome : (Q : ℕ) (b : Blocks) (r : List ℕ) (o : Outcome) → length r ≡ 6
     → recordOf Q b (splice r 0 (outcomeBytes o)) ≡ record { blocks = recordOf Q b r .blocks; outcome = o; request = recordOf Q b r .request }
 unfolding recordOf
 record-outcome Q b r o h =
     ap (λ (x : List ℕ). recordOf Q b (splice x 0 (outcomeBytes o))) (six r h)
-    ∙ (λ i. record { blocks = blocksOf b; outcome = outcome-back o i; request = requestOf Q (getD r 4 0) (getD r 5 0) })
+    ∙ (λ i. record { blocks = b; outcome = outcome-back o i; request = requestOf Q (getD r 4 0) (getD r 5 0) })
 
-record-request : (Q b : ℕ) (r : List ℕ) (q : Request) → Asked Q q → length r ≡ 6
+record-request : (Q : ℕ) (b : Blocks) (r : List ℕ) (q : Request) → AsksFor Q q → length r ≡ 6
     → recordOf Q b (splice r 4 (requestBytes q)) ≡ record { blocks = recordOf Q b r .blocks; outcome = recordOf Q b r .outcome; request = q }
 unfolding recordOf
 record-request Q b r q w h =
     ap (λ (x : List ℕ). recordOf Q b (splice x 4 (requestBytes q))) (six r h)
-    ∙ (λ i. record { blocks = blocksOf b; outcome = outcomeOf (getD r 0 0) (getD r 1 0) (getD r 2 0) (getD r 3 0); request = request-back Q q w i })
+    ∙ (λ i. record { blocks = b; outcome = outcomeOf (getD r 0 0) (getD r 1 0) (getD r 2 0) (getD r 3 0); request = request-back Q q w i })
 
 -- ---- tasks
-module _ (c : Config) (s : Shape) (L : Ledger) (d z w : List ℕ) (h : Shows c s L d z w) (t : ℕ) (lo : 1 ≤ t) (hi : t ≤ s .tasks) where
+module _ (c : Config) (s : Shape) (L : Ledger) (d z w : List ℕ) (h : Shows c s L d z w) (t : ℕ) (one : OneOf (s .tasks) t) where
   abbrev here : Regions
   here = regions s d
 
   -- the record that is shown, and the ledger's task in its terms
   abbrev pub record-is : Task
-  record-is = recordOf (c .Q) (getD (here .blocks) (t - 1) 0) (rowAt 6 (t - 1) (here .records))
+  record-is = recordOf (c .Q) (blocksAt (here .blocks) (t - 1)) (rowAt 6 (t - 1) (here .records))
 
   pub shown-task : task L t ≡ viewTask c record-is (rowAt 16 (t - 1) (here .waiting)) (rowAt 16 (t - 1) z)
   unfolding taskAt
-  shown-task = task-is c L here z w (h .shown) t lo (omega (arith, h .of .tasks))
+  shown-task = task-is c L here z w (h .shown) t (omega arith, omega (arith, h .of .tasks))
+
+  -- it is one of the ledger's
+  pub task-in : OneOf (length (L .tasks)) t
+  unfolding tasksIn
+  task-in = (one .0, omega (arith, ap length (h .shown .tasks), tab-length (c .T) (taskAt c here z), h .of .tasks))
 
   -- how long the tasks' regions are
-  blocks-length : length (here .blocks) ≡ s .tasks
-  unfolding regions named bound
-  blocks-length = region-length s (h .of .laid) d (h .room) 1 ∙ (let l = h .of .laid in omega arith)
-
   records-length : length (here .records) ≡ s .tasks * 6
   unfolding regions named bound
   records-length = region-length s (h .of .laid) d (h .room) 2 ∙ (let l = h .of .laid in omega arith)
@@ -98,39 +84,22 @@ module _ (c : Config) (s : Shape) (L : Ledger) (d z w : List ℕ) (h : Shows c s
   unfolding regions named bound
   waiting-length = region-length s (h .of .laid) d (h .room) 4 ∙ (let l = h .of .laid in omega arith)
 
-  -- the block set's byte
-  pub blocks-stored : (x : Blocks) → Shows c s (setBlocks t (viewBlocks x) L) (set d (2 + (t - 1)) (blocksByte x)) z w
-  unfolding setBlocks taskAt viewTask recordOf regions named but bound withTasks
-  blocks-stored x =
-      let l = h .of .laid in
-      let i : ℕ = t - 1 in
-      let v : List ℕ = set (here .blocks) i (blocksByte x) in
-      let k = task L t in
-      let e : blocksOf (getD v i 0) ≡ x = ap blocksOf (getD-set-same (here .blocks) i (blocksByte x) 0 (omega (arith, blocks-length))) ∙ blocks-back x in
-      shows-as c s L d z w (set d (2 + i) (blocksByte x)) z (withTasks v (here .records) (here .waiting) here) h (length-set d (2 + i) (blocksByte x)) refl
-      (byte-written s l d (h .room) 1 i (blocksByte x) (omega arith))
-      (setBlocks t (viewBlocks x) L)
-      (task-shown c L here z w (h .shown) v (here .records) (here .waiting) z t (record { blocks = viewBlocks x; outcome = k .outcome; slot = k .slot; request = k .request }) lo (omega (arith, h .of .tasks))
-      (ap (λ (y : ledger.Task). record { blocks = viewBlocks x; outcome = y .outcome; slot = y .slot; request = y .request }) shown-task
-      ∙ (λ j. record { blocks = viewBlocks (sym e j); outcome = viewOutcome (record-is .outcome) (rowAt 16 i z); slot = rowAt 16 i z; request = viewRequest c (record-is .request) (rowAt 16 i (here .waiting)) }))
-      (λ j g ne. ap (λ (y : ℕ). viewTask c (recordOf (c .Q) y (rowAt 6 j (here .records))) (rowAt 16 j (here .waiting)) (rowAt 16 j z)) (sym (getD-set-other (here .blocks) i j (blocksByte x) 0 ne))))
-
   -- other rows of the tasks' records, of the entries that wait and of the slots: new in row t - 1 only
   abbrev Only : ℕ → (old new : List ℕ) → Type 0
   Only n old new = (j : ℕ) → j < s .tasks → (j ≡ t - 1 → ⊥) → rowAt n j new ≡ rowAt n j old
 
   pub rows-shown : (r e z' : List ℕ) → Only 6 (here .records) r → Only 16 (here .waiting) e → Only 16 z z'
-      → Shown c (setTask t (viewTask c (recordOf (c .Q) (getD (here .blocks) (t - 1) 0) (rowAt 6 (t - 1) r)) (rowAt 16 (t - 1) e) (rowAt 16 (t - 1) z')) L) (withTasks (here .blocks) r e here) z' w
+      → Shown c (setTask t (viewTask c (recordOf (c .Q) (blocksAt (here .blocks) (t - 1)) (rowAt 6 (t - 1) r)) (rowAt 16 (t - 1) e) (rowAt 16 (t - 1) z')) L) (withTasks (here .blocks) r e here) z' w
   unfolding taskAt withTasks
   rows-shown r e z' or oe oz =
-      task-shown c L here z w (h .shown) (here .blocks) r e z' t _ lo (omega (arith, h .of .tasks)) refl
+      task-shown c L here z w (h .shown) (here .blocks) r e z' t _ (omega arith, omega (arith, h .of .tasks)) refl
       (λ j g ne.
       let b : j < s .tasks = omega (arith, h .of .tasks) in
-      λ x. viewTask c (recordOf (c .Q) (getD (here .blocks) j 0) (sym (or j b ne) x)) (sym (oe j b ne) x) (sym (oz j b ne) x))
+      λ x. viewTask c (recordOf (c .Q) (blocksAt (here .blocks) j) (sym (or j b ne) x)) (sym (oe j b ne) x) (sym (oz j b ne) x))
 
   -- bytes from byte a of the record on, which make it the record x
   pub record-stored : (a : ℕ) (v : List ℕ) (x : Task) → a + length v ≤ 6
-      → recordOf (c .Q) (getD (here .blocks) (t - 1) 0) (splice (rowAt 6 (t - 1) (here .records)) a v) ≡ x
+      → recordOf (c .Q) (blocksAt (here .blocks) (t - 1)) (splice (rowAt 6 (t - 1) (here .records)) a v) ≡ x
       → Shows c s (setTask t (viewTask c x (rowAt 16 (t - 1) (here .waiting)) (rowAt 16 (t - 1) z)) L) (splice d (s .recordat + ((t - 1) * 6 + a)) v) z w
   unfolding regions named but bound withTasks
   record-stored a v x fits e =
@@ -139,8 +108,8 @@ module _ (c : Config) (s : Shape) (L : Ledger) (d z w : List ℕ) (h : Shows c s
       let f : i * 6 + 6 ≤ s .tasks * 6 = row-fits 6 i (s .tasks) (omega arith) in
       let r : List ℕ = splice (here .records) (i * 6 + a) v in
       let n : length (here .records) ≡ s .tasks * 6 = records-length in
-      let k : recordOf (c .Q) (getD (here .blocks) i 0) (rowAt 6 i r) ≡ x =
-      ap (recordOf (c .Q) (getD (here .blocks) i 0)) (row-inside 6 (s .tasks) i a (here .records) v (omega arith) (omega arith) fits) ∙ e in
+      let k : recordOf (c .Q) (blocksAt (here .blocks) i) (rowAt 6 i r) ≡ x =
+      ap (recordOf (c .Q) (blocksAt (here .blocks) i)) (row-inside 6 (s .tasks) i a (here .records) v (omega arith) (omega arith) fits) ∙ e in
       shows-as c s L d z w (splice d (s .recordat + (i * 6 + a)) v) z (withTasks (here .blocks) r (here .waiting) here) h
       (length-splice d (s .recordat + (i * 6 + a)) v (omega (arith, h .room))) refl
       (written s l d (h .room) 2 (i * 6 + a) v (omega arith))
@@ -159,31 +128,31 @@ module _ (c : Config) (s : Shape) (L : Ledger) (d z w : List ℕ) (h : Shows c s
   outcome-stored o =
       subst (λ (x : Ledger). Shows c s x (splice d (s .recordat + ((t - 1) * 6 + 0)) (outcomeBytes o)) z w)
       (ap (λ (x : ledger.Task). setTask t (record { blocks = x .blocks; outcome = viewOutcome o (x .slot); slot = x .slot; request = x .request }) L) (sym shown-task))
-      (record-stored 0 (outcomeBytes o) _ (omega arith) (record-outcome (c .Q) (getD (here .blocks) (t - 1) 0) (rowAt 6 (t - 1) (here .records)) o record-length))
+      (record-stored 0 (outcomeBytes o) _ (omega arith) (record-outcome (c .Q) (blocksAt (here .blocks) (t - 1)) (rowAt 6 (t - 1) (here .records)) o record-length))
 
   -- the request's two bytes
-  pub request-stored : (q : Request) → Asked (s .queues) q → Shows c s (setRequest t (viewRequest c q (rowAt 16 (t - 1) (here .waiting))) L) (splice d (s .recordat + ((t - 1) * 6 + 4)) (requestBytes q)) z w
+  pub request-stored : (q : Request) → AsksFor (s .queues) q → Shows c s (setRequest t (viewRequest c q (rowAt 16 (t - 1) (here .waiting))) L) (splice d (s .recordat + ((t - 1) * 6 + 4)) (requestBytes q)) z w
   unfolding setRequest viewTask
   request-stored q a =
       subst (λ (x : Ledger). Shows c s x (splice d (s .recordat + ((t - 1) * 6 + 4)) (requestBytes q)) z w)
       (ap (λ (x : ledger.Task). setTask t (record { blocks = x .blocks; outcome = x .outcome; slot = x .slot; request = viewRequest c q (rowAt 16 (t - 1) (here .waiting)) }) L) (sym shown-task))
-      (record-stored 4 (requestBytes q) _ (omega arith) (record-request (c .Q) (getD (here .blocks) (t - 1) 0) (rowAt 6 (t - 1) (here .records)) q (subst (λ (Q : ℕ). Asked Q q) (h .of .queues) a) record-length))
+      (record-stored 4 (requestBytes q) _ (omega arith) (record-request (c .Q) (blocksAt (here .blocks) (t - 1)) (rowAt 6 (t - 1) (here .records)) q (subst (λ (Q : ℕ). AsksFor Q q) (h .of .queues) a) record-length))
 
 -- ---- the record's six bytes, lent and taken back
-module _ (c : Config) (s : Shape) (L : Ledger) (d z w : List ℕ) (h : Shows c s L d z w) (t : ℕ) (lo : 1 ≤ t) (hi : t ≤ s .tasks) (ys : List ℕ) where
+module _ (c : Config) (s : Shape) (L : Ledger) (d z w : List ℕ) (h : Shows c s L d z w) (t : ℕ) (one : OneOf (s .tasks) t) (ys : List ℕ) where
   record-back : (a : ℕ) (v : List ℕ) → a + length v ≤ 6 → ys ≡ splice (cut d (s .recordat + (t - 1) * 6) (s .recordat + (t - 1) * 6 + 6)) a v
       → putMid (s .recordat + (t - 1) * 6) (s .recordat + (t - 1) * 6 + 6 - (s .recordat + (t - 1) * 6)) d ys ≡ splice d (s .recordat + ((t - 1) * 6 + a)) v
   record-back a v f e =
       let n : ℕ = s .recordat + (t - 1) * 6 in
-      let i : n + 6 ≤ length d = record-in (fitting (h .of .laid) (h .room)) t lo hi in
+      let i : n + 6 ≤ length d = record-in (fitting (h .of .laid) (h .room)) t one in
       let m : n + a ≡ s .recordat + ((t - 1) * 6 + a) = omega arith in
       lent-back d n (n + 6) a v ys (omega arith) i (omega arith) e ∙ ap (λ (x : ℕ). splice d x v) m
 
   pub outcome-lent : (o : Outcome) → ys ≡ splice (cut d (s .recordat + (t - 1) * 6) (s .recordat + (t - 1) * 6 + 6)) 0 (outcomeBytes o)
       → Shows c s (setOutcome t (viewOutcome o (task L t .slot)) L) (putMid (s .recordat + (t - 1) * 6) (s .recordat + (t - 1) * 6 + 6 - (s .recordat + (t - 1) * 6)) d ys) z w
-  outcome-lent o e = rw (record-back 0 (outcomeBytes o) (omega arith) e) (outcome-stored c s L d z w h t lo hi o)
+  outcome-lent o e = rw (record-back 0 (outcomeBytes o) (omega arith) e) (outcome-stored c s L d z w h t one o)
 
-  pub request-lent : (q : Request) → Asked (s .queues) q → ys ≡ splice (cut d (s .recordat + (t - 1) * 6) (s .recordat + (t - 1) * 6 + 6)) 4 (requestBytes q)
+  pub request-lent : (q : Request) → AsksFor (s .queues) q → ys ≡ splice (cut d (s .recordat + (t - 1) * 6) (s .recordat + (t - 1) * 6 + 6)) 4 (requestBytes q)
       → Shows c s (setRequest t (viewRequest c q (waitingIn s d t)) L) (putMid (s .recordat + (t - 1) * 6) (s .recordat + (t - 1) * 6 + 6 - (s .recordat + (t - 1) * 6)) d ys) z w
   unfolding waitingIn
-  request-lent q a e = rw (record-back 4 (requestBytes q) (omega arith) e) (request-stored c s L d z w h t lo hi q a)
+  request-lent q a e = rw (record-back 4 (requestBytes q) (omega arith) e) (request-stored c s L d z w h t one q a)

@@ -16,9 +16,9 @@ use Rattle.ledger.specs.Config.{Config}
 use Rattle.ledger.specs.Ledger.{Ledger, Semaphore}
 use Rattle.ledger.specs.Services.{notWaiting, withdrawWait}
 use Rattle.tables.specs.declared.shape.Shape.{Shape}
-use Rattle.tables.specs.Layout.{bound, region, Regions, named, regions, but, written}
-use Rattle.tables.specs.Decode.{semaphoreOf, clearedOf, viewSemaphore}
-use Rattle.tables.specs.Back.{case}
+use Rattle.tables.specs.Layout.{OneOf, bound, region, Regions, named, regions, but, written}
+use Rattle.tables.specs.Decode.{stateOf, clearedOf, viewSemaphore}
+use Rattle.tables.specs.Encoded.{case}
 use Rattle.tables.specs.Shows.{semaphoreCount, semaphoreAt, semaphoresIn, Shows}
 use Rattle.tables.specs.Items.{withSemaphores, semaphores-shown}
 use Rattle.tables.specs.Stored.{shows-as}
@@ -36,18 +36,18 @@ cleared-end t i l₀ l h e = e ∙ mapUpto-all (clearedOf t) i l₀ h
 cleared-zero : (t : ℕ) → clearedOf t 0 ≡ 0
 cleared-zero t = case (eqb 0 t) (λ e. rw e) (λ e. rw e)
 
-cleared-is : (T t x : ℕ) → 1 ≤ t → t ≤ T → notWaiting t (viewSemaphore (semaphoreOf T x)) ≡ viewSemaphore (semaphoreOf T (clearedOf t x))
+cleared-is : (T t x : ℕ) → OneOf T t → notWaiting t (viewSemaphore (stateOf T x)) ≡ viewSemaphore (stateOf T (clearedOf t x))
 unfolding viewSemaphore notWaiting
-cleared-is T t x lo hi =
+cleared-is T t x (lo, hi) =
     case (eqb x t)
     (λ e. let q : x ≡ t = eqb-true x t e in rw (e, ne-eqb x 0 (λ z. omega arith), le-leb x T (omega arith), notWaiting, e))
     (λ e. case (eqb x 0) (λ z. rw (e, z)) (λ z. case (leb x T) (λ l. rw (e, z, l, notWaiting, e)) (λ l. rw (e, z, l))))
 
 -- ---- all of them
-pub withdrawn : (c : Config) (s : Shape) (L : Ledger) (d z w : List ℕ) → Shows c s L d z w → (t : ℕ) → 1 ≤ t → t ≤ s .tasks → (ys : List ℕ)
+pub withdrawn : (c : Config) (s : Shape) (L : Ledger) (d z w : List ℕ) → Shows c s L d z w → (t : ℕ) → OneOf (s .tasks) t → (ys : List ℕ)
     → ys ≡ map (clearedOf t) (cut d (s .semaphoreat) (s .waitingat)) → Shows c s (withdrawWait t L) (putMid (s .semaphoreat) (s .waitingat - s .semaphoreat) d ys) z w
 unfolding withdrawWait semaphoresIn semaphoreAt regions named but bound withSemaphores region
-withdrawn c s L d z w h t lo hi ys e =
+withdrawn c s L d z w h t (lo, hi) ys e =
     let l = h .of .laid in
     let p : Regions = regions s d in
     let a : ℕ = s .semaphoreat in
@@ -60,9 +60,9 @@ withdrawn c s L d z w h t lo hi ys e =
     let new : map (notWaiting t) (L .semaphores) ≡ semaphoresIn c (withSemaphores (splice (p .semaphores) 0 ys) p) =
     ap (map (notWaiting t)) (h .shown .semaphores) ∙ map-tab (notWaiting t) (semaphoreCount c) f
     ∙ tab-ext (semaphoreCount c) (λ i. notWaiting t (f i)) (semaphoreAt c (withSemaphores (splice (p .semaphores) 0 ys) p))
-    (λ j g. cleared-is (c .T) t (getD (p .semaphores) j 0) lo (omega (arith, h .of .tasks))
-    ∙ ap (λ (x : ℕ). viewSemaphore (semaphoreOf (c .T) x)) (sym (ap (getD (map (clearedOf t) (p .semaphores)) j) (sym (cleared-zero t)) ∙ List·getD-map (clearedOf t) (p .semaphores) j 0))
-    ∙ ap (λ (x : List ℕ). viewSemaphore (semaphoreOf (c .T) (getD x j 0))) (sym v)) in
+    (λ j g. cleared-is (c .T) t (getD (p .semaphores) j 0) (lo, omega (arith, h .of .tasks))
+    ∙ ap (λ (x : ℕ). viewSemaphore (stateOf (c .T) x)) (sym (ap (getD (map (clearedOf t) (p .semaphores)) j) (sym (cleared-zero t)) ∙ List·getD-map (clearedOf t) (p .semaphores) j 0))
+    ∙ ap (λ (x : List ℕ). viewSemaphore (stateOf (c .T) (getD x j 0))) (sym v)) in
     subst (λ (x : List ℕ). Shows c s (withdrawWait t L) x z w) (sym b)
     (shows-as c s L d z w (splice d (a + 0) ys) z _ h (length-splice d (a + 0) ys (omega (arith, h .room))) refl (written s l d (h .room) 3 0 ys (omega arith)) (withdrawWait t L)
     (semaphores-shown c L p z w (h .shown) (splice (p .semaphores) 0 ys) (map (notWaiting t) (L .semaphores)) new))

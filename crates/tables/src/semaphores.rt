@@ -2,13 +2,13 @@
 use crate::shape::Shape;
 ghost use mathlib.Core.Path.{_≡_};
 ghost use mathlib.Core.List.{map};
-ghost use Prim.Native.Nat.{_+_, _-_, _≤_};
-ghost use lib.ListN.{length, getD};
-ghost use Rattle.tables.specs.Decode.{semaphoreOf, semaphoreByte, clearedOf, viewSemaphore};
-ghost use Rattle.tables.specs.Layout.{Fits};
-ghost use Rattle.tables.specs.Back.{Waiter};
-ghost use Rattle.tables.specs.Shows.{Does};
-ghost use Rattle.ledger.specs.Ledger.{setSemaphore};
+ghost use lib.ListN.{length};
+ghost use Rattle.tables.specs.Decode.{stateOf, stateByte, clearedOf, viewSemaphore};
+ghost use Rattle.tables.specs.Layout.{OneOf, Fits};
+ghost use Rattle.tables.specs.Encoded.{Waiter};
+ghost use Rattle.tables.specs.Shows.{Does, Tells};
+ghost use Rattle.ledger.specs.Ledger.{semaphoreOf, setSemaphore};
+ghost use Rattle.ledger.specs.Refusals.{isWaiting};
 ghost use Rattle.ledger.specs.Services.{withdrawWait};
 
 pub enum Semaphore {
@@ -17,8 +17,8 @@ pub enum Semaphore {
     Waiting(u8),
 }
 
-fn semaphore_of(tasks: usize, x: u8) -> Semaphore
-    ensures { λ r. ⌜ r ≡ semaphoreOf tasks x ⌝ }
+fn state_of(tasks: usize, x: u8) -> Semaphore
+    ensures { λ r. ⌜ r ≡ stateOf tasks x ⌝ }
 {
     if x == 0 {
         return Semaphore::Pending;
@@ -29,8 +29,8 @@ fn semaphore_of(tasks: usize, x: u8) -> Semaphore
     Semaphore::Done
 }
 
-fn semaphore_byte(s: Semaphore) -> u8
-    ensures { λ r. ⌜ r ≡ semaphoreByte s ⌝ }
+fn state_byte(s: Semaphore) -> u8
+    ensures { λ r. ⌜ r ≡ stateByte s ⌝ }
 {
     match s {
         Semaphore::Pending => 0,
@@ -39,20 +39,33 @@ fn semaphore_byte(s: Semaphore) -> u8
     }
 }
 
-pub fn load(tables: &[u8], shape: Shape, b: usize) -> Semaphore
-    requires { ⌜ Fits shape (length (now tables)) × (1 ≤ b) × (b ≤ shape .semaphores) ⌝ }
-    ensures { λ r. ⌜ (r ≡ semaphoreOf (shape .tasks) (getD (now (tables .entry)) (shape .semaphoreat + (b - 1)) 0)) × Waiter (shape .tasks) r ⌝ }
+pub fn load(tables: &[u8], shape: Shape, b: u8) -> Semaphore
+    requires { ⌜ Fits shape (length (now tables)) × OneOf (shape .semaphores) b ⌝ }
+    ensures { λ r. ⌜ Tells shape (now (tables .entry)) (λ c L. semaphoreOf L b) (viewSemaphore r) × Waiter (shape .tasks) r ⌝ }
 {
-    let at = shape.semaphoreat + (b - 1);
-    semaphore_of(shape.tasks, tables[at])
+    let at = shape.semaphoreat + (b as usize - 1);
+    state_of(shape.tasks, tables[at])
 }
 
-pub fn store(tables: &mut [u8], shape: Shape, b: usize, s: Semaphore)
-    requires { ⌜ Fits shape (length (now tables)) × (1 ≤ b) × (b ≤ shape .semaphores) × Waiter (shape .tasks) s ⌝ }
+pub fn store(tables: &mut [u8], shape: Shape, b: u8, s: Semaphore)
+    requires { ⌜ Fits shape (length (now tables)) × OneOf (shape .semaphores) b × Waiter (shape .tasks) s ⌝ }
     ensures { λ _. ⌜ Does shape (now (tables .entry)) (now (tables .exit)) (λ c L. setSemaphore b (viewSemaphore s) L) ⌝ }
 {
-    let at = shape.semaphoreat + (b - 1);
-    tables[at] = semaphore_byte(s);
+    let at = shape.semaphoreat + (b as usize - 1);
+    tables[at] = state_byte(s);
+}
+
+// Whether a semaphore is WAITING.
+pub fn is_waiting(tables: &[u8], shape: Shape, b: u8) -> bool
+    requires { ⌜ Fits shape (length (now tables)) × OneOf (shape .semaphores) b ⌝ }
+    ensures { λ r. ⌜ Tells shape (now (tables .entry)) (λ c L. isWaiting (semaphoreOf L b)) r ⌝ }
+{
+    let s = load(tables, shape, b);
+    match s {
+        Semaphore::Pending => false,
+        Semaphore::Done => false,
+        Semaphore::Waiting(_) => true,
+    }
 }
 
 fn cleared(x: u8, t: u8) -> u8
@@ -76,7 +89,7 @@ fn clear_all(part: &mut [u8], t: u8)
 
 // The semaphore that is WAITING with a task becomes PENDING.
 pub fn withdraw(tables: &mut [u8], shape: Shape, t: u8)
-    requires { ⌜ Fits shape (length (now tables)) × (1 ≤ t) × (t ≤ shape .tasks) ⌝ }
+    requires { ⌜ Fits shape (length (now tables)) × OneOf (shape .tasks) t ⌝ }
     ensures { λ _. ⌜ Does shape (now (tables .entry)) (now (tables .exit)) (λ c L. withdrawWait t L) ⌝ }
 {
     let at = shape.semaphoreat;

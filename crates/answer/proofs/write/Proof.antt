@@ -1,14 +1,10 @@
 -- `write` writes the running task's outcome, which for the null task is plain: what the tables say of that task is the ledger's.
 use native.Mathlib.Omega.{arith}
 use denote.Ref.{now}
-use Rattle.tables.specs.Layout.{few}
 use Rattle.answer.specs.Answered.{answer-null, answer-task}
 use borrow.Author.Needs.{needs}
 use Rattle.answer.proofs.write.Statement.{statement}
 use Rattle.answer.proofs.write.Tie as tie
-
-cast-t11 : tie.Need-cast-t11
-cast-t11 c = let s = c .before .before .before in omega (arith, few (s .pre .0), s .pre .3)
 
 put-kind-requires : tie.Need-put-kind-requires
 put-kind-requires c κs = search needs
@@ -36,13 +32,12 @@ returns-2 c =
     let s = c .before .before .before .before .before .before .before .before .before in
     let a = s .args in
     λ g L w h r.
-    answer-task g (a .shape) L (now (a .tables)) (now (a .slots)) w h _ r (now (a .answer)) _ _ (omega arith) (s .pre .3) (c .before .before .before .before .load .ensures .0) (c .before .before .put-outcome .ensures)
+    answer-task g (a .shape) L (now (a .tables)) (now (a .slots)) w h _ r (now (a .answer)) _ _ (omega arith, s .pre .3) (c .before .before .before .before .load .ensures .0) (c .before .before .put-outcome .ensures)
 
 pub write-spec : {M : Type 1} → statement M
 write-spec =
     tie.close
     (tie.spec
-    cast-t11
     put-kind-requires
     same-length
     returns

@@ -2,7 +2,7 @@
 use native.Mathlib.Omega.{arith}
 use denote.Ref.{now}
 use Rattle.mailboxes.specs.Mail.{lies, bytes-length}
-use Rattle.mailboxes.specs.Done.{clear-done}
+use Rattle.mailboxes.specs.Operations.{clear-done}
 use borrow.Author.Needs.{needs}
 use Rattle.mailboxes.proofs.clear.Statement.{statement}
 use Rattle.mailboxes.proofs.clear.Tie as tie
@@ -21,9 +21,6 @@ part-remove-all-start c = lies (c .before .before .before .pre .0) .start
 
 part-remove-all-end : tie.Need-part-remove-all-end
 part-remove-all-end c = lies (c .before .before .before .pre .0) .within
-
-cast-remove-all : tie.Need-cast-remove-all
-cast-remove-all c = let s = c .before .before .before .before in let l = lies (s .pre .0) in omega (arith, s .pre .2)
 
 remove-all-requires : tie.Need-remove-all-requires
 remove-all-requires c κs =
@@ -47,7 +44,7 @@ returns c =
     let a = s .args in
     let n = c .before .before .before .before .count in
     let r = c .before .before .remove-all in
-    λ g L z w h. clear-done g (a .shape) L (now (a .tables)) z w h (n .result) (n .ensures .0) (a .t) (s .pre .1) (s .pre .2) (r .last .0) (r .result) (n .ensures .1) (r .kept .0) (r .ensures)
+    λ g L z w h. clear-done g (a .shape) L (now (a .tables)) z w h (n .result) (n .ensures .0) (a .t) (s .pre .1) (r .last .0) (r .result) (n .ensures .1) (r .kept .0) (r .ensures)
 
 pub clear-spec : {M : Type 1} → statement M
 clear-spec =
@@ -58,7 +55,6 @@ clear-spec =
     sub-remove-all
     part-remove-all-start
     part-remove-all-end
-    cast-remove-all
     remove-all-requires
     cast-tables
     slice-write-tables

@@ -2,7 +2,7 @@
 use native.Mathlib.Omega.{arith}
 use denote.Ref.{now}
 use Rattle.mailboxes.specs.Mail.{lies, bytes-length}
-use Rattle.mailboxes.specs.Done.{holds-told}
+use Rattle.mailboxes.specs.Operations.{holds-told}
 use borrow.Author.Needs.{needs}
 use Rattle.mailboxes.proofs.holds.Statement.{statement}
 use Rattle.mailboxes.proofs.holds.Tie as tie

@@ -2,7 +2,7 @@
 use native.Mathlib.Omega.{arith}
 use denote.Ref.{now}
 use Rattle.mailboxes.specs.Mail.{lies, bytes-length}
-use Rattle.mailboxes.specs.Done.{insert-room, insert-done}
+use Rattle.mailboxes.specs.Operations.{insert-room, insert-done}
 use borrow.Author.Needs.{needs}
 use Rattle.mailboxes.proofs.insert.Statement.{statement}
 use Rattle.mailboxes.proofs.insert.Tie as tie
@@ -18,7 +18,7 @@ returns c =
     let s = c .before .before .before .before .before in
     let a = s .args in
     let n = c .before .before .count in
-    λ g L z w new h. absurd (insert-room g (a .shape) L (now (a .tables)) z w h (n .result) (n .ensures .0) (a .number) (s .pre .3) (s .pre .4) new (n .ensures .1) (c .if1 .taken))
+    λ g L z w new h. absurd (insert-room g (a .shape) L (now (a .tables)) z w h (n .result) (n .ensures .0) (a .number) (s .pre .2) new (n .ensures .1) (c .if1 .taken))
 
 sub-insert : tie.Need-sub-insert
 sub-insert c = lies (c .before .before .before .before .before .pre .0) .start
@@ -28,9 +28,6 @@ part-insert-start c = lies (c .before .before .before .before .before .pre .0) .
 
 part-insert-end : tie.Need-part-insert-end
 part-insert-end c = lies (c .before .before .before .before .before .pre .0) .within
-
-cast-insert : tie.Need-cast-insert
-cast-insert c = let s = c .before .before .before .before .before .before in let l = lies (s .pre .0) in omega (arith, s .pre .2)
 
 insert-requires : tie.Need-insert-requires
 insert-requires c κs =
@@ -55,7 +52,7 @@ returns-2 c =
     let a = s .args in
     let n = c .before .before .before .before .before .before .count in
     let i = c .before .before .insert in
-    λ g L z w new h. insert-done g (a .shape) L (now (a .tables)) z w h (n .result) (n .ensures .0) (a .number) (s .pre .3) (s .pre .4) new (a .to) (a .sender) (a .semaphore) (i .last .0) (s .pre .1) (s .pre .2) (c .before .before .before .before .if1 .left) (i .kept .0) (i .ensures)
+    λ g L z w new h. insert-done g (a .shape) L (now (a .tables)) z w h (n .result) (n .ensures .0) (a .number) (s .pre .2) new (a .to) (a .sender) (a .semaphore) (i .last .0) (s .pre .1) (c .before .before .before .before .if1 .left) (i .kept .0) (i .ensures)
 
 pub insert-spec : {M : Type 1} → statement M
 insert-spec =
@@ -67,7 +64,6 @@ insert-spec =
     sub-insert
     part-insert-start
     part-insert-end
-    cast-insert
     insert-requires
     add-tables
     cast-tables

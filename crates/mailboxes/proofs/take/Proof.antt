@@ -4,7 +4,7 @@ use denote.Ref.{now}
 use Rattle.messages.specs.Pending.{pending}
 use Rattle.mailboxes.specs.Received.{viewReceived, taken}
 use Rattle.mailboxes.specs.Mail.{lies, bytes-length}
-use Rattle.mailboxes.specs.Done.{take-none, take-some, take-done}
+use Rattle.mailboxes.specs.Operations.{take-none, take-some, take-done}
 use borrow.Author.Needs.{needs}
 use Rattle.mailboxes.proofs.take.Statement.{statement}
 use Rattle.mailboxes.proofs.take.Tie as tie
@@ -24,9 +24,6 @@ part-find-start c = lies (c .before .before .before .before .pre .0) .start
 part-find-end : tie.Need-part-find-end
 part-find-end c = lies (c .before .before .before .before .pre .0) .within
 
-cast-find : tie.Need-cast-find
-cast-find c = let s = c .before .before .before .before .before in let l = lies (s .pre .0) in omega (arith, s .pre .2)
-
 find-requires : tie.Need-find-requires
 find-requires c κs =
     let s = c .before .before .before .before .before in
@@ -42,7 +39,7 @@ returns c =
     let a = s .args in
     let n = c .before .before .before .before .count in
     let k = c .before .find in
-    λ g L z w h. (take-none g (a .shape) L (now (a .tables)) z w h (n .result) (n .ensures .0) (a .t) (s .pre .1) (s .pre .2) (n .ensures .1) (a .from) (k .result) (k .ensures) (c .if1 .taken), h)
+    ((λ g L z w h. take-none g (a .shape) L (now (a .tables)) z w h (n .result) (n .ensures .0) (a .t) (s .pre .1) (n .ensures .1) (a .from) (k .result) (k .ensures) (c .if1 .taken)), λ g L z w h. h)
 
 sub-load : tie.Need-sub-load
 sub-load c = lies (c .before .before .before .before .before .before .before .pre .0) .start
@@ -97,10 +94,9 @@ returns-2 c =
     let k = c .before .before .before .before .before .before .before .before .find in
     let i = c .before .before .before .before .before .before .before .if1 .left in
     let p = c .before .before .before .before .load in
-    let m = c .before .before .remove in
-    λ g L z w h. (
-      take-some g (a .shape) L (now (a .tables)) z w h (n .result) (n .ensures .0) (a .t) (s .pre .1) (s .pre .2) (n .ensures .1) (a .from) (k .result) (k .ensures) (pending (p .result .to) (p .result .number) (p .result .sender) (p .result .semaphore)) i (p .ensures),
-      take-done g (a .shape) L (now (a .tables)) z w h (n .result) (n .ensures .0) (a .t) (s .pre .1) (s .pre .2) (n .ensures .1) (a .from) (k .result) (k .ensures) (m .last .0) i (m .kept .0) (m .ensures),
+    let m = c .before .before .remove in (
+      (λ g L z w h. take-some g (a .shape) L (now (a .tables)) z w h (n .result) (n .ensures .0) (a .t) (s .pre .1) (n .ensures .1) (a .from) (k .result) (k .ensures) (pending (p .result .to) (p .result .number) (p .result .sender) (p .result .semaphore)) i (p .ensures)),
+      (λ g L z w h. take-done g (a .shape) L (now (a .tables)) z w h (n .result) (n .ensures .0) (a .t) (s .pre .1) (n .ensures .1) (a .from) (k .result) (k .ensures) (m .last .0) i (m .kept .0) (m .ensures)),
     )
 
 pub take-spec : {M : Type 1} → statement M
@@ -112,7 +108,6 @@ take-spec =
     sub-find
     part-find-start
     part-find-end
-    cast-find
     find-requires
     same-length
     returns

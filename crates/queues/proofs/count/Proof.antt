@@ -12,16 +12,16 @@ sub-at : tie.Need-sub-at
 sub-at c = search needs
 
 mul-at : tie.Need-mul-at
-mul-at c = let s = c .before in omega (arith, rings-in (s .pre .0) (s .args .q) (s .pre .1) (s .pre .2))
+mul-at c = let s = c .before in omega (arith, rings-in (s .pre .0) (s .args .q) (s .pre .1))
 
 add-at : tie.Need-add-at
-add-at c = let s = c .before .before in omega (arith, rings-in (s .pre .0) (s .args .q) (s .pre .1) (s .pre .2))
+add-at c = let s = c .before .before in omega (arith, rings-in (s .pre .0) (s .args .q) (s .pre .1))
 
 add-at-2 : tie.Need-add-at-2
-add-at-2 c = let s = c .before .before in omega (arith, rings-in (s .pre .0) (s .args .q) (s .pre .1) (s .pre .2))
+add-at-2 c = let s = c .before .before in omega (arith, rings-in (s .pre .0) (s .args .q) (s .pre .1))
 
 shared-slice-read-wide : tie.Need-shared-slice-read-wide
-shared-slice-read-wide c = let s = c .before .before .before in omega (arith, rings-in (s .pre .0) (s .args .q) (s .pre .1) (s .pre .2))
+shared-slice-read-wide c = let s = c .before .before .before in omega (arith, rings-in (s .pre .0) (s .args .q) (s .pre .1))
 
 wide-requires : tie.Need-wide-requires
 wide-requires c κs = search needs
@@ -34,7 +34,7 @@ unfolding countIn
 returns c =
     let s = c .before .before .before .before .before in
     let a = s .args in
-    c .count-of .ensures ∙ ap (countOf (a .ring .depth)) (c .before .wide .ensures ∙ count-byte (s .pre .0) (a .q) (s .pre .1) (s .pre .2) (now (a .tables)))
+    c .count-of .ensures ∙ ap (countOf (a .ring .depth)) (c .before .wide .ensures ∙ count-byte (s .pre .0) (a .q) (s .pre .1) (now (a .tables)))
 
 pub count-spec : {M : Type 1} → statement M
 count-spec =

@@ -12,13 +12,13 @@ sub-at : tie.Need-sub-at
 sub-at c = search needs
 
 mul-at : tie.Need-mul-at
-mul-at c = let s = c .before in omega (arith, rings-in (s .pre .0) (s .args .q) (s .pre .1) (s .pre .2))
+mul-at c = let s = c .before in omega (arith, rings-in (s .pre .0) (s .args .q) (s .pre .1))
 
 add-at : tie.Need-add-at
-add-at c = let s = c .before .before in omega (arith, rings-in (s .pre .0) (s .args .q) (s .pre .1) (s .pre .2))
+add-at c = let s = c .before .before in omega (arith, rings-in (s .pre .0) (s .args .q) (s .pre .1))
 
 shared-slice-read-wide : tie.Need-shared-slice-read-wide
-shared-slice-read-wide c = let s = c .before .before .before in omega (arith, rings-in (s .pre .0) (s .args .q) (s .pre .1) (s .pre .2))
+shared-slice-read-wide c = let s = c .before .before .before in omega (arith, rings-in (s .pre .0) (s .args .q) (s .pre .1))
 
 wide-requires : tie.Need-wide-requires
 wide-requires c κs = search needs
@@ -31,7 +31,7 @@ unfolding headIn
 returns c =
     let s = c .before .before .before .before .before in
     let a = s .args in
-    c .head-of .ensures ∙ ap (headOf (a .ring .depth)) (c .before .wide .ensures ∙ head-byte (s .pre .0) (a .q) (s .pre .1) (s .pre .2) (now (a .tables)))
+    c .head-of .ensures ∙ ap (headOf (a .ring .depth)) (c .before .wide .ensures ∙ head-byte (s .pre .0) (a .q) (s .pre .1) (now (a .tables)))
 
 pub head-spec : {M : Type 1} → statement M
 head-spec =

@@ -10,19 +10,19 @@ sub-at : tie.Need-sub-at
 sub-at c = search needs
 
 mul-at : tie.Need-mul-at
-mul-at c = let s = c in omega (arith, rings-in (s .pre .0) (s .args .q) (s .pre .1) (s .pre .2))
+mul-at c = let s = c in omega (arith, rings-in (s .pre .0) (s .args .q) (s .pre .1))
 
 add-at : tie.Need-add-at
-add-at c = let s = c .before in omega (arith, rings-in (s .pre .0) (s .args .q) (s .pre .1) (s .pre .2))
+add-at c = let s = c .before in omega (arith, rings-in (s .pre .0) (s .args .q) (s .pre .1))
 
 slice-write-tables : tie.Need-slice-write-tables
-slice-write-tables c = let s = c .before in omega (arith, rings-in (s .pre .0) (s .args .q) (s .pre .1) (s .pre .2))
+slice-write-tables c = let s = c .before in omega (arith, rings-in (s .pre .0) (s .args .q) (s .pre .1))
 
 add-tables : tie.Need-add-tables
-add-tables c = let s = c .before in omega (arith, rings-in (s .pre .0) (s .args .q) (s .pre .1) (s .pre .2))
+add-tables c = let s = c .before in omega (arith, rings-in (s .pre .0) (s .args .q) (s .pre .1))
 
 slice-write-tables-2 : tie.Need-slice-write-tables-2
-slice-write-tables-2 c = let s = c .before in simp length-set (omega (arith, rings-in (s .pre .0) (s .args .q) (s .pre .1) (s .pre .2)))
+slice-write-tables-2 c = let s = c .before in simp length-set (omega (arith, rings-in (s .pre .0) (s .args .q) (s .pre .1)))
 
 same-length : tie.Need-same-length
 same-length c = search needs

@@ -4,7 +4,8 @@ use denote.Ref.{now}
 use native.Mathlib.Omega.{arith}
 use Prim.Native.Nat.{_+_, _-_}
 use lib.ListN.{getD}
-use Rattle.tables.specs.Back.{semaphore-waiter}
+use Rattle.tables.specs.Semaphores.{semaphore-told}
+use Rattle.tables.specs.Encoded.{state-waiter}
 use borrow.Author.Needs.{needs}
 use Rattle.tables.proofs.semaphores.load.Statement.{statement}
 use Rattle.tables.proofs.semaphores.load.Tie as tie
@@ -13,20 +14,21 @@ sub-at : tie.Need-sub-at
 sub-at c = search needs
 
 add-at : tie.Need-add-at
-add-at c = let s = c .before .before in omega (arith, semaphore-in (s .pre .0) (s .args .b) (s .pre .1) (s .pre .2))
+add-at c = let s = c .before .before in omega (arith, semaphore-in (s .pre .0) (s .args .b) (s .pre .1))
 
-shared-slice-read-semaphore-of : tie.Need-shared-slice-read-semaphore-of
-shared-slice-read-semaphore-of c = let s = c .before .before .before in semaphore-in (s .pre .0) (s .args .b) (s .pre .1) (s .pre .2)
+shared-slice-read-state-of : tie.Need-shared-slice-read-state-of
+shared-slice-read-state-of c = let s = c .before .before .before in semaphore-in (s .pre .0) (s .args .b) (s .pre .1)
 
-semaphore-of-requires : tie.Need-semaphore-of-requires
-semaphore-of-requires c κs = search needs
+state-of-requires : tie.Need-state-of-requires
+state-of-requires c κs = search needs
 
 returns : tie.Need-returns
 returns c =
     let s = c .before .before .before .before in
-    let h = s .args .shape in
-    (c .semaphore-of .ensures, rw (c .semaphore-of .ensures) (semaphore-waiter (h .tasks) (getD (now (s .args .tables)) (h .semaphoreat + (s .args .b - 1)) 0)))
+    let a = s .args in
+    let h = a .shape in
+    (semaphore-told (s .pre .0) (now (a .tables)) (a .b) (s .pre .1) _ (c .state-of .ensures), rw (c .state-of .ensures) (state-waiter (h .tasks) (getD (now (a .tables)) (h .semaphoreat + (a .b - 1)) 0)))
 
 pub load-spec : {M : Type 1} → statement M
 load-spec =
-    tie.close (tie.spec sub-at add-at shared-slice-read-semaphore-of semaphore-of-requires returns)
+    tie.close (tie.spec sub-at add-at shared-slice-read-state-of state-of-requires returns)

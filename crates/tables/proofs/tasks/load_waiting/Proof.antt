@@ -10,13 +10,13 @@ sub-at : tie.Need-sub-at
 sub-at c = search needs
 
 mul-at : tie.Need-mul-at
-mul-at c = let s = c .before .before in omega (arith, waiting-in (s .pre .0) (s .args .t) (s .pre .1) (s .pre .2))
+mul-at c = let s = c .before .before in omega (arith, waiting-in (s .pre .0) (s .args .t) (s .pre .1))
 
 add-at : tie.Need-add-at
-add-at c = let s = c .before .before .before in omega (arith, waiting-in (s .pre .0) (s .args .t) (s .pre .1) (s .pre .2))
+add-at c = let s = c .before .before .before in omega (arith, waiting-in (s .pre .0) (s .args .t) (s .pre .1))
 
 add-end : tie.Need-add-end
-add-end c = let s = c .before .before .before in omega (arith, waiting-in (s .pre .0) (s .args .t) (s .pre .1) (s .pre .2))
+add-end c = let s = c .before .before .before in omega (arith, waiting-in (s .pre .0) (s .args .t) (s .pre .1))
 
 sub-copy-in : tie.Need-sub-copy-in
 sub-copy-in c = search needs
@@ -25,7 +25,7 @@ part-copy-in-start : tie.Need-part-copy-in-start
 part-copy-in-start c = search needs
 
 part-copy-in-end : tie.Need-part-copy-in-end
-part-copy-in-end c = let s = c .before .before .before in omega (arith, waiting-in (s .pre .0) (s .args .t) (s .pre .1) (s .pre .2))
+part-copy-in-end c = let s = c .before .before .before in omega (arith, waiting-in (s .pre .0) (s .args .t) (s .pre .1))
 
 copy-in-requires : tie.Need-copy-in-requires
 copy-in-requires c κs = search needs
@@ -37,7 +37,7 @@ returns : tie.Need-returns
 returns c =
     let s = c .before .before .before .before .before .before .before .before in
     let a = s .args in
-    waiting-copied (a .shape) (now (a .tables)) (now (a .entry)) _ (s .pre .0) (a .t) (s .pre .1) (s .pre .2) (s .pre .3) (c .before .before .copy-in .ensures)
+    waiting-copied (a .shape) (now (a .tables)) (now (a .entry)) _ (s .pre .0) (a .t) (s .pre .1) (s .pre .2) (c .before .before .copy-in .ensures)
 
 pub load-waiting-spec : {M : Type 1} → statement M
 load-waiting-spec =

@@ -1,7 +1,7 @@
 -- `request_in` decodes two bytes of a record; what it names exists.
 use denote.Ref.{now}
 use lib.ListN.{getD}
-use Rattle.tables.specs.Back.{request-asked}
+use Rattle.tables.specs.Encoded.{asks-for}
 use borrow.Author.Needs.{needs}
 use Rattle.tables.proofs.tasks.request_in.Statement.{statement}
 use Rattle.tables.proofs.tasks.request_in.Tie as tie
@@ -18,7 +18,7 @@ request-of-requires c κs = search needs
 returns : tie.Need-returns
 returns c =
     let a = c .before .before .before .before .args in
-    (c .request-of .ensures, rw (c .request-of .ensures) (request-asked (a .queues) (getD (now (a .row)) 4 0) (getD (now (a .row)) 5 0)))
+    (c .request-of .ensures, rw (c .request-of .ensures) (asks-for (a .queues) (getD (now (a .row)) 4 0) (getD (now (a .row)) 5 0)))
 
 pub request-in-spec : {M : Type 1} → statement M
 request-in-spec =

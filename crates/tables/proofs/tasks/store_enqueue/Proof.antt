@@ -10,16 +10,16 @@ sub-at : tie.Need-sub-at
 sub-at c = search needs
 
 mul-at : tie.Need-mul-at
-mul-at c = let s = c .before .before in omega (arith, waiting-in (s .pre .0) (s .args .t) (s .pre .1) (s .pre .2))
+mul-at c = let s = c .before .before in omega (arith, waiting-in (s .pre .0) (s .args .t) (s .pre .1))
 
 add-at : tie.Need-add-at
-add-at c = let s = c .before .before .before in omega (arith, waiting-in (s .pre .0) (s .args .t) (s .pre .1) (s .pre .2))
+add-at c = let s = c .before .before .before in omega (arith, waiting-in (s .pre .0) (s .args .t) (s .pre .1))
 
 copy-in-requires : tie.Need-copy-in-requires
-copy-in-requires c κs = let s = c .before .before .before .before in omega (arith, waiting-in (s .pre .0) (s .args .t) (s .pre .1) (s .pre .2))
+copy-in-requires c κs = let s = c .before .before .before .before in omega (arith, waiting-in (s .pre .0) (s .args .t) (s .pre .1))
 
 store-request-requires : tie.Need-store-request-requires
-store-request-requires c κs = let s = c .before .before .before .before .before .before .before .before in (still-fits (s .pre .0) (omega arith), s .pre .1, s .pre .2, (s .pre .3, s .pre .4))
+store-request-requires c κs = let s = c .before .before .before .before .before .before .before .before in (still-fits (s .pre .0) (omega arith), s .pre .1, s .pre .2)
 
 same-length : tie.Need-same-length
 same-length c = search needs
@@ -28,7 +28,7 @@ returns : tie.Need-returns
 returns c =
     let s = c .before .before .before .before .before .before .before .before .before .before .before in
     let a = s .args in
-    λ g L z w el h. enqueue-waits g (a .shape) L (now (a .tables)) z w h (a .t) (s .pre .1) (s .pre .2) (now (a .entry)) (s .pre .5) (a .q) _ _ el (c .before .before .before .before .before .before .copy-in .ensures) (c .before .before .store-request .ensures)
+    λ g L z w el h. enqueue-waits g (a .shape) L (now (a .tables)) z w h (a .t) (s .pre .1) (now (a .entry)) (s .pre .3) (a .q) _ _ el (c .before .before .before .before .before .before .copy-in .ensures) (c .before .before .store-request .ensures)
 
 pub store-enqueue-spec : {M : Type 1} → statement M
 store-enqueue-spec =

@@ -10,13 +10,13 @@ sub-at : tie.Need-sub-at
 sub-at c = search needs
 
 mul-at : tie.Need-mul-at
-mul-at c = let s = c .before in omega (arith, record-in (s .pre .0) (s .args .t) (s .pre .1) (s .pre .2))
+mul-at c = let s = c .before in omega (arith, record-in (s .pre .0) (s .args .t) (s .pre .1))
 
 add-at : tie.Need-add-at
-add-at c = let s = c .before .before in omega (arith, record-in (s .pre .0) (s .args .t) (s .pre .1) (s .pre .2))
+add-at c = let s = c .before .before in omega (arith, record-in (s .pre .0) (s .args .t) (s .pre .1))
 
 add-end : tie.Need-add-end
-add-end c = let s = c .before .before in omega (arith, record-in (s .pre .0) (s .args .t) (s .pre .1) (s .pre .2))
+add-end c = let s = c .before .before in omega (arith, record-in (s .pre .0) (s .args .t) (s .pre .1))
 
 sub-put-outcome : tie.Need-sub-put-outcome
 sub-put-outcome c = search needs
@@ -25,7 +25,7 @@ part-put-outcome-start : tie.Need-part-put-outcome-start
 part-put-outcome-start c = search needs
 
 part-put-outcome-end : tie.Need-part-put-outcome-end
-part-put-outcome-end c = let s = c .before .before in omega (arith, record-in (s .pre .0) (s .args .t) (s .pre .1) (s .pre .2))
+part-put-outcome-end c = let s = c .before .before in omega (arith, record-in (s .pre .0) (s .args .t) (s .pre .1))
 
 put-outcome-requires : tie.Need-put-outcome-requires
 put-outcome-requires c κs = search needs
@@ -37,7 +37,7 @@ returns : tie.Need-returns
 returns c =
     let e = c .before .before .before .before .before .before in
     let a = e .args in
-    λ g L z w h. outcome-lent g (a .shape) L (now (a .tables)) z w h (a .t) (e .pre .1) (e .pre .2) (c .before .before .put-outcome .last .0) (a .o) (c .before .before .put-outcome .ensures)
+    λ g L z w h. outcome-lent g (a .shape) L (now (a .tables)) z w h (a .t) (e .pre .1) (c .before .before .put-outcome .last .0) (a .o) (c .before .before .put-outcome .ensures)
 
 pub store-outcome-spec : {M : Type 1} → statement M
 store-outcome-spec =

@@ -10,13 +10,13 @@ sub-at : tie.Need-sub-at
 sub-at c = search needs
 
 mul-at : tie.Need-mul-at
-mul-at c = let s = c .before in omega (arith, record-in (s .pre .0) (s .args .t) (s .pre .1) (s .pre .2))
+mul-at c = let s = c .before in omega (arith, record-in (s .pre .0) (s .args .t) (s .pre .1))
 
 add-at : tie.Need-add-at
-add-at c = let s = c .before .before in omega (arith, record-in (s .pre .0) (s .args .t) (s .pre .1) (s .pre .2))
+add-at c = let s = c .before .before in omega (arith, record-in (s .pre .0) (s .args .t) (s .pre .1))
 
 add-end : tie.Need-add-end
-add-end c = let s = c .before .before in omega (arith, record-in (s .pre .0) (s .args .t) (s .pre .1) (s .pre .2))
+add-end c = let s = c .before .before in omega (arith, record-in (s .pre .0) (s .args .t) (s .pre .1))
 
 sub-put-request : tie.Need-sub-put-request
 sub-put-request c = search needs
@@ -25,7 +25,7 @@ part-put-request-start : tie.Need-part-put-request-start
 part-put-request-start c = search needs
 
 part-put-request-end : tie.Need-part-put-request-end
-part-put-request-end c = let s = c .before .before in omega (arith, record-in (s .pre .0) (s .args .t) (s .pre .1) (s .pre .2))
+part-put-request-end c = let s = c .before .before in omega (arith, record-in (s .pre .0) (s .args .t) (s .pre .1))
 
 put-request-requires : tie.Need-put-request-requires
 put-request-requires c κs = search needs
@@ -37,7 +37,7 @@ returns : tie.Need-returns
 returns c =
     let e = c .before .before .before .before .before .before in
     let a = e .args in
-    λ g L z w h. request-lent g (a .shape) L (now (a .tables)) z w h (a .t) (e .pre .1) (e .pre .2) (c .before .before .put-request .last .0) (a .q) (e .pre .3) (c .before .before .put-request .ensures)
+    λ g L z w h. request-lent g (a .shape) L (now (a .tables)) z w h (a .t) (e .pre .1) (c .before .before .put-request .last .0) (a .q) (e .pre .2) (c .before .before .put-request .ensures)
 
 pub store-request-spec : {M : Type 1} → statement M
 store-request-spec =

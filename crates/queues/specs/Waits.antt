@@ -1,0 +1,85 @@
+-- Whether a dequeue or an enqueue would wait, and where.
+use mathlib.Core.Path.{_≡_, sym, ap, _∙_}
+use mathlib.Core.Bool.{Bool, true, false, cond}
+use mathlib.Core.List.{List}
+use Prim.Native.Nat.{ℕ, _+_, _-_, _*_, _<_, _≤_}
+use native.Mathlib.Omega.{arith}
+use borrow.Author.Tests.{eq-eqb, ne-eqb, le-leb, lt-leb}
+use lib.ListN.{length}
+use Rattle.tables.specs.declared.shape.Shape.{Shape}
+use Rattle.tables.specs.Layout.{OneOf, Fits, fitting}
+use Rattle.tables.specs.Shows.{Shows, Tells, TellsIf}
+use Rattle.ledger.specs.Lists.{at}
+use Rattle.ledger.specs.Config.{Config}
+use Rattle.ledger.specs.Ledger.{Ledger, queue, held, semaphoreOf}
+use Rattle.ledger.specs.Services.{notEmpty, notFull, shape, empty, full}
+use Rattle.ledger.specs.Refusals.{onNotEmpty, onNotFull, wouldWaitOn, isWaiting, meets21}
+use Rattle.queues.specs.declared.Ring.{Ring}
+use Rattle.queues.specs.Rings.{ringOf, depth-is, countIn, held-length}
+
+-- the semaphore not-full of a queue; not-empty is the one before it
+abbrev pub notFullOf : Shape → ℕ → ℕ
+notFullOf s q = s .named + s .tasks + 2 * q
+
+-- the value x is the ledger's, where r is the ring of queue q
+abbrev pub TellsRing : {A : Type 0} → Shape → List ℕ → Ring → ℕ → (Config → Ledger → A) → A → Type 0
+TellsRing s d r q f x = TellsIf s d (λ c L. r ≡ ringOf c s q) f x
+
+pub not-full-in : {s : Shape} {n : ℕ} → Fits s n → (q : ℕ) → OneOf (s .queues) q
+    → OneOf (s .semaphores) (notFullOf s q) × OneOf (s .semaphores) (notFullOf s q - 1) × (s .semaphores ≤ 255)
+not-full-in (fitting l r) q o = ((omega arith, omega arith), (omega arith, omega arith), l .sum)
+
+-- ---- the queue's semaphores and what it holds
+module _ (c : Config) (s : Shape) (L : Ledger) (d z w : List ℕ) (h : Shows c s L d z w) (q : ℕ) (one : OneOf (s .queues) q) (r : Ring) (er : r ≡ ringOf c s q)
+    (b many : ℕ) (eb : b ≡ notFullOf s q) (em : many ≡ countIn s r d (q - 1)) where
+  pub full-is : b ≡ notFull c q
+  unfolding notFull
+  full-is = omega (arith, h .of .named, h .of .tasks)
+
+  pub empty-is : b - 1 ≡ notEmpty c q
+  unfolding notEmpty
+  empty-is = omega (arith, h .of .named, h .of .tasks)
+
+  pub holding : length (held (queue L q)) ≡ many
+  holding = held-length c s L d z w h q one r er ∙ sym em
+
+  pub deep : r .depth ≡ shape c q .depth
+  deep = ap (λ (x : Ring). x .depth) er ∙ depth-is c s q (one .0)
+
+  pub not-empty : (many ≡ 0 → ⊥) → empty L q ≡ false
+  unfolding empty
+  not-empty n = ne-eqb (length (held (queue L q))) 0 (λ e. n (sym holding ∙ e))
+
+  pub is-empty : many ≡ 0 → empty L q ≡ true
+  unfolding empty
+  is-empty e = eq-eqb (length (held (queue L q))) 0 (holding ∙ e)
+
+  pub has-room : many < r .depth → full c L q ≡ false
+  unfolding full
+  has-room l = lt-leb (shape c q .depth) (length (held (queue L q))) (omega (arith, holding, deep))
+
+  pub is-full : r .depth ≤ many → full c L q ≡ true
+  unfolding full
+  is-full l = le-leb (shape c q .depth) (length (held (queue L q))) (omega (arith, holding, deep))
+
+-- ---- as the code asks
+module _ (s : Shape) (d : List ℕ) (q : ℕ) (one : OneOf (s .queues) q) (r : Ring) (b many : ℕ) (eb : b ≡ notFullOf s q) (em : many ≡ countIn s r d (q - 1)) where
+  pub take-goes : (many ≡ 0 → ⊥) → TellsRing s d r q (λ c L. meets21 c L onNotEmpty q 0) false
+  unfolding meets21 wouldWaitOn semaphoreOf isWaiting at
+  take-goes n c L z w er h = rw (not-empty c s L d z w h q one r er b many eb em n)
+
+  pub take-waits : many ≡ 0 → (x : Bool) → Tells s d (λ c L. isWaiting (semaphoreOf L (b - 1))) x → TellsRing s d r q (λ c L. meets21 c L onNotEmpty q 0) x
+  unfolding meets21 wouldWaitOn
+  take-waits e x f c L z w er h =
+      f c L z w h ∙ ap (λ (k : ℕ). isWaiting (semaphoreOf L k)) (empty-is c s L d z w h q one r er b many eb em)
+      ∙ ap (λ (v : Bool). isWaiting (semaphoreOf L (cond v (notEmpty c q) 0))) (sym (is-empty c s L d z w h q one r er b many eb em e))
+
+  pub put-goes : many < r .depth → TellsRing s d r q (λ c L. meets21 c L onNotFull q 0) false
+  unfolding meets21 wouldWaitOn semaphoreOf isWaiting at
+  put-goes l c L z w er h = rw (has-room c s L d z w h q one r er b many eb em l)
+
+  pub put-waits : r .depth ≤ many → (x : Bool) → Tells s d (λ c L. isWaiting (semaphoreOf L b)) x → TellsRing s d r q (λ c L. meets21 c L onNotFull q 0) x
+  unfolding meets21 wouldWaitOn
+  put-waits l x f c L z w er h =
+      f c L z w h ∙ ap (λ (k : ℕ). isWaiting (semaphoreOf L k)) (full-is c s L d z w h q one r er b many eb em)
+      ∙ ap (λ (v : Bool). isWaiting (semaphoreOf L (cond v (notFull c q) 0))) (sym (is-full c s L d z w h q one r er b many eb em l))
