@@ -18,7 +18,7 @@ use Rattle.tables.specs.declared.shape.Shape.{Shape}
 use Rattle.tables.specs.Decode.{headOf, countOf}
 use Rattle.tables.specs.Encoded.{head-in, count-in}
 use Rattle.tables.specs.Layout.{OneOf, regions, region, named, bound, Fits, fitting, laid, region-at}
-use Rattle.tables.specs.Shows.{bytesOf, begins, heldAt, Of, Shows, DoesWithSlotsIf}
+use Rattle.tables.specs.Shows.{bytesOf, begins, heldAt, Of, Shows, DoesIf, DoesWithSlotsIf, TellsIf}
 use Rattle.tables.specs.Items.{queue-is}
 use Rattle.queues.specs.declared.Ring.{Ring}
 
@@ -172,6 +172,16 @@ module _ (c : Config) (s : Shape) (L : Ledger) (d z w : List ℕ) (h : Shows c s
 pub body-length : (s : Shape) (d : List ℕ) (r : Ring) → RingFits s r → s .end ≤ length d → r .depth * r .width ≤ length (bodyIn r d)
 unfolding bodyIn
 body-length s d r f k = omega (arith, length-cut d (r .base) (r .base + r .depth * r .width) (omega (arith, f .room)))
+
+-- ---- what a function does or tells, where r is the ring of queue q
+abbrev pub TellsRing : {A : Type 0} → Shape → List ℕ → Ring → ℕ → (Config → Ledger → A) → A → Type 0
+TellsRing s d r q f x = TellsIf s d (λ c L. r ≡ ringOf c s q) f x
+
+abbrev pub DoesRing : Shape → (d d' : List ℕ) → Ring → ℕ → (Config → Ledger → Ledger) → Type 0
+DoesRing s d d' r q f = DoesIf s d d' (λ c L. r ≡ ringOf c s q) f
+
+abbrev pub DoesRingWithSlots : Shape → (d z d' z' : List ℕ) → Ring → ℕ → (Config → Ledger → Ledger) → Type 0
+DoesRingWithSlots s d z d' z' r q f = DoesWithSlotsIf s d z d' z' (λ c L. r ≡ ringOf c s q) f
 
 -- the oldest entry of queue q is taken into the slot of task t, where the queue has one
 abbrev pub Takes : Shape → (d z d' z' : List ℕ) → Ring → (t q : ℕ) → Type 0

@@ -8,22 +8,18 @@ use borrow.Author.Tests.{eq-eqb, ne-eqb, le-leb, lt-leb}
 use lib.ListN.{length}
 use Rattle.tables.specs.declared.shape.Shape.{Shape}
 use Rattle.tables.specs.Layout.{OneOf, Fits, fitting}
-use Rattle.tables.specs.Shows.{Shows, Tells, TellsIf}
+use Rattle.tables.specs.Shows.{Shows, Tells}
 use Rattle.ledger.specs.Lists.{at}
 use Rattle.ledger.specs.Config.{Config}
 use Rattle.ledger.specs.Ledger.{Ledger, queue, held, semaphoreOf}
 use Rattle.ledger.specs.Services.{notEmpty, notFull, shape, empty, full}
 use Rattle.ledger.specs.Refusals.{onNotEmpty, onNotFull, wouldWaitOn, isWaiting, meets21}
 use Rattle.queues.specs.declared.Ring.{Ring}
-use Rattle.queues.specs.Rings.{ringOf, depth-is, countIn, held-length}
+use Rattle.queues.specs.Rings.{ringOf, TellsRing, depth-is, countIn, held-length}
 
 -- the semaphore not-full of a queue; not-empty is the one before it
 abbrev pub notFullOf : Shape → ℕ → ℕ
 notFullOf s q = s .named + s .tasks + 2 * q
-
--- the value x is the ledger's, where r is the ring of queue q
-abbrev pub TellsRing : {A : Type 0} → Shape → List ℕ → Ring → ℕ → (Config → Ledger → A) → A → Type 0
-TellsRing s d r q f x = TellsIf s d (λ c L. r ≡ ringOf c s q) f x
 
 pub not-full-in : {s : Shape} {n : ℕ} → Fits s n → (q : ℕ) → OneOf (s .queues) q
     → OneOf (s .semaphores) (notFullOf s q) × OneOf (s .semaphores) (notFullOf s q - 1) × (s .semaphores ≤ 255)

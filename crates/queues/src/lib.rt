@@ -12,8 +12,8 @@ ghost use Rattle.tables.specs.Shows.{DoesIf};
 ghost use Rattle.ledger.specs.Ledger.{queue, held};
 ghost use Rattle.ledger.specs.Services.{putEntry};
 ghost use Rattle.ledger.specs.Refusals.{onNotEmpty, onNotFull, meets21};
-ghost use Rattle.queues.specs.Rings.{RingFits, ringOf, headIn, countIn, Takes};
-ghost use Rattle.queues.specs.Waits.{notFullOf, TellsRing};
+ghost use Rattle.queues.specs.Rings.{RingFits, ringOf, headIn, countIn, TellsRing, Takes};
+ghost use Rattle.queues.specs.Waits.{notFullOf};
 
 // A queue's width and depth, and where its entries lie in the tables: of the configuration.
 pub struct Ring {

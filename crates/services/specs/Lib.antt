@@ -1,5 +1,5 @@
-pub mod Parts
-pub mod Arms
-pub mod Control
-pub mod Issued
-pub mod Mail
+pub mod Semaphores
+pub mod Messages
+pub mod Queues
+pub mod Tasks
+pub mod Timers

@@ -1,0 +1,80 @@
+-- Signal, wake and wait, by what the semaphore is: each law takes what the calls of one case ensure.
+use mathlib.Core.Path.{_≡_, refl, sym, ap, ap₂, _∙_, subst}
+use mathlib.Core.List.{List, [], _∷_}
+use Prim.Native.Nat.{ℕ, zero, suc, _<_, _≤_}
+use native.Mathlib.Omega.{arith}
+use lib.ListN.{length, getD, set}
+use Rattle.rows.specs.Tab.{tab-length}
+use Rattle.tables.specs.declared.shape.Shape.{Shape}
+use Rattle.tables.specs.declared.semaphores.Semaphore as state
+use Rattle.tables.specs.declared.semaphores.Semaphore.the-variants.{Waiting}
+use Rattle.tables.specs.Layout.{OneOf, regions}
+use Rattle.tables.specs.Decode.{viewSemaphore}
+use Rattle.tables.specs.Encoded.{Waiter}
+use Rattle.tables.specs.Shows.{semaphoreCount, semaphoreAt, semaphoresIn, Shows, Does, Tells, moved}
+use Rattle.tables.specs.Semaphores.{known}
+use Rattle.ledger.specs.Lists.{at, put}
+use Rattle.ledger.specs.Config.{Config}
+use Rattle.ledger.specs.Ledger as ledger
+use Rattle.ledger.specs.Ledger.{Ledger, Semaphore, PENDING, DONE, WAITING, setSemaphore, setSemaphores}
+use Rattle.ledger.specs.Services.{signalled, signal, woken, wakeWaiter, waited}
+
+-- who waits, or 0
+unfoldable pub waiterOf : Semaphore → ℕ
+waiterOf PENDING = 0
+waiterOf DONE = 0
+waiterOf (WAITING t) = t
+
+-- ---- by what a semaphore is: v is the case that the match found
+module _ (s : Shape) (d : List ℕ) (b : ℕ) (x v : state.Semaphore) (p : Tells s d (λ c L. ledger.semaphoreOf L b) (viewSemaphore x)) (q : x ≡ v) where
+  pub signal-arm : {d' : List ℕ} → Does s d d' (λ c L. signalled (viewSemaphore v) b L) → Does s d d' (λ c L. signal b L)
+  unfolding signal
+  signal-arm f c L z w h = moved (ap (λ (y : Semaphore). signalled y b L) (known b p q c L z w h)) (f c L z w h)
+
+  pub signal-told : Tells s d (λ c L. waiterOf (ledger.semaphoreOf L b)) (waiterOf (viewSemaphore v))
+  signal-told c L z w h = ap waiterOf (known b p q c L z w h)
+
+  pub wake-arm : {d' : List ℕ} → Does s d d' (λ c L. woken (viewSemaphore v) b L) → Does s d d' (λ c L. wakeWaiter b L)
+  unfolding wakeWaiter
+  wake-arm f c L z w h = moved (ap (λ (y : Semaphore). woken y b L) (known b p q c L z w h)) (f c L z w h)
+
+  pub waited-arm : (t : ℕ) {d' : List ℕ} → Does s d d' (λ c L. waited (viewSemaphore v) t b L) → Does s d d' (λ c L. waited (ledger.semaphoreOf L b) t b L)
+  waited-arm t f c L z w h = moved (ap (λ (y : Semaphore). waited y t b L) (known b p q c L z w h)) (f c L z w h)
+
+pub waiter : {T t : ℕ} {s : state.Semaphore} → s ≡ Waiting t → Waiter T s → OneOf T t
+waiter {T} e w = subst (Waiter T) e w
+
+-- ---- a number that no semaphore has
+set-none : {A : Type 0} (l : List A) (n : ℕ) (v : A) → length l ≤ n → set l n v ≡ l
+set-none [] n v h = refl
+set-none (x ∷ xs) zero v h = absurd (omega arith)
+set-none (x ∷ xs) (suc n) v h = ap₂ _∷_ refl (set-none xs n v (omega arith))
+
+get-none : {A : Type 0} (l : List A) (n : ℕ) (v : A) → length l ≤ n → getD l n v ≡ v
+get-none [] n v h = refl
+get-none (x ∷ xs) zero v h = absurd (omega arith)
+get-none (x ∷ xs) (suc n) v h = get-none xs n v (omega arith)
+
+-- signals nothing
+module _ (s : Shape) (d : List ℕ) where
+  pub none-signalled : (b : ℕ) → b ≡ 0 → Does s d d (λ c L. signal b L) × Tells s d (λ c L. waiterOf (ledger.semaphoreOf L b)) 0
+  unfolding signal signalled setSemaphore setSemaphores ledger.semaphoreOf at put waiterOf
+  none-signalled b e = subst (λ (n : ℕ). Does s d d (λ c L. signal n L) × Tells s d (λ c L. waiterOf (ledger.semaphoreOf L n)) 0) (sym e) ((λ c L z w h. h), (λ c L z w h. refl))
+
+  beyond : (c : Config) (L : Ledger) (z w : List ℕ) → Shows c s L d z w → (b : ℕ) → s .semaphores < suc b → length (L .semaphores) ≤ b
+  unfolding semaphoresIn semaphoreCount
+  beyond c L z w h b g = let l = h .of .laid in omega (arith, ap length (h .shown .semaphores), tab-length (semaphoreCount c) (semaphoreAt c (regions s d)), h .of .tasks, h .of .named, h .of .queues, l .semaphores)
+
+  pub past-signalled : (b : ℕ) → s .semaphores < b → Does s d d (λ c L. signal b L) × Tells s d (λ c L. waiterOf (ledger.semaphoreOf L b)) 0
+  unfolding signal signalled setSemaphore setSemaphores ledger.semaphoreOf at put waiterOf
+  past-signalled zero g = absurd (omega arith)
+  past-signalled (suc b) g = (
+    (λ c L z w h.
+        let n : length (L .semaphores) ≤ b = beyond c L z w h b g in
+        let e : getD (L .semaphores) b ledger.PENDING ≡ ledger.PENDING = get-none (L .semaphores) b ledger.PENDING n in
+        let x : signal (suc b) L ≡ L =
+        ap (λ (y : Semaphore). signalled y (suc b) L) e
+        ∙ (λ i. record { N = L .N; ticks = L .ticks; tasks = L .tasks; semaphores = set-none (L .semaphores) b ledger.DONE n i; mailboxes = L .mailboxes; queues = L .queues; timers = L .timers }) in
+        moved (sym x) h),
+    (λ c L z w h. sym (ap waiterOf (get-none (L .semaphores) b ledger.PENDING (beyond c L z w h b g)))),
+  )

@@ -1,0 +1,97 @@
+// Semaphores: signal, wait, and the waits of queues and timers. (Pend is a store.)
+use tables::blocks::Block;
+use tables::semaphores::Semaphore;
+use tables::shape::Shape;
+use tables::tasks::Outcome;
+ghost use lib.ListN.{length};
+ghost use Rattle.tables.specs.Layout.{OneOf, Fits};
+ghost use Rattle.tables.specs.Shows.{Does, Tells};
+ghost use Rattle.ledger.specs.Ledger.{semaphoreOf};
+ghost use Rattle.ledger.specs.Services as ledger;
+ghost use Rattle.services.specs.Semaphores.{waiterOf};
+
+// Gives the task that it woke, or 0. A number that no semaphore has signals nothing.
+pub fn signal(tables: &mut [u8], shape: Shape, b: u8) -> u8
+    requires { ⌜ Fits shape (length (now tables)) ⌝ }
+    ensures { λ r. ⌜ Does shape (now (tables .entry)) (now (tables .exit)) (λ c L. ledger.signal b L) × Tells shape (now (tables .entry)) (λ c L. waiterOf (semaphoreOf L b)) r ⌝ }
+{
+    if b == 0 {
+        return 0;
+    }
+    if b as usize > shape.semaphores {
+        return 0;
+    }
+    signal_one(tables, shape, b)
+}
+
+// A semaphore that there is: WAITING becomes PENDING and its task loses event wait, otherwise DONE.
+fn signal_one(tables: &mut [u8], shape: Shape, b: u8) -> u8
+    requires { ⌜ Fits shape (length (now tables)) × OneOf (shape .semaphores) b ⌝ }
+    ensures { λ r. ⌜ Does shape (now (tables .entry)) (now (tables .exit)) (λ c L. ledger.signal b L) × Tells shape (now (tables .entry)) (λ c L. waiterOf (semaphoreOf L b)) r ⌝ }
+{
+    let s = tables::semaphores::load(tables, shape, b);
+    match s {
+        Semaphore::Pending => {
+            tables::semaphores::store(tables, shape, b, Semaphore::Done);
+            0
+        }
+        Semaphore::Done => {
+            tables::semaphores::store(tables, shape, b, Semaphore::Done);
+            0
+        }
+        Semaphore::Waiting(t) => {
+            tables::semaphores::store(tables, shape, b, Semaphore::Pending);
+            tables::blocks::set(tables, shape, t, Block::Event, false);
+            t
+        }
+    }
+}
+
+// Wakes the waiter, if there is one, as by signal.
+pub fn wake(tables: &mut [u8], shape: Shape, b: u8)
+    requires { ⌜ Fits shape (length (now tables)) × OneOf (shape .semaphores) b ⌝ }
+    ensures { λ _. ⌜ Does shape (now (tables .entry)) (now (tables .exit)) (λ c L. ledger.wakeWaiter b L) ⌝ }
+{
+    let s = tables::semaphores::load(tables, shape, b);
+    match s {
+        Semaphore::Pending => {}
+        Semaphore::Done => {}
+        Semaphore::Waiting(_) => {
+            signal_one(tables, shape, b);
+        }
+    }
+}
+
+// WAITING for t, whatever it was.
+pub fn wait_for(tables: &mut [u8], shape: Shape, t: u8, b: u8)
+    requires { ⌜ Fits shape (length (now tables)) × OneOf (shape .semaphores) b × OneOf (shape .tasks) t ⌝ }
+    ensures { λ _. ⌜ Does shape (now (tables .entry)) (now (tables .exit)) (λ c L. ledger.waitFor t b L) ⌝ }
+{
+    tables::semaphores::store(tables, shape, b, Semaphore::Waiting(t));
+    tables::blocks::set(tables, shape, t, Block::Event, true);
+}
+
+// PENDING becomes WAITING for t, DONE becomes PENDING.
+fn waited(tables: &mut [u8], shape: Shape, t: u8, b: u8)
+    requires { ⌜ Fits shape (length (now tables)) × OneOf (shape .semaphores) b × OneOf (shape .tasks) t ⌝ }
+    ensures { λ _. ⌜ Does shape (now (tables .entry)) (now (tables .exit)) (λ c L. ledger.waited (semaphoreOf L b) t b L) ⌝ }
+{
+    let s = tables::semaphores::load(tables, shape, b);
+    match s {
+        Semaphore::Pending => {
+            wait_for(tables, shape, t, b);
+        }
+        Semaphore::Done => {
+            tables::semaphores::store(tables, shape, b, Semaphore::Pending);
+        }
+        Semaphore::Waiting(_) => {}
+    }
+}
+
+pub fn wait(tables: &mut [u8], shape: Shape, t: u8, b: u8)
+    requires { ⌜ Fits shape (length (now tables)) × OneOf (shape .semaphores) b × OneOf (shape .tasks) t ⌝ }
+    ensures { λ _. ⌜ Does shape (now (tables .entry)) (now (tables .exit)) (λ c L. ledger.wait t b L) ⌝ }
+{
+    waited(tables, shape, t, b);
+    tables::tasks::store_outcome(tables, shape, t, Outcome::Semaphore(b));
+}
