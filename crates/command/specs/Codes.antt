@@ -1,9 +1,12 @@
 -- The program's table of codes is the ledger's: what each of its words means there.
 use Prim.Native.Nat.{ℕ, _+_, _≤_}
-use mathlib.Core.Path.{_≡_}
+use mathlib.Core.Path.{_≡_, refl, sym, ap, _∙_}
+use mathlib.Core.Bool.{Bool, true, false}
 use native.Mathlib.Nat.{le-antisymm}
 use native.Mathlib.Omega.{arith}
+use Rattle.ledger.specs.Lists.{within}
 use Rattle.ledger.specs.Refusals as ledger
+use Rattle.ledger.specs.Theorems.Checks.{within-numbered}
 use Rattle.command.specs.declared.codes.FieldA.{FieldA}
 use Rattle.command.specs.declared.codes.FieldA.the-variants as a
 use Rattle.command.specs.declared.codes.FieldB.{FieldB}
@@ -58,3 +61,15 @@ pub last-code : (k : ℕ) → 1 ≤ k → k ≤ 17 → (k ≡ 1 → ⊥) → (k 
     → (k ≡ 10 → ⊥) → (k ≡ 11 → ⊥) → (k ≡ 12 → ⊥) → (k ≡ 13 → ⊥) → (k ≡ 14 → ⊥) → (k ≡ 15 → ⊥) → (k ≡ 16 → ⊥) → k ≡ 17
 last-code k lo hi e1 e2 e3 e4 e5 e6 e7 e8 e9 e10 e11 e12 e13 e14 e15 e16 =
     le-antisymm hi (past 16 k (past 15 k (past 14 k (past 13 k (past 12 k (past 11 k (past 10 k (past 9 k (past 8 k (past 7 k (past 6 k (past 5 k (past 4 k (past 3 k (past 2 k (past 1 k lo e1) e2) e3) e4) e5) e6) e7) e8) e9) e10) e11) e12) e13) e14) e15) e16)
+
+pub no-code-left : (k : ℕ) → (k ≡ 1 → ⊥) → (k ≡ 2 → ⊥) → (k ≡ 3 → ⊥) → (k ≡ 4 → ⊥) → (k ≡ 5 → ⊥) → (k ≡ 6 → ⊥) → (k ≡ 7 → ⊥) → (k ≡ 8 → ⊥) → (k ≡ 9 → ⊥)
+    → (k ≡ 10 → ⊥) → (k ≡ 11 → ⊥) → (k ≡ 12 → ⊥) → (k ≡ 13 → ⊥) → (k ≡ 14 → ⊥) → (k ≡ 15 → ⊥) → (k ≡ 16 → ⊥) → (k ≡ 17 → ⊥) → within 1 17 k ≡ false
+no-code-left k e1 e2 e3 e4 e5 e6 e7 e8 e9 e10 e11 e12 e13 e14 e15 e16 e17 = go (within 1 17 k) refl
+  where
+    go : (b : Bool) → within 1 17 k ≡ b → b ≡ false
+    go true w = let n = within-numbered 17 k w in absurd (e17 (last-code k (n .from) (n .upto) e1 e2 e3 e4 e5 e6 e7 e8 e9 e10 e11 e12 e13 e14 e15 e16))
+    go false w = refl
+
+-- a code by its number
+pub row-of : {r : ledger.Fields} (code k : ℕ) → r ≡ ledger.fields (ledger.codeAt k) → code ≡ k → r ≡ ledger.fields (ledger.codeAt code)
+row-of code k e n = e ∙ ap (λ (j : ℕ). ledger.fields (ledger.codeAt j)) (sym n)

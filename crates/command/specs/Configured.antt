@@ -5,7 +5,6 @@ use mathlib.Core.List.{List}
 use native.Mathlib.Omega.{arith}
 use lib.ListN.{length}
 use Rattle.ledger.specs.Config.{Config}
-use Rattle.ledger.specs.Refusals.{FieldB, noB, ofSelf, ofTask, orNone}
 use Rattle.tables.specs.declared.shape.Shape.{Shape}
 use Rattle.tables.specs.Layout.{Fits, fitting}
 use Rattle.tables.specs.Shows.{Of}
@@ -14,13 +13,6 @@ use Rattle.configuration.specs.Block.{configured}
 -- the value r is what f gives for every configuration of this shape
 abbrev pub Says : {A : Type 0} → Shape → (Config → A) → A → Type 0
 Says s f r = (c : Config) → Of c s → r ≡ f c
-
--- the task whose semaphore 0 means, where that is task A's
-abbrev pub Owner : Shape → FieldB → ℕ → Type 0
-Owner s noB a = Unit {0}
-Owner s ofSelf a = Unit {0}
-Owner s ofTask a = a ≤ s .tasks
-Owner s orNone a = Unit {0}
 
 -- what `ring_of` asks of the block's length
 abbrev pub Room : List ℕ → Type 0

@@ -14,7 +14,8 @@ ghost use Rattle.ledger.specs.Refusals as ledger;
 ghost use Rattle.ledger.specs.Refusals.{tooLong, wrongTask, wrongSemaphore, wrongQueue, isMessage, isTockValue, meantTask, meantSemaphore};
 ghost use Rattle.tables.specs.Layout.{Fits};
 ghost use Rattle.command.specs.Codes.{viewA, viewB, viewX, viewFollows};
-ghost use Rattle.command.specs.Configured.{Says, Owner};
+ghost use Rattle.command.specs.Configured.{Says};
+ghost use Rattle.command.specs.Table.{Owner};
 
 pub fn wide(x: u8) -> usize
     ensures { λ r. ⌜ r ≡ x ⌝ }
@@ -99,9 +100,33 @@ pub fn wrong_queue(kind: FieldA, shape: Shape, a: u8) -> bool
     ensures { λ r. ⌜ Says shape (λ c. wrongQueue c (viewA kind) a) r ⌝ }
 {
     match kind {
+        FieldA::Unused => false,
+        FieldA::Task => false,
+        FieldA::OtherTask => false,
+        FieldA::SelfOrTask => false,
+        FieldA::AnyOrTask => false,
         FieldA::Queue => outside(shape.queues, wide(a)),
-        _ => false,
     }
+}
+
+// 8
+fn wrong_message(shape: Shape, x: usize) -> u8
+    ensures { λ r. ⌜ Says shape (λ c. first (not (within 1 (c .G) x) ⇒ 8 ∷ [])) r ⌝ }
+{
+    if outside(shape.messages, x) {
+        return 8;
+    }
+    0
+}
+
+// 9
+fn wrong_tocks(x: usize) -> u8
+    ensures { λ r. ⌜ r ≡ first (eqb x 0 ⇒ 9 ∷ []) ⌝ }
+{
+    if x == 0 {
+        return 9;
+    }
+    0
 }
 
 // 8, or 9
@@ -109,19 +134,10 @@ pub fn wrong_value(kind: FieldX, shape: Shape, x: usize) -> u8
     ensures { λ r. ⌜ Says shape (λ c. first ((isMessage (viewX kind) && not (within 1 (c .G) x)) ⇒ 8 ∷ (isTockValue (viewX kind) && eqb x 0) ⇒ 9 ∷ [])) r ⌝ }
 {
     match kind {
-        FieldX::Message => {
-            if outside(shape.messages, x) {
-                return 8;
-            }
-            0
-        }
-        FieldX::TockValue => {
-            if x == 0 {
-                return 9;
-            }
-            0
-        }
-        _ => 0,
+        FieldX::Unused => 0,
+        FieldX::Message => wrong_message(shape, x),
+        FieldX::TockValue => wrong_tocks(x),
+        FieldX::Switch => 0,
     }
 }
 
@@ -150,8 +166,12 @@ pub fn meant_task(kind: FieldA, me: u8, a: u8) -> u8
     ensures { λ r. ⌜ r ≡ meantTask (viewA kind) me a ⌝ }
 {
     match kind {
+        FieldA::Unused => a,
+        FieldA::Task => a,
+        FieldA::OtherTask => a,
         FieldA::SelfOrTask => or_self(me, a),
-        _ => a,
+        FieldA::AnyOrTask => a,
+        FieldA::Queue => a,
     }
 }
 
@@ -161,8 +181,9 @@ pub fn meant_semaphore(kind: FieldB, shape: Shape, me: u8, a: u8, b: u8) -> u8
     ensures { λ r. ⌜ Says shape (λ c. meantSemaphore c (viewB kind) me a b) r ⌝ }
 {
     match kind {
+        FieldB::Unused => b,
         FieldB::OfSelf => or_own(shape, me, b),
         FieldB::OfTask => or_own(shape, a, b),
-        _ => b,
+        FieldB::OrNone => b,
     }
 }

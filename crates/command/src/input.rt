@@ -15,7 +15,8 @@ ghost use Rattle.tables.specs.Layout.{Fits};
 ghost use Rattle.configuration.specs.Block.{configured};
 ghost use Rattle.command.specs.Codes.{viewFollows, viewFields};
 ghost use Rattle.command.specs.Configured.{Says, Configures};
-ghost use Rattle.command.specs.Input.{Row, EntryIn, fieldChecks};
+ghost use Rattle.command.specs.Table.{EntryIn};
+ghost use Rattle.command.specs.Input.{Row, fieldChecks};
 
 // Whether an entry of so many bytes is not as wide as those of queue q.
 fn wrong_entry(follows: Follows, config: &[u8], shape: Shape, q: u8, size: usize) -> bool
@@ -46,16 +47,19 @@ fn wrong_fields(u: Fields, frame: &[u8], shape: Shape, me: u8) -> u8
     requires { ⌜ (5 ≤ length (now frame)) × Fits shape (shape .end) ⌝ }
     ensures { λ r. ⌜ Says shape (λ c. first (fieldChecks c (viewFields u) me (now (frame .entry)))) r ⌝ }
 {
-    if fields::wrong_task(u.a, shape, me, frame[1]) {
+    let a = u.a;
+    let b = u.b;
+    let x = u.x;
+    if fields::wrong_task(a, shape, me, frame[1]) {
         return 5;
     }
-    if fields::wrong_semaphore(u.b, shape, frame[2]) {
+    if fields::wrong_semaphore(b, shape, frame[2]) {
         return 6;
     }
-    if fields::wrong_queue(u.a, shape, frame[1]) {
+    if fields::wrong_queue(a, shape, frame[1]) {
         return 7;
     }
-    fields::wrong_value(u.x, shape, fields::word(frame[3], frame[4]))
+    fields::wrong_value(x, shape, fields::word(frame[3], frame[4]))
 }
 
 // The frame has five bytes, its code is in the table, and `u` is the code's row.
@@ -63,7 +67,8 @@ pub fn input(u: Fields, frame: &[u8], config: &[u8], shape: Shape, me: u8) -> u8
     requires { ⌜ Row (now frame) u × Configures (now config) shape ⌝ }
     ensures { λ r. ⌜ r ≡ first (fromInput (configured (now (config .entry))) me (now (frame .entry))) ⌝ }
 {
-    if fields::too_long(u.follows, frame.len()) {
+    let follows = u.follows;
+    if fields::too_long(follows, frame.len()) {
         return 2;
     }
     if nobody_asks(u.service, me) {
@@ -73,8 +78,9 @@ pub fn input(u: Fields, frame: &[u8], config: &[u8], shape: Shape, me: u8) -> u8
     if n != 0 {
         return n;
     }
-    let a = fields::meant_task(u.a, me, frame[1]);
-    if wrong_entry(u.follows, config, shape, a, frame.len() - 5) {
+    let kind = u.a;
+    let a = fields::meant_task(kind, me, frame[1]);
+    if wrong_entry(follows, config, shape, a, frame.len() - 5) {
         return 2;
     }
     0
