@@ -86,7 +86,9 @@ pub fn purge(timers: &mut [u8], shape: Shape, task: u8, all: bool, semaphore: u8
 // Takes the first due timer out, and puts it in again if it is cyclic. Gives the semaphore that it signals.
 pub fn take_due(timers: &mut [u8], shape: Shape) -> u8
     requires { ⌜ Holds shape (length (now timers)) × (0 < dueIn (heldIn shape (now timers))) ⌝ }
-    ensures { λ r. ⌜ (dueIn (heldIn shape (now (timers .exit))) ≡ dueIn (heldIn shape (now (timers .entry))) - 1) × TellsTimers shape (now (timers .entry)) (λ c L. nextDue L .semaphore) r × DoesTimers shape (now (timers .entry)) (now (timers .exit)) (λ c L. takeDue L) ⌝ }
+    ensures fewer { λ _. ⌜ dueIn (heldIn shape (now (timers .exit))) ≡ dueIn (heldIn shape (now (timers .entry))) - 1 ⌝ }
+    ensures tells { λ r. ⌜ TellsTimers shape (now (timers .entry)) (λ c L. nextDue L .semaphore) r ⌝ }
+    ensures does { λ _. ⌜ DoesTimers shape (now (timers .entry)) (now (timers .exit)) (λ c L. takeDue L) ⌝ }
 {
     let n = count(timers, shape);
     let due = timers::take_due(&mut timers[RECORDS_AT..], n);
@@ -180,7 +182,8 @@ fn ticks_left(tables: &[u8], shape: Shape) -> usize
 // One tick in the tables. Gives whether a tock passed.
 fn tick(tables: &mut [u8], shape: Shape) -> bool
     requires { ⌜ Fits shape (length (now tables)) ⌝ }
-    ensures { λ r. ⌜ Tells shape (now (tables .entry)) (λ c L. not (ltb (suc (L .ticks)) (c .K))) r × Does shape (now (tables .entry)) (now (tables .exit)) (λ c L. setClock (L .N) (cond r 0 (suc (L .ticks))) L) ⌝ }
+    ensures tells { λ r. ⌜ Tells shape (now (tables .entry)) (λ c L. not (ltb (suc (L .ticks)) (c .K))) r ⌝ }
+    ensures does { λ r. ⌜ Does shape (now (tables .entry)) (now (tables .exit)) (λ c L. setClock (L .N) (cond r 0 (suc (L .ticks))) L) ⌝ }
 {
     let left = ticks_left(tables, shape);
     let after = lent_tick(left, shape.ticks);

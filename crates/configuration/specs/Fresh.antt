@@ -21,21 +21,31 @@ use Rattle.ledger.specs.Ledger.{Queue, queue, held, emptyQueue, freshTask, fres
 use Rattle.ledger.specs.Services.{shape}
 use Rattle.ledger.specs.Theorems.Checks.{and-right}
 use Rattle.ledger.specs.Theorems.Fresh.{fresh-queue}
+use Rattle.rows.specs.Splice.{cut}
 use Rattle.tables.specs.declared.shape.Shape.{Shape}
-use Rattle.tables.specs.Layout.{Regions, regions, region, named, bound, region-at}
-use Rattle.tables.specs.Decode.{semaphoreOf, viewBlocks, viewOutcome, viewRequest, viewSemaphore, viewTask, recordOf}
+use Rattle.tables.specs.declared.blocks.Blocks.{Blocks}
+use Rattle.tables.specs.Layout.{ticksAt, countAt, planesAt, recordsAt, Fits, fitting, Regions, regions, region, named, bound, region-at, planes-are}
+use Rattle.tables.specs.Planes.{blocksAt}
+use Rattle.tables.specs.Decode.{stateOf, viewBlocks, viewOutcome, viewRequest, viewSemaphore, viewTask, recordOf}
 use Rattle.tables.specs.Shows.{taskAt, tasksIn, semaphoreCount, semaphoreAt, semaphoresIn, heldAt, queuesIn, pendingOf, mailboxesIn, timersOf, ticksIn, Shown, Of, Shows}
 
 -- the kind of the outcome: begin for a runnable task, plain for an idle one
 abbrev pub kindOf : ℕ → ℕ
 kindOf state = cond (eqb state 0) 1 0
 
+-- idle or not, and no other block
+abbrev pub idleOf : ℕ → Bool
+idleOf state = cond (eqb state 0) false true
+
+abbrev pub freshBlocks : ℕ → Blocks
+freshBlocks state = record { idle = idleOf state; suspended = false; event = false; message = false }
+
 -- all ticks left, no message, the tasks by their initial states, no request, every semaphore PENDING, every ring empty.
 -- All other bytes are free
 pub record FreshTables (s : Shape) (k : ℕ) (states d : List ℕ) : Type 0 where
-  pub ticks : getD d 0 0 ≡ k
-  pub messages : getD d 1 0 ≡ 0
-  pub blocks : (i : ℕ) → i < s .tasks → getD d (2 + i) 0 ≡ getD states i 0
+  pub ticks : getD d ticksAt 0 ≡ k
+  pub messages : getD d countAt 0 ≡ 0
+  pub blocks : (i : ℕ) → i < s .tasks → blocksAt (cut d planesAt recordsAt) i ≡ freshBlocks (getD states i 0)
   pub kinds : (i : ℕ) → i < s .tasks → getD d (s .recordat + i * 6) 0 ≡ kindOf (getD states i 0)
   pub requests : (i j : ℕ) → i < s .tasks → 1 ≤ j → j < 6 → getD d (s .recordat + (i * 6 + j)) 0 ≡ 0
   pub semaphores : (i : ℕ) → i < s .semaphores → getD d (s .semaphoreat + i) 0 ≡ 0
@@ -43,7 +53,7 @@ pub record FreshTables (s : Shape) (k : ℕ) (states d : List ℕ) : Type 0 wher
 
 -- ---- one task
 
-fresh-record : (c : Config) (Q st b : ℕ) (r e : List ℕ) → st ≤ 1 → b ≡ st → getD r 0 0 ≡ kindOf st → getD r 4 0 ≡ 0 → getD r 5 0 ≡ 0
+fresh-record : (c : Config) (Q st : ℕ) (b : Blocks) (r e : List ℕ) → st ≤ 1 → b ≡ freshBlocks st → getD r 0 0 ≡ kindOf st → getD r 4 0 ≡ 0 → getD r 5 0 ≡ 0
     → freshTask st ≡ viewTask c (recordOf Q b r) e (replicate 16 0)
 unfolding freshTask viewTask recordOf viewBlocks viewOutcome viewRequest
 fresh-record c Q zero b r e h eb ek e4 e5 = rw (eb, ek, e4, e5)
@@ -85,9 +95,10 @@ module _ (c : Config) (s : Shape) (o : Of c s) (d z w : List ℕ)
   unfolding regions named bound
   in-clock i h = region-at s d 0 i (omega arith) ∙ ap (λ (x : ℕ). getD d x 0) (let e : 0 + i ≡ i = omega arith in e)
 
-  in-blocks : (i : ℕ) → i < c .T → getD (p .blocks) i 0 ≡ getD (c .states) i 0
-  unfolding regions named bound
-  in-blocks i h = let l = o .laid in region-at s d 1 i (omega arith) ∙ b .blocks i (omega arith)
+  in-blocks : (i : ℕ) → i < c .T → blocksAt (p .blocks) i ≡ freshBlocks (getD (c .states) i 0)
+  in-blocks i h =
+      let f : Fits s (s .end) = fitting (o .laid) (omega arith) in
+      ap (λ (x : List ℕ). blocksAt x i) (planes-are f d) ∙ b .blocks i (omega (arith, o .tasks))
 
   in-record : (i j : ℕ) → i < c .T → j < 6 → getD (rowAt 6 i (p .records)) j 0 ≡ getD d (s .recordat + (i * 6 + j)) 0
   unfolding regions named bound
@@ -113,11 +124,11 @@ module _ (c : Config) (s : Shape) (o : Of c s) (d z w : List ℕ)
   task-fresh i h =
       let l = o .laid in
       let e : s .recordat + (i * 6 + 0) ≡ s .recordat + i * 6 = omega arith in
-      fresh-record c (c .Q) (getD (c .states) i 0) (getD (p .blocks) i 0) (rowAt 6 i (p .records)) (rowAt 16 i (p .waiting)) (state-low (c .states) i low) (in-blocks i h)
+      fresh-record c (c .Q) (getD (c .states) i 0) (blocksAt (p .blocks) i) (rowAt 6 i (p .records)) (rowAt 16 i (p .waiting)) (state-low (c .states) i low) (in-blocks i h)
       (in-record i 0 h (omega arith) ∙ ap (λ (x : ℕ). getD d x 0) e ∙ b .kinds i (omega arith))
       (in-record i 4 h (omega arith) ∙ b .requests i 4 (omega arith) (omega arith) (omega arith))
       (in-record i 5 h (omega arith) ∙ b .requests i 5 (omega arith) (omega arith) (omega arith))
-      ∙ ap (viewTask c (recordOf (c .Q) (getD (p .blocks) i 0) (rowAt 6 i (p .records))) (rowAt 16 i (p .waiting))) (sym (in-slot i h))
+      ∙ ap (viewTask c (recordOf (c .Q) (blocksAt (p .blocks) i) (rowAt 6 i (p .records))) (rowAt 16 i (p .waiting))) (sym (in-slot i h))
 
   tasks-fresh : map freshTask (c .states) ≡ tasksIn c p z
   unfolding tasksIn
@@ -129,7 +140,7 @@ module _ (c : Config) (s : Shape) (o : Of c s) (d z w : List ℕ)
   unfolding semaphoresIn semaphoreCount semaphoreAt viewSemaphore
   semaphores-fresh =
       let l = o .laid in
-      tab-same (c .S + c .T + 2 * c .Q) ledger.PENDING (λ i. viewSemaphore (semaphoreOf (c .T) (getD (p .semaphores) i 0))) (λ j h. rw (in-semaphores j (omega arith)))
+      tab-same (c .S + c .T + 2 * c .Q) ledger.PENDING (λ i. viewSemaphore (stateOf (c .T) (getD (p .semaphores) i 0))) (λ j h. rw (in-semaphores j (omega arith)))
 
   pending-fresh : pendingOf c p ≡ []
   unfolding pendingOf pendingIn

@@ -11,7 +11,7 @@ use Rattle.ledger.specs.Config.{Config, goodHead}
 use Rattle.ledger.specs.Services.{shape}
 use Rattle.ledger.specs.Theorems.Checks.{and-left, and-right, at-all}
 use Rattle.tables.specs.declared.shape.Shape.{Shape}
-use Rattle.tables.specs.Layout.{Laid}
+use Rattle.tables.specs.Layout.{recordsAt, Laid}
 use Rattle.tables.specs.Shows.{bytesOf, Of}
 use Rattle.configuration.specs.declared.Lent.{Lent}
 use Rattle.configuration.specs.declared.Lent.the-variants.{Bad, Good}
@@ -29,13 +29,13 @@ laidOut t s q r g k n =
       timers = r;
       messages = g;
       ticks = k;
-      recordat = 2 + t;
-      semaphoreat = 2 + t + 6 * t;
-      waitingat = 2 + t + 6 * t + (s + t + 2 * q);
-      ringat = 2 + t + 6 * t + (s + t + 2 * q) + 16 * t;
-      messageat = 2 + t + 6 * t + (s + t + 2 * q) + 16 * t + 2 * q;
-      bodyat = 2 + t + 6 * t + (s + t + 2 * q) + 16 * t + 2 * q + 4 * g;
-      end = 2 + t + 6 * t + (s + t + 2 * q) + 16 * t + 2 * q + 4 * g + n;
+      recordat = recordsAt;
+      semaphoreat = recordsAt + 6 * t;
+      waitingat = recordsAt + 6 * t + (s + t + 2 * q);
+      ringat = recordsAt + 6 * t + (s + t + 2 * q) + 16 * t;
+      messageat = recordsAt + 6 * t + (s + t + 2 * q) + 16 * t + 2 * q;
+      bodyat = recordsAt + 6 * t + (s + t + 2 * q) + 16 * t + 2 * q + 4 * g;
+      end = recordsAt + 6 * t + (s + t + 2 * q) + 16 * t + 2 * q + 4 * g + n;
     }
 
 pub laid-out : (t s q r g k ms n : ℕ) → Head t s q r g k ms → n ≤ 4096 → Laid (laidOut t s q r g k n)

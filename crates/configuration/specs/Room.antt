@@ -7,7 +7,7 @@ use native.Mathlib.Omega.{arith}
 use lib.ListN.{length, getD, drop, drop-of-length-le}
 use lib.Seq.{drop-cons}
 use borrow.Author.Tests.{le-leb, lt-leb}
-use Rattle.tables.specs.Back.{case}
+use Rattle.tables.specs.Encoded.{case}
 use Rattle.ledger.specs.Theorems.Checks.{and-left, and-right, within-numbered}
 use Rattle.ledger.specs.Lists.{within, sum, all}
 use Rattle.ledger.specs.Config.{shapesIn}

@@ -1,17 +1,24 @@
 -- The fresh tables, written: every byte after the fill, the ticks, the copied states and the outcomes.
-use mathlib.Core.Path.{_≡_, refl, sym, ap, _∙_}
+use mathlib.Core.Path.{_≡_, refl, sym, ap, _∙_, subst}
+use mathlib.Core.Bool.{Bool, false}
 use mathlib.Core.List.{List, _++_, append-assoc}
-use Prim.Native.Nat.{ℕ, _+_, _-_, _*_, _<_, _≤_}
+use Prim.Native.Nat.{ℕ, _+_, _-_, _*_, _/_, _%_, _<_, _≤_}
 use native.Mathlib.Omega.{arith}
-use lib.ListN.{length, getD, take, drop, set, replicate, length-append, length-take, length-replicate, getD-replicate, List·getD-append}
+use lib.ListN.{length, getD, take, drop, set, replicate, length-append, length-take, length-set, length-replicate, getD-replicate, List·getD-append}
 use lib.Seq.{drop-drop, ext-getD, length-take-le, getD-take, getD-drop, getD-append-add, getD-set-same, getD-set-other}
 use borrow.Rule.Slice.PartMut.{putMid}
 use borrow.Author.Count.{below-more}
 use Rattle.rows.specs.Splice.{cut, splice}
 use Rattle.rows.specs.Laws.{length-cut, length-splice}
 use Rattle.tables.specs.declared.shape.Shape.{Shape}
-use Rattle.tables.specs.Layout.{Laid, Fits, fitting, laid, room}
-use Rattle.configuration.specs.Fresh.{kindOf, FreshTables}
+use Rattle.tables.specs.declared.blocks.Block.{Block}
+use Rattle.tables.specs.declared.blocks.Block.the-variants.{Idle, Suspended, Event, Message}
+use Rattle.tables.specs.Layout.{planesAt, recordsAt, Laid, Fits, fitting, laid, room}
+use Rattle.tables.specs.Bits.{bit, bit-zero}
+use Rattle.tables.specs.Planes.{planeOf, has, blocksAt, NewBit, NewBlock}
+use Rattle.tables.specs.OneBit.{block-set}
+use Rattle.tables.specs.Blocks.{plane-low}
+use Rattle.configuration.specs.Fresh.{kindOf, idleOf, freshBlocks, FreshTables}
 
 -- ---- a byte of a splice
 
@@ -66,7 +73,38 @@ begun-turn states r d n v h e b =
       others = λ i j x y. getD-set-other d (n * 6) (i * 6 + j) v 0 (λ q. omega arith) ∙ b .others i j x y;
     }
 
--- ---- the four writes: the fill, the states, the outcomes, the ticks
+-- the first n tasks are idle or not; the other planes are as they were
+pub record Marked (states d d' : List ℕ) (n : ℕ) : Type 0 where
+  pub idle : (i : ℕ) → i < n → has Idle d' i ≡ idleOf (getD states i 0)
+  pub others : (k : Block) (i : ℕ) → i < 128 → (planeOf k ≡ planeOf Idle → ⊥) → has k d' i ≡ has k d i
+
+pub marked-none : (states d : List ℕ) → Marked states d d 0
+marked-none states d = record { idle = λ i h. absurd (omega arith); others = λ k i h n. refl }
+
+pub marked-turn : (states r d : List ℕ) (n : ℕ) (v : Bool) (y : ℕ) → length d ≡ 64 → n < 126 → v ≡ idleOf (getD states n 0) → NewBit (n % 8) v (getD d (n / 8) 0) y
+    → Marked states r d n → Marked states r (set d (n / 8) y) (n + 1)
+marked-turn states r d n v y l h e new b =
+    let at : 0 + n / 8 ≡ n / 8 = omega arith in
+    let x : NewBlock Idle n v d (set d (n / 8) y) =
+    subst (λ (i : ℕ). NewBlock Idle n v d (set d i y)) at (block-set d Idle n v y (omega arith) (omega arith) (subst (λ (i : ℕ). NewBit (n % 8) v (getD d i 0) y) (sym at) new)) in
+    record {
+      idle = below-more (λ i. has Idle (set d (n / 8) y) i ≡ idleOf (getD states i 0)) n (λ i g. x .others Idle i (omega arith) (λ p q. omega arith) ∙ b .idle i g) (x .here ∙ e);
+      others = λ k i g ne. x .others k i g (λ p q. ne p) ∙ b .others k i g ne;
+    }
+
+-- planes of which nothing was set before
+has-none : (k : Block) (d : List ℕ) (i : ℕ) → i < 128 → ((j : ℕ) → j < 64 → getD d j 0 ≡ 0) → has k d i ≡ false
+unfolding has
+has-none k d i h zeros = ap (λ (x : ℕ). bit x (i % 8)) (zeros (16 * planeOf k + i / 8) (omega (arith, plane-low k))) ∙ bit-zero (i % 8)
+
+marked-blocks : (states d d' : List ℕ) (n i : ℕ) → i < n → n ≤ 126 → ((j : ℕ) → j < 64 → getD d j 0 ≡ 0) → Marked states d d' n → blocksAt d' i ≡ freshBlocks (getD states i 0)
+unfolding blocksAt
+marked-blocks states d d' n i h m zeros b =
+    let l : i < 128 = omega arith in
+    let no : (k : Block) → (planeOf k ≡ planeOf Idle → ⊥) → has k d' i ≡ false = λ k ne. b .others k i l ne ∙ has-none k d i l zeros in
+    λ x. record { idle = b .idle i h x; suspended = no Suspended (λ e. omega arith) x; event = no Event (λ e. omega arith) x; message = no Message (λ e. omega arith) x }
+
+-- ---- the four writes: the fill, the idle tasks, the outcomes, the ticks
 module _ (s : Shape) (l : Laid s) (states d : List ℕ) (room : s .end ≤ length d) (n : length states ≡ s .tasks)
     (ys : List ℕ) (ey : ys ≡ replicate (s .messageat) 0) where
   abbrev d₁ : List ℕ
@@ -87,16 +125,28 @@ module _ (s : Shape) (l : Laid s) (states d : List ℕ) (room : s .end ≤ lengt
       ap (λ (x : List ℕ). getD x i 0) d₁-is ∙ ap (λ (x : ℕ). getD (splice d 0 ys) x 0) (sym e)
       ∙ splice-in d ys 0 (omega (arith, length-ys)) i (omega (arith, length-ys)) ∙ ap (λ (x : List ℕ). getD x i 0) ey ∙ getD-replicate (s .messageat) i 0 0 b
 
-  length-two : (d₂ : List ℕ) → d₂ ≡ splice d₁ 2 states → length d₂ ≡ length d
-  length-two d₂ e₂ = ap length e₂ ∙ length-splice d₁ 2 states (omega (arith, length-d₁)) ∙ length-d₁
+  -- the planes, lent
+  abbrev planes : List ℕ
+  planes = cut d₁ planesAt recordsAt
 
-  module _ (d₂ : List ℕ) (e₂ : d₂ ≡ splice d₁ 2 states) (r : List ℕ) (lr : length r ≡ s .semaphoreat - s .recordat)
+  planes-blank : (i : ℕ) → i < 64 → getD planes i 0 ≡ 0
+  planes-blank i h = getD-take (recordsAt - planesAt) (drop planesAt d₁) i 0 (omega arith) ∙ getD-drop planesAt d₁ i 0 ∙ blank (planesAt + i) (omega arith)
+
+  length-two : (ps d₂ : List ℕ) → length ps ≡ 64 → d₂ ≡ putMid planesAt (recordsAt - planesAt) d₁ ps → (length d₂ ≡ length d) × (d₂ ≡ splice d₁ planesAt ps)
+  length-two ps d₂ n e =
+      let x : d₂ ≡ splice d₁ planesAt ps = e ∙ lent-part d₁ planesAt recordsAt ps (omega arith) (omega (arith, length-d₁)) (omega arith) in
+      (ap length x ∙ length-splice d₁ planesAt ps (omega (arith, length-d₁)) ∙ length-d₁, x)
+
+  module _ (ps d₂ : List ℕ) (lp : length ps ≡ 64) (m : Marked states planes ps (length states)) (ed : d₂ ≡ putMid planesAt (recordsAt - planesAt) d₁ ps) (r : List ℕ) (lr : length r ≡ s .semaphoreat - s .recordat)
       (b : Begun states (cut d₂ (s .recordat) (s .semaphoreat)) r (length states)) (k : ℕ) where
     abbrev d₃ : List ℕ
     d₃ = putMid (s .recordat) (s .semaphoreat - s .recordat) d₂ r
 
     length-d₂ : length d₂ ≡ length d
-    length-d₂ = length-two d₂ e₂
+    length-d₂ = length-two ps d₂ lp ed .0
+
+    e₂ : d₂ ≡ splice d₁ planesAt ps
+    e₂ = length-two ps d₂ lp ed .1
 
     d₃-is : d₃ ≡ splice d₂ (s .recordat) r
     d₃-is = lent-part d₂ (s .recordat) (s .semaphoreat) r (omega arith) (omega (arith, length-d₂)) lr
@@ -119,14 +169,14 @@ module _ (s : Shape) (l : Laid s) (states d : List ℕ) (room : s .end ≤ lengt
     within : (i : ℕ) → i < 6 * s .tasks → getD d₄ (s .recordat + i) 0 ≡ getD r i 0
     within i h = rest (s .recordat + i) (omega arith) ∙ splice-in d₂ r (s .recordat) (omega (arith, length-d₂)) i (omega arith)
 
-    was-state : (i : ℕ) → i < s .tasks → getD d₂ (2 + i) 0 ≡ getD states i 0
-    was-state i h = ap (λ (x : List ℕ). getD x (2 + i) 0) e₂ ∙ splice-in d₁ states 2 (omega (arith, length-d₁)) i (omega arith)
+    was-plane : (i : ℕ) → i < 64 → getD d₂ (planesAt + i) 0 ≡ getD ps i 0
+    was-plane i h = ap (λ (x : List ℕ). getD x (planesAt + i) 0) e₂ ∙ splice-in d₁ ps planesAt (omega (arith, length-d₁)) i (omega arith)
 
     was-below : (i : ℕ) → i < 2 → getD d₂ i 0 ≡ 0
-    was-below i h = ap (λ (x : List ℕ). getD x i 0) e₂ ∙ splice-below d₁ states 2 (omega (arith, length-d₁)) i h ∙ blank i (omega arith)
+    was-below i h = ap (λ (x : List ℕ). getD x i 0) e₂ ∙ splice-below d₁ ps planesAt (omega (arith, length-d₁)) i h ∙ blank i (omega arith)
 
     was-above : (i : ℕ) → s .recordat ≤ i → i < s .messageat → getD d₂ i 0 ≡ 0
-    was-above i h m = ap (λ (x : List ℕ). getD x i 0) e₂ ∙ splice-above d₁ states 2 (omega (arith, length-d₁)) i (omega arith) ∙ blank i m
+    was-above i h m = ap (λ (x : List ℕ). getD x i 0) e₂ ∙ splice-above d₁ ps planesAt (omega (arith, length-d₁)) i (omega arith) ∙ blank i m
 
     behind : (i : ℕ) → s .semaphoreat ≤ i → i < s .messageat → getD d₄ i 0 ≡ 0
     behind i h m = rest i (omega arith) ∙ splice-above d₂ r (s .recordat) (omega (arith, length-d₂)) i (omega arith) ∙ was-above i (omega arith) m
@@ -137,12 +187,19 @@ module _ (s : Shape) (l : Laid s) (states d : List ℕ) (room : s .end ≤ lengt
         ∙ getD-take (s .semaphoreat - s .recordat) (drop (s .recordat) d₂) (i * 6 + j) 0 (omega arith) ∙ getD-drop (s .recordat) d₂ (i * 6 + j) 0
         ∙ was-above (s .recordat + (i * 6 + j)) (omega arith) (omega arith)
 
+    planes-now : cut d₄ planesAt recordsAt ≡ ps
+    planes-now =
+        let n : length (cut d₄ planesAt recordsAt) ≡ 64 = length-cut d₄ planesAt recordsAt (omega (arith, length-set d₃ 0 k, length-d₃)) in
+        ext-getD 0 (cut d₄ planesAt recordsAt) ps (n ∙ sym lp) (λ i h.
+        let u : i < 64 = omega arith in
+        getD-take (recordsAt - planesAt) (drop planesAt d₄) i 0 (omega arith) ∙ getD-drop planesAt d₄ i 0 ∙ before (planesAt + i) (omega arith) (omega arith) ∙ was-plane i u)
+
     written-tables : FreshTables s k states d₄
     written-tables =
         record {
           ticks = first;
           messages = before 1 (omega arith) (omega arith) ∙ was-below 1 (omega arith);
-          blocks = λ i h. before (2 + i) (omega arith) (omega arith) ∙ was-state i h;
+          blocks = λ i h. ap (λ (x : List ℕ). blocksAt x i) planes-now ∙ marked-blocks states planes ps (length states) i (omega arith) (omega (arith, l .few)) planes-blank m;
           kinds = λ i h. within (i * 6) (omega arith) ∙ b .kinds i (omega arith);
           requests = no-request;
           semaphores = λ i h. behind (s .semaphoreat + i) (omega arith) (omega arith);
@@ -151,8 +208,8 @@ module _ (s : Shape) (l : Laid s) (states d : List ℕ) (room : s .end ≤ lengt
 
 -- ---- where they lie
 module _ {s : Shape} {n : ℕ} where
-  pub front-in : Fits s n → (2 + s .tasks ≤ n) × (s .messageat ≤ n)
-  front-in (fitting l r) = (omega arith, omega arith)
+  pub front-in : Fits s n → (recordsAt ≤ n) × (s .messageat ≤ n) × (s .tasks ≤ 126)
+  front-in (fitting l r) = (omega arith, omega arith, l .few)
 
   pub records-in : Fits s n → (s .semaphoreat ≡ s .recordat + 6 * s .tasks) × (s .semaphoreat ≤ n)
   records-in (fitting l r) = (l .states, omega arith)
@@ -160,11 +217,12 @@ module _ {s : Shape} {n : ℕ} where
 -- the same, as the code leaves it
 pub written : (s : Shape) (states d : List ℕ) → Fits s (length d) → length states ≡ s .tasks
     → (ys : List ℕ) → ys ≡ replicate (length (cut d 0 (s .messageat))) 0
-    → (d₂ : List ℕ) → d₂ ≡ splice (putMid 0 (s .messageat - 0) d ys) 2 states
+    → (ps : List ℕ) → length ps ≡ 64 → Marked states (cut (putMid 0 (s .messageat - 0) d ys) planesAt recordsAt) ps (length states)
+    → (d₂ : List ℕ) → d₂ ≡ putMid planesAt (recordsAt - planesAt) (putMid 0 (s .messageat - 0) d ys) ps
     → (r : List ℕ) → length r ≡ length (cut d₂ (s .recordat) (s .semaphoreat)) → Begun states (cut d₂ (s .recordat) (s .semaphoreat)) r (length states)
     → (k : ℕ) → FreshTables s k states (set (putMid (s .recordat) (s .semaphoreat - s .recordat) d₂ r) 0 k)
-written s states d f n ys ey d₂ e₂ r lr b k =
+written s states d f n ys ey ps lp mk d₂ e₂ r lr b k =
     let l : Laid s = laid f in
     let m : length (cut d 0 (s .messageat)) ≡ s .messageat = length-cut d 0 (s .messageat) (omega (arith, room f)) ∙ omega arith in
     let y : ys ≡ replicate (s .messageat) 0 = ey ∙ ap (λ (x : ℕ). replicate x 0) m in
-    written-tables s l states d (room f) n ys y d₂ e₂ r (lr ∙ length-cut d₂ (s .recordat) (s .semaphoreat) (omega (arith, length-two s l states d (room f) n ys y d₂ e₂, room f))) b k
+    written-tables s l states d (room f) n ys y ps d₂ lp mk e₂ r (lr ∙ length-cut d₂ (s .recordat) (s .semaphoreat) (omega (arith, length-two s l states d (room f) n ys y ps d₂ lp e₂ .0, room f))) b k

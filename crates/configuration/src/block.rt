@@ -5,6 +5,7 @@ use crate::frame::good_head;
 use crate::frame::room;
 use crate::frame::wide;
 use queues::Ring;
+use tables::shape::RECORDS_AT;
 use tables::shape::Shape;
 ghost use mathlib.Core.Path.{_≡_};
 ghost use Prim.Native.Nat.{_*_, _≤_};
@@ -26,7 +27,7 @@ pub fn lay(t: u8, s: u8, q: u8, r: u8, g: u8, k: u8, room: usize) -> Shape
     let queues = wide(q);
     let messages = wide(g);
     let semaphores = named + tasks + 2 * queues;
-    let recordat = 2 + tasks;
+    let recordat = RECORDS_AT;
     let semaphoreat = recordat + 6 * tasks;
     let waitingat = semaphoreat + semaphores;
     let ringat = waitingat + 16 * tasks;

@@ -1,13 +1,17 @@
 // The fresh memory of an accepted configuration.
+use tables::planes::put_bit;
+use tables::shape::PLANES_AT;
+use tables::shape::RECORDS_AT;
 use tables::shape::Shape;
+use tables::shape::TICKS_AT;
 ghost use mathlib.Core.Path.{_≡_};
 ghost use Prim.Native.Nat.{_*_, _≤_};
 ghost use lib.ListN.{length, replicate};
 ghost use Rattle.ledger.specs.Config.{configIn, configRefusal};
 ghost use Rattle.tables.specs.Layout.{Fits};
 ghost use Rattle.tables.specs.Shows.{Of};
-ghost use Rattle.configuration.specs.Fresh.{kindOf, FreshTables};
-ghost use Rattle.configuration.specs.Written.{Begun};
+ghost use Rattle.configuration.specs.Fresh.{kindOf, idleOf, FreshTables};
+ghost use Rattle.configuration.specs.Written.{Begun, Marked};
 ghost use Rattle.configuration.specs.Started.{Started};
 
 fn fill(part: &mut [u8], v: u8)
@@ -42,6 +46,29 @@ fn begin(states: &[u8], records: &mut [u8])
     }
 }
 
+// Whether a task begins idle.
+fn is_idle(state: u8) -> bool
+    ensures { λ r. ⌜ r ≡ idleOf state ⌝ }
+{
+    if state == 0 {
+        return false;
+    }
+    true
+}
+
+// The idle tasks, a bit each. Their plane is the first.
+fn mark_idle(states: &[u8], planes: &mut [u8])
+    requires { ⌜ (length (now planes) ≡ 64) × (length (now states) ≤ 126) ⌝ }
+    ensures { λ _. ⌜ Marked (now (states .entry)) (now (planes .entry)) (now (planes .exit)) (length (now (states .entry))) ⌝ }
+{
+    let mut i = 0;
+    while i < states.len() {
+        let at = i / 8;
+        planes[at] = put_bit(planes[at], i % 8, is_idle(states[i]));
+        i += 1;
+    }
+}
+
 // The tables up to the messages. The bytes behind stay.
 fn fresh_tables(states: &[u8], ticks: u8, tables: &mut [u8], shape: Shape)
     requires { ⌜ Fits shape (length (now tables)) × (length (now states) ≡ shape .tasks) ⌝ }
@@ -49,11 +76,11 @@ fn fresh_tables(states: &[u8], ticks: u8, tables: &mut [u8], shape: Shape)
 {
     let end = shape.messageat;
     fill(&mut tables[0..end], 0);
-    rows::copy_in(states, tables, 2);
+    mark_idle(states, &mut tables[PLANES_AT..RECORDS_AT]);
     let at = shape.recordat;
     let behind = shape.semaphoreat;
     begin(states, &mut tables[at..behind]);
-    tables[0] = ticks;
+    tables[TICKS_AT] = ticks;
 }
 
 // Writes an accepted frame into the front of the block, and the fresh tables. The bytes that they do not need stay.

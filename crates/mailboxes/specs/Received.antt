@@ -12,9 +12,9 @@ unfoldable pub viewReceived : Received → Option ledger.Message
 viewReceived Nothing = none
 viewReceived (Message x s b) = some (record { number = x; sender = s; semaphore = b })
 
--- the message m lies in the mailbox of task t, lowest sender first
-abbrev pub inserted : (t : ℕ) → ledger.Message → Ledger → Ledger
-inserted t m L = setMailbox t (insertBy (λ k. k .sender) m (mailbox L t)) L
+-- a message more lies in the mailbox of task t, lowest sender first
+abbrev pub inserted : (t number sender semaphore : ℕ) → Ledger → Ledger
+inserted t x f b L = setMailbox t (insertBy (λ m. m .sender) (record { number = x; sender = f; semaphore = b }) (mailbox L t)) L
 
 -- what task t received from a (0: from any) is out of its mailbox
 unfoldable pub taken : Received → (t a : ℕ) → Ledger → Ledger

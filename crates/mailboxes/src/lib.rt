@@ -49,7 +49,7 @@ pub fn holds(tables: &[u8], shape: Shape, number: u8) -> bool
 // Puts a message that lies in no mailbox into that of task `to`.
 pub fn insert(tables: &mut [u8], shape: Shape, to: u8, number: u8, sender: u8, semaphore: u8)
     requires { ⌜ Fits shape (length (now tables)) × OneOf (shape .tasks) to × OneOf (shape .messages) number ⌝ }
-    ensures { λ _. ⌜ DoesIf shape (now (tables .entry)) (now (tables .exit)) (λ c L. inAMailbox L number ≡ false) (λ c L. inserted to (record { number = number; sender = sender; semaphore = semaphore }) L) ⌝ }
+    ensures { λ _. ⌜ DoesIf shape (now (tables .entry)) (now (tables .exit)) (λ c L. inAMailbox L number ≡ false) (λ c L. inserted to number sender semaphore L) ⌝ }
 {
     let n = count(tables[COUNT_AT], shape.messages);
     if n >= shape.messages {
@@ -64,7 +64,8 @@ pub fn insert(tables: &mut [u8], shape: Shape, to: u8, number: u8, sender: u8, s
 // Takes the first message for task t that is from `from`, or from any if that is 0.
 pub fn take(tables: &mut [u8], shape: Shape, t: u8, from: u8) -> Received
     requires { ⌜ Fits shape (length (now tables)) × OneOf (shape .tasks) t ⌝ }
-    ensures { λ r. ⌜ Tells shape (now (tables .entry)) (λ c L. find (wanted from) (mailbox L t)) (viewReceived r) × Does shape (now (tables .entry)) (now (tables .exit)) (λ c L. taken r t from L) ⌝ }
+    ensures tells { λ r. ⌜ Tells shape (now (tables .entry)) (λ c L. find (wanted from) (mailbox L t)) (viewReceived r) ⌝ }
+    ensures does { λ r. ⌜ Does shape (now (tables .entry)) (now (tables .exit)) (λ c L. taken r t from L) ⌝ }
 {
     let n = count(tables[COUNT_AT], shape.messages);
     let at = shape.messageat;

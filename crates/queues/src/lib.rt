@@ -4,15 +4,14 @@
 use tables::shape::Shape;
 use tables::tasks::Outcome;
 ghost use mathlib.Core.Path.{_≡_};
-ghost use Prim.Native.Nat.{_+_, _-_, _*_, _<_, _≤_};
+ghost use Prim.Native.Nat.{_+_, _-_, _*_, _≤_};
 ghost use lib.ListN.{length, set};
 ghost use Rattle.tables.specs.Decode.{headOf, countOf};
 ghost use Rattle.tables.specs.Layout.{OneOf, Fits};
 ghost use Rattle.tables.specs.Shows.{DoesIf};
-ghost use Rattle.ledger.specs.Ledger.{queue, held};
 ghost use Rattle.ledger.specs.Services.{putEntry};
 ghost use Rattle.ledger.specs.Refusals.{onNotEmpty, onNotFull, meets21};
-ghost use Rattle.queues.specs.Rings.{RingFits, ringOf, headIn, countIn, TellsRing, Takes};
+ghost use Rattle.queues.specs.Rings.{RingFits, HasRoom, headIn, countIn, TellsRing, Takes};
 ghost use Rattle.queues.specs.Waits.{notFullOf};
 
 // A queue's width and depth, and where its entries lie in the tables: of the configuration.
@@ -97,7 +96,7 @@ pub fn put_waits(tables: &[u8], shape: Shape, ring: Ring, q: u8) -> bool
 // Puts an entry behind those that the queue holds. The caller has seen that it is not full.
 pub fn put(tables: &mut [u8], shape: Shape, ring: Ring, q: u8, entry: &[u8])
     requires { ⌜ Fits shape (length (now tables)) × RingFits shape ring × OneOf (shape .queues) q × (length (now entry) ≡ ring .width) ⌝ }
-    ensures { λ _. ⌜ DoesIf shape (now (tables .entry)) (now (tables .exit)) (λ c L. (ring ≡ ringOf c shape q) × (length (held (queue L q)) < ring .depth)) (λ c L. putEntry q (now (entry .entry)) L) ⌝ }
+    ensures { λ _. ⌜ DoesIf shape (now (tables .entry)) (now (tables .exit)) (HasRoom shape ring q) (λ c L. putEntry q (now (entry .entry)) L) ⌝ }
 {
     let depth = ring.depth;
     let first = head(tables, shape, ring, q);

@@ -13,7 +13,8 @@ ghost use Rattle.services.specs.Semaphores.{waiterOf};
 // Gives the task that it woke, or 0. A number that no semaphore has signals nothing.
 pub fn signal(tables: &mut [u8], shape: Shape, b: u8) -> u8
     requires { ⌜ Fits shape (length (now tables)) ⌝ }
-    ensures { λ r. ⌜ Does shape (now (tables .entry)) (now (tables .exit)) (λ c L. ledger.signal b L) × Tells shape (now (tables .entry)) (λ c L. waiterOf (semaphoreOf L b)) r ⌝ }
+    ensures does { λ _. ⌜ Does shape (now (tables .entry)) (now (tables .exit)) (λ c L. ledger.signal b L) ⌝ }
+    ensures tells { λ r. ⌜ Tells shape (now (tables .entry)) (λ c L. waiterOf (semaphoreOf L b)) r ⌝ }
 {
     if b == 0 {
         return 0;
@@ -27,7 +28,8 @@ pub fn signal(tables: &mut [u8], shape: Shape, b: u8) -> u8
 // A semaphore that there is: WAITING becomes PENDING and its task loses event wait, otherwise DONE.
 fn signal_one(tables: &mut [u8], shape: Shape, b: u8) -> u8
     requires { ⌜ Fits shape (length (now tables)) × OneOf (shape .semaphores) b ⌝ }
-    ensures { λ r. ⌜ Does shape (now (tables .entry)) (now (tables .exit)) (λ c L. ledger.signal b L) × Tells shape (now (tables .entry)) (λ c L. waiterOf (semaphoreOf L b)) r ⌝ }
+    ensures does { λ _. ⌜ Does shape (now (tables .entry)) (now (tables .exit)) (λ c L. ledger.signal b L) ⌝ }
+    ensures tells { λ r. ⌜ Tells shape (now (tables .entry)) (λ c L. waiterOf (semaphoreOf L b)) r ⌝ }
 {
     let s = tables::semaphores::load(tables, shape, b);
     match s {

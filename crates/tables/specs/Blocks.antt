@@ -56,7 +56,7 @@ module _ (i : ℕ) (v : Bool) (d d' : List ℕ) (low : i < 128) where
   old-blocks k n j l ne =
       λ x. record { idle = sym (n .others Idle j l (λ e f. ne f)) x; suspended = sym (n .others Suspended j l (λ e f. ne f)) x; event = sym (n .others Event j l (λ e f. ne f)) x; message = sym (n .others Message j l (λ e f. ne f)) x }
 
-plane-low : (k : Block) → planeOf k < 4
+pub plane-low : (k : Block) → planeOf k < 4
 plane-low Idle = omega arith
 plane-low Suspended = omega arith
 plane-low Event = omega arith

@@ -141,6 +141,10 @@ TellsIf s d P f r = (c : Config) (L : Ledger) (z w : List ℕ) → P c L → Sho
 pub moved : {c : Config} {s : Shape} {L L' : Ledger} {d z w : List ℕ} → L ≡ L' → Shows c s L d z w → Shows c s L' d z w
 moved {c} {s} {d = d} {z = z} {w = w} e h = subst (λ (X : Ledger). Shows c s X d z w) e h
 
+-- e has as many bytes as an entry of queue q
+abbrev pub AsWide : (q : ℕ) (e : List ℕ) → Config → Ledger → Type 0
+AsWide q e c L = length e ≡ shape c q .width
+
 -- the task record that the tables hold
 unfoldable pub recordIn : Shape → List ℕ → ℕ → Task
 recordIn s d t = recordOf (s .queues) (blocksAt (regions s d .blocks) (t - 1)) (rowAt 6 (t - 1) (regions s d .records))

@@ -41,7 +41,8 @@ fn state_byte(s: Semaphore) -> u8
 
 pub fn load(tables: &[u8], shape: Shape, b: u8) -> Semaphore
     requires { ⌜ Fits shape (length (now tables)) × OneOf (shape .semaphores) b ⌝ }
-    ensures { λ r. ⌜ Tells shape (now (tables .entry)) (λ c L. semaphoreOf L b) (viewSemaphore r) × Waiter (shape .tasks) r ⌝ }
+    ensures tells { λ r. ⌜ Tells shape (now (tables .entry)) (λ c L. semaphoreOf L b) (viewSemaphore r) ⌝ }
+    ensures waiter { λ r. ⌜ Waiter (shape .tasks) r ⌝ }
 {
     let at = shape.semaphoreat + (b as usize - 1);
     state_of(shape.tasks, tables[at])

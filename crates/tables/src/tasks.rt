@@ -11,10 +11,9 @@ ghost use Rattle.rows.specs.Splice.{splice};
 ghost use Rattle.tables.specs.Decode.{outcomeOf, outcomeWritten, outcomeBytes, requestOf, requestKind, requestArgument, requestBytes, viewOutcome, viewRequest};
 ghost use Rattle.tables.specs.Layout.{OneOf, Fits};
 ghost use Rattle.tables.specs.Encoded.{AsksFor};
-ghost use Rattle.tables.specs.Shows.{recordIn, waitingIn, Does, DoesIf, Tells};
+ghost use Rattle.tables.specs.Shows.{recordIn, waitingIn, AsWide, Does, DoesIf, Tells};
 ghost use Rattle.ledger.specs.Ledger as ledger;
 ghost use Rattle.ledger.specs.Ledger.{setOutcome, setRequest, task};
-ghost use Rattle.ledger.specs.Services as ledger_services;
 
 pub enum Outcome {
     Plain,
@@ -247,7 +246,7 @@ pub fn load_waiting(tables: &[u8], shape: Shape, t: u8, entry: &mut [u8])
 // Opens an enqueue with its bytes.
 pub fn store_enqueue(tables: &mut [u8], shape: Shape, t: u8, q: u8, entry: &[u8])
     requires { ⌜ Fits shape (length (now tables)) × OneOf (shape .tasks) t × OneOf (shape .queues) q × (length (now entry) ≤ 16) ⌝ }
-    ensures { λ _. ⌜ DoesIf shape (now (tables .entry)) (now (tables .exit)) (λ c L. length (now (entry .entry)) ≡ ledger_services.shape c q .width) (λ c L. setRequest t (ledger.enqueue q (now (entry .entry))) L) ⌝ }
+    ensures { λ _. ⌜ DoesIf shape (now (tables .entry)) (now (tables .exit)) (AsWide q (now (entry .entry))) (λ c L. setRequest t (ledger.enqueue q (now (entry .entry))) L) ⌝ }
 {
     let at = shape.waitingat + (t as usize - 1) * 16;
     rows::copy_in(entry, tables, at);

@@ -48,8 +48,10 @@ returns c =
     let f = p .result in
     let u = p .ensures in (
       due-fewer h w (s .pre .0) (n .result) (n .ensures .1) (p .last .0) k (f .count) (c .byte .result) (omega (arith, u .0, n .ensures .0)) (c .byte .ensures) (u .2) (s .pre .1),
-      due-tells h w (s .pre .0) (n .result) (n .ensures .1) (f .semaphore) (u .1),
-      due-does h w (s .pre .0) (n .result) (n .ensures .1) (p .last .0) k (f .count) (c .byte .result) (omega (arith, u .0, n .ensures .0)) (c .byte .ensures) (u .2),
+      (
+        due-tells h w (s .pre .0) (n .result) (n .ensures .1) (f .semaphore) (u .1),
+        due-does h w (s .pre .0) (n .result) (n .ensures .1) (p .last .0) k (f .count) (c .byte .result) (omega (arith, u .0, n .ensures .0)) (c .byte .ensures) (u .2),
+      ),
     )
 
 pub take-due-spec : {M : Type 1} → statement M

@@ -24,9 +24,6 @@ mul-semaphores c = search needs
 add-semaphores-2 : tie.Need-add-semaphores-2
 add-semaphores-2 c = search needs
 
-add-recordat : tie.Need-add-recordat
-add-recordat c = search needs
-
 mul-semaphoreat : tie.Need-mul-semaphoreat
 mul-semaphoreat c = search needs
 
@@ -77,7 +74,6 @@ lay-spec =
     add-semaphores
     mul-semaphores
     add-semaphores-2
-    add-recordat
     mul-semaphoreat
     add-semaphoreat
     add-waitingat

@@ -49,7 +49,7 @@ loop-again c =
     let s = c .before .before .before .before .before .before .before .before .before .before .before .before .before .before .before .before .before .before .before in
     let t = c .before .before .before .before .before .before .take-due in
     let g = c .before .before .signal in
-    (omega arith, omega (arith, t .ensures .0, l .inv .1), omega arith, omega arith, turn-done (s .args .shape) _ _ (l .tables) (l .timers) (g .last .0) (t .last .0) (l .k) (t .result) (l .inv .4) (t .ensures .1) (t .ensures .2) (g .ensures .0))
+    (omega arith, omega (arith, t .ensures .0, l .inv .1), omega arith, omega arith, turn-done (s .args .shape) _ _ (l .tables) (l .timers) (g .last .0) (t .last .0) (l .k) (t .result) (l .inv .4) (t .ensures .1 .0) (t .ensures .1 .1) (g .ensures .0))
 
 same-length : tie.Need-same-length Inv-loop μ-loop
 same-length c = omega arith
