@@ -1,7 +1,7 @@
 -- From the steps inside to what the exported functions promise.
-use Prim.Native.Nat.{ℕ, _*_, _≤_}
+use Prim.Native.Nat.{ℕ, _≤_}
 use mathlib.Core.Path.{_≡_, refl, sym, ap, _∙_, subst}
-use mathlib.Core.Bool.{true, false}
+use mathlib.Core.Bool.{Bool, true, false, cond}
 use mathlib.Core.List.{List}
 use native.Mathlib.Omega.{arith}
 use lib.ListN.{length}
@@ -9,19 +9,23 @@ use Rattle.ledger.specs.Config.{Config, controller, configIn, configRefusal}
 use Rattle.ledger.specs.Ledger.{Ledger, fresh}
 use Rattle.ledger.specs.Session as session
 use Rattle.tables.specs.declared.shape.Shape.{Shape}
-use Rattle.tables.specs.Layout.{Fits, fitting}
+use Rattle.tables.specs.Layout.{fitting}
 use Rattle.tables.specs.Shows.{Of, Shows}
-use Rattle.clock.specs.Held.{Holds, holding}
+use Rattle.clock.specs.Held.{holding}
 use Rattle.configuration.specs.Block.{configured, rule}
 use Rattle.configuration.specs.Layout.{shapeOf, of-one, end-most}
 use Rattle.configuration.specs.Accepted.{accepted, accepted-of}
 use Rattle.configuration.specs.Started.{Started}
-use Rattle.executive.specs.Carried.{never}
-use Rattle.executive.specs.Lent.{Lends, lends}
+use Rattle.command.specs.Configured.{configures}
+use Rattle.executive.specs.Lent.{Lent, lent}
 use Rattle.executive.specs.Stepped.{Steps}
 use Rattle.answer.specs.Written.{written}
 use Rattle.mcx11.specs.Contract.{Memory, memory, fullSize, messagesSound, lentWellFor, lentWell, Displays, SameSizes, answering, Configures, Frames}
 use Rattle.mcx11.specs.Sizes.{full-sizes, full-kept, well-full}
+
+-- true is not false
+never : {A : Type 0} → _≡_ {A = Bool} false true → A
+never e = let z : _≡_ {A = ℕ} 0 1 = ap (λ (b : Bool). cond b 1 0) e in absurd (omega (arith, z))
 
 well-sound : (m : Memory) → fullSize m ≡ true → rule controller (configured (m .config)) ≡ true → lentWell m ≡ messagesSound (configured (m .config)) (m .tables)
 unfolding lentWell lentWellFor fullSize
@@ -60,13 +64,14 @@ module _ (f g d z w a : List ℕ) where
 
 -- what memory that is lent well gives to those inside
 pub inside : (g d z w a : List ℕ) (s : Shape) → lentWell (memory g d z w a) ≡ true → Of (configured g) s
-    → Fits s (length d) × Lends g s × (16 * s .tasks ≤ length z) × Holds s (length w) × (21 ≤ length a)
+    → Lent g s (length d) (length z) (length w) × (21 ≤ length a)
 inside g d z w a s well o =
     let n = full-sizes (memory g d z w a) (well-full (memory g d z w a) well) in
-    let e : s .end ≤ 7509 = end-most (configured g) s o in
-    let few : s .tasks ≤ 126 = o .laid .few in
-    let t : s .timers ≤ 64 = o .laid .timers in
-    (fitting (o .laid) (omega (arith, n .tables)), lends (n .config) o, omega (arith, n .slots), holding (omega (arith, n .timers)) t, n .answer)
+    let l = o .laid in
+    (
+      lent (configures (omega (arith, n .config)) o) (fitting l (omega (arith, end-most (configured g) s o, n .tables))) (omega (arith, n .slots)) (holding (omega (arith, n .timers)) (l .timers)),
+      n .answer,
+    )
 
 -- ---- a configuration
 pub record Begun (f a g' d' z' w' a' : List ℕ) : Type 0 where
