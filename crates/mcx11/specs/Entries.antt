@@ -1,7 +1,7 @@
 -- From the steps inside to what the exported functions promise.
-use Prim.Native.Nat.{ℕ, _≤_}
+use Prim.Native.Nat.{ℕ, _*_, _≤_}
 use mathlib.Core.Path.{_≡_, refl, sym, ap, _∙_, subst}
-use mathlib.Core.Bool.{Bool, true, false, cond}
+use mathlib.Core.Bool.{true, false}
 use mathlib.Core.List.{List}
 use native.Mathlib.Omega.{arith}
 use lib.ListN.{length}
@@ -15,17 +15,14 @@ use Rattle.clock.specs.Held.{holding}
 use Rattle.configuration.specs.Block.{configured, rule}
 use Rattle.configuration.specs.Layout.{shapeOf, of-one, end-most}
 use Rattle.configuration.specs.Accepted.{accepted, accepted-of}
-use Rattle.configuration.specs.Started.{Started}
+use Rattle.configuration.specs.Started.{timersBytes, Started}
 use Rattle.command.specs.Configured.{configures}
 use Rattle.executive.specs.Lent.{Lent, lent}
+use Rattle.executive.specs.Meeting.{never}
 use Rattle.executive.specs.Stepped.{Steps}
 use Rattle.answer.specs.Written.{written}
 use Rattle.mcx11.specs.Contract.{Memory, memory, fullSize, messagesSound, lentWellFor, lentWell, Displays, SameSizes, answering, Configures, Frames}
 use Rattle.mcx11.specs.Sizes.{full-sizes, full-kept, well-full}
-
--- true is not false
-never : {A : Type 0} → _≡_ {A = Bool} false true → A
-never e = let z : _≡_ {A = ℕ} 0 1 = ap (λ (b : Bool). cond b 1 0) e in absurd (omega (arith, z))
 
 well-sound : (m : Memory) → fullSize m ≡ true → rule controller (configured (m .config)) ≡ true → lentWell m ≡ messagesSound (configured (m .config)) (m .tables)
 unfolding lentWell lentWellFor fullSize
@@ -77,6 +74,14 @@ inside g d z w a s well o =
 pub record Begun (f a g' d' z' w' a' : List ℕ) : Type 0 where
   pub started : Started f g' d' z' w'
   pub answered : a' ≡ written (session.answer 0 0 (fresh (configIn f))) a
+
+-- an accepted frame and its shape, by the fixed sizes
+pub begun-fits : (f : List ℕ) → configRefusal f ≡ 0 → (s : Shape) → Of (configIn f) s → (length f ≤ 198) × (s .end ≤ 7509) × (16 * s .tasks ≤ 2016) × (timersBytes s ≤ 641)
+unfolding configIn
+begun-fits f zero s o =
+    let a = accepted f zero in
+    let l = o .laid in
+    (omega (arith, a .whole, o .tasks, o .queues), end-most (configIn f) s o, omega arith, omega arith)
 
 pub begun-room : {c : Config} {s : Shape} → Of c s → (s .end ≤ 7509) × (s .tasks ≤ 126)
 begun-room {c} {s} o = (end-most c s o, o .laid .few)

@@ -1,15 +1,16 @@
 -- The fixed sizes, one by one; a call leaves every block as large as it was.
 use Prim.Native.Nat.{ℕ, _≤_}
-use mathlib.Core.Path.{_≡_}
+use mathlib.Core.Path.{_≡_, sym, ap, _∙_}
+use mathlib.Core.List.{List}
 use mathlib.Core.Bool.{Bool, true, _&&_}
 use borrow.Author.Tests.{leb-true, le-leb}
 use lib.Dec.{leb}
 use lib.ListN.{length}
 use Rattle.ledger.specs.Theorems.Checks.{and-left, and-right}
-use Rattle.ledger.specs.Config.{controller}
+use Rattle.ledger.specs.Config.{Limits, controller}
 use Rattle.configuration.specs.Block.{configured, rule}
 use Rattle.mcx11.specs.declared.lent.Sizes as code
-use Rattle.mcx11.specs.Contract.{Memory, Sizes, sizesOf, hasSizes, fullSize, messagesSound, lentWellFor, lentWell, SameSizes}
+use Rattle.mcx11.specs.Contract.{Memory, memory, Sizes, sizesOf, hasSizes, fullSize, messagesSound, lentWellFor, lentWell, SameSizes}
 
 -- the sizes as the program has them
 abbrev pub sizesIn : code.Sizes → Sizes
@@ -32,6 +33,13 @@ full-sizes m h =
       timers = leb-true 641 _ (search (and-left, and-right) depth 9);
       answer = leb-true 21 _ (search (and-left, and-right) depth 9);
     }
+
+-- the sizes as the code tests them, by limits that are the controller's
+pub full-told : (k : Limits) → k ≡ controller → (g d z w a : List ℕ) (x y : Bool)
+    → x ≡ (leb (sizesOf k .config) (length g) && leb (sizesOf k .tables) (length d) && leb (sizesOf k .slots) (length z) && leb (sizesOf k .timers) (length w) && leb (sizesOf k .answer) (length a))
+    → x ≡ y → fullSize (memory g d z w a) ≡ y
+unfolding fullSize hasSizes
+full-told k e g d z w a x y t q = ap (λ (j : Limits). hasSizes (sizesOf j) (memory g d z w a)) (sym e) ∙ sym t ∙ q
 
 pub sizes-full : (m : Memory) → Full m → fullSize m ≡ true
 unfolding fullSize hasSizes sizesOf
