@@ -52,7 +52,7 @@ fn by_family(
     }
 }
 
-// The effect of an accepted frame of this code.
+// The same, of a frame of this code: the meant fields, the plain outcome, the effect.
 fn carried(
     code: u8,
     me: u8,
@@ -75,7 +75,7 @@ fn carried(
     by_family(code, me, a, b, frame, config, tables, slots, timers, shape);
 }
 
-// One call for each code, so that each is compiled with its own row of the table.
+// The effect of an accepted frame, while task `me` runs.
 pub fn carry_out(
     me: u8,
     frame: &[u8],
@@ -88,24 +88,5 @@ pub fn carry_out(
     requires { ⌜ Lent (now config) shape (length (now tables)) (length (now slots)) (length (now timers)) × Passed (configured (now config)) shape me (now frame) ⌝ }
     ensures { λ _. ⌜ Carries (configured (now (config .entry))) shape me (now (frame .entry)) (now (tables .entry)) (now (slots .entry)) (now (timers .entry)) (now (tables .exit)) (now (slots .exit)) (now (timers .exit)) ⌝ }
 {
-    let code = frame[0];
-    match code {
-        0x01 => carried(0x01, me, frame, config, tables, slots, timers, shape),
-        0x02 => carried(0x02, me, frame, config, tables, slots, timers, shape),
-        0x03 => carried(0x03, me, frame, config, tables, slots, timers, shape),
-        0x04 => carried(0x04, me, frame, config, tables, slots, timers, shape),
-        0x05 => carried(0x05, me, frame, config, tables, slots, timers, shape),
-        0x06 => carried(0x06, me, frame, config, tables, slots, timers, shape),
-        0x07 => carried(0x07, me, frame, config, tables, slots, timers, shape),
-        0x08 => carried(0x08, me, frame, config, tables, slots, timers, shape),
-        0x09 => carried(0x09, me, frame, config, tables, slots, timers, shape),
-        0x0A => carried(0x0A, me, frame, config, tables, slots, timers, shape),
-        0x0B => carried(0x0B, me, frame, config, tables, slots, timers, shape),
-        0x0C => carried(0x0C, me, frame, config, tables, slots, timers, shape),
-        0x0D => carried(0x0D, me, frame, config, tables, slots, timers, shape),
-        0x0E => carried(0x0E, me, frame, config, tables, slots, timers, shape),
-        0x0F => carried(0x0F, me, frame, config, tables, slots, timers, shape),
-        0x10 => carried(0x10, me, frame, config, tables, slots, timers, shape),
-        _ => carried(0x11, me, frame, config, tables, slots, timers, shape),
-    }
+    carried(frame[0], me, frame, config, tables, slots, timers, shape);
 }
