@@ -36,8 +36,10 @@ fn by_family(
     timers: &mut [u8],
     shape: Shape,
 )
-    requires { ⌜ (5 ≤ length (now frame)) × OneOf 17 code × Lent (now config) shape (length (now tables)) (length (now slots)) (length (now timers)) × Meant (configured (now config)) shape code me a b (now frame) ⌝ }
-    ensures { λ _. ⌜ Effects (configured (now (config .entry))) shape code me a b (now (frame .entry)) (now (tables .entry)) (now (slots .entry)) (now (timers .entry)) (now (tables .exit)) (now (slots .exit)) (now (timers .exit)) ⌝ }
+    requires { ⌜ (5 ≤ length (now frame)) × OneOf 17 code
+        × Lent (now config) shape (length (now tables)) (length (now slots)) (length (now timers)) × Meant (configured (now config)) shape code me a b (now frame) ⌝ }
+    ensures { λ _. ⌜ Effects (configured (now (config .entry))) shape code me a b (now (frame .entry))
+        (now (tables .entry)) (now (slots .entry)) (now (timers .entry)) (now (tables .exit)) (now (slots .exit)) (now (timers .exit)) ⌝ }
 {
     match code {
         0x00..=0x03 => crate::semaphore::serve(tables, shape, code, me, b),
@@ -63,8 +65,10 @@ fn carried(
     timers: &mut [u8],
     shape: Shape,
 )
-    requires { ⌜ (5 ≤ length (now frame)) × (byte 0 (now frame) ≡ code) × OneOf 17 code × Lent (now config) shape (length (now tables)) (length (now slots)) (length (now timers)) × Passed (configured (now config)) shape me (now frame) ⌝ }
-    ensures { λ _. ⌜ Carries (configured (now (config .entry))) shape me (now (frame .entry)) (now (tables .entry)) (now (slots .entry)) (now (timers .entry)) (now (tables .exit)) (now (slots .exit)) (now (timers .exit)) ⌝ }
+    requires { ⌜ (5 ≤ length (now frame)) × (byte 0 (now frame) ≡ code) × OneOf 17 code
+        × Lent (now config) shape (length (now tables)) (length (now slots)) (length (now timers)) × Passed (configured (now config)) shape me (now frame) ⌝ }
+    ensures { λ _. ⌜ Carries (configured (now (config .entry))) shape me (now (frame .entry))
+        (now (tables .entry)) (now (slots .entry)) (now (timers .entry)) (now (tables .exit)) (now (slots .exit)) (now (timers .exit)) ⌝ }
 {
     let u = command::codes::row(code);
     let kind = u.a;
@@ -86,7 +90,8 @@ pub fn carry_out(
     shape: Shape,
 )
     requires { ⌜ Lent (now config) shape (length (now tables)) (length (now slots)) (length (now timers)) × Passed (configured (now config)) shape me (now frame) ⌝ }
-    ensures { λ _. ⌜ Carries (configured (now (config .entry))) shape me (now (frame .entry)) (now (tables .entry)) (now (slots .entry)) (now (timers .entry)) (now (tables .exit)) (now (slots .exit)) (now (timers .exit)) ⌝ }
+    ensures { λ _. ⌜ Carries (configured (now (config .entry))) shape me (now (frame .entry))
+        (now (tables .entry)) (now (slots .entry)) (now (timers .entry)) (now (tables .exit)) (now (slots .exit)) (now (timers .exit)) ⌝ }
 {
     carried(frame[0], me, frame, config, tables, slots, timers, shape);
 }
