@@ -15,14 +15,14 @@ abbrev pub Says : {A : Type 0} → Shape → (Config → A) → A → Type 0
 Says s f r = (c : Config) → Of c s → r ≡ f c
 
 -- what `ring_of` asks of the block's length
-abbrev pub HasBytes : List ℕ → Type 0
-HasBytes g = 198 ≤ length g
+abbrev pub Room : List ℕ → Type 0
+Room g = 198 ≤ length g
 
 -- the block g holds a configuration, whose bytes are there, and the shape is its. (No record, so that its many parts stay out of sight where one fact of it is wanted)
 pub data Configures (g : List ℕ) (s : Shape) : Type 0 where
-  configures : HasBytes g → Of (configured g) s → Configures g s
+  configures : Room g → Of (configured g) s → Configures g s
 
-pub bytes : {g : List ℕ} {s : Shape} → Configures g s → HasBytes g
+pub bytes : {g : List ℕ} {s : Shape} → Configures g s → Room g
 bytes (configures l o) = l
 
 pub of : {g : List ℕ} {s : Shape} → Configures g s → Of (configured g) s

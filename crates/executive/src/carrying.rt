@@ -10,7 +10,7 @@ ghost use Rattle.ledger.specs.Ledger.{plain, setOutcome};
 ghost use Rattle.tables.specs.Layout.{Fits, OneOf};
 ghost use Rattle.tables.specs.Shows.{Does};
 ghost use Rattle.configuration.specs.Block.{configured};
-ghost use Rattle.executive.specs.Suits.{Suits};
+ghost use Rattle.executive.specs.Lent.{Lent};
 ghost use Rattle.executive.specs.Carried.{Meant, Effects, Passed, Carries};
 
 // An accepted service first sets the caller's outcome to plain.
@@ -37,7 +37,7 @@ fn by_family(
     shape: Shape,
 )
     requires { ⌜ (5 ≤ length (now frame)) × OneOf 17 code
-        × Suits (now config) shape (length (now tables)) (length (now slots)) (length (now timers)) × Meant (configured (now config)) shape code me a b (now frame) ⌝ }
+        × Lent (now config) shape (length (now tables)) (length (now slots)) (length (now timers)) × Meant (configured (now config)) shape code me a b (now frame) ⌝ }
     ensures { λ _. ⌜ Effects (configured (now (config .entry))) shape code me a b (now (frame .entry))
         (now (tables .entry)) (now (slots .entry)) (now (timers .entry)) (now (tables .exit)) (now (slots .exit)) (now (timers .exit)) ⌝ }
 {
@@ -66,7 +66,7 @@ fn carried(
     shape: Shape,
 )
     requires { ⌜ (5 ≤ length (now frame)) × (byte 0 (now frame) ≡ code) × OneOf 17 code
-        × Suits (now config) shape (length (now tables)) (length (now slots)) (length (now timers)) × Passed (configured (now config)) shape me (now frame) ⌝ }
+        × Lent (now config) shape (length (now tables)) (length (now slots)) (length (now timers)) × Passed (configured (now config)) shape me (now frame) ⌝ }
     ensures { λ _. ⌜ Carries (configured (now (config .entry))) shape me (now (frame .entry))
         (now (tables .entry)) (now (slots .entry)) (now (timers .entry)) (now (tables .exit)) (now (slots .exit)) (now (timers .exit)) ⌝ }
 {
@@ -89,7 +89,7 @@ pub fn carry_out(
     timers: &mut [u8],
     shape: Shape,
 )
-    requires { ⌜ Suits (now config) shape (length (now tables)) (length (now slots)) (length (now timers)) × Passed (configured (now config)) shape me (now frame) ⌝ }
+    requires { ⌜ Lent (now config) shape (length (now tables)) (length (now slots)) (length (now timers)) × Passed (configured (now config)) shape me (now frame) ⌝ }
     ensures { λ _. ⌜ Carries (configured (now (config .entry))) shape me (now (frame .entry))
         (now (tables .entry)) (now (slots .entry)) (now (timers .entry)) (now (tables .exit)) (now (slots .exit)) (now (timers .exit)) ⌝ }
 {

@@ -16,7 +16,7 @@ ghost use Rattle.queues.specs.Rings.{ringOf, RingFits};
 ghost use Rattle.configuration.specs.Block.{configured};
 ghost use Rattle.command.specs.Configured.{Configures};
 ghost use Rattle.executive.specs.Meant.{MeansA, MeansEntry, Asks};
-ghost use Rattle.executive.specs.Suits.{DoesOf, DoesWithSlotsOf};
+ghost use Rattle.executive.specs.Lent.{DoesOf, DoesWithSlotsOf};
 
 // The ring of a queue, within the tables.
 pub fn ring(config: &[u8], shape: Shape, q: u8) -> Ring

@@ -14,7 +14,7 @@ ghost use Rattle.command.specs.Configured.{Configures};
 ghost use Rattle.ledger.specs.Ledger as ledger;
 ghost use Rattle.ledger.specs.Services as ledger_services;
 ghost use Rattle.ledger.specs.Session as session;
-ghost use Rattle.executive.specs.Suits.{DoesOf, DoesWithSlotsOf};
+ghost use Rattle.executive.specs.Lent.{DoesOf, DoesWithSlotsOf};
 ghost use Rattle.executive.specs.Kept.{Runs, Reissues, Ends};
 
 // The task that runs when settling ends, and the number of reissues.

@@ -3,7 +3,7 @@ use native.Mathlib.Omega.{arith}
 use denote.Ref.{now}
 use Rattle.configuration.specs.Block.{configured}
 use Rattle.tables.specs.Layout.{still-fits, few}
-use Rattle.executive.specs.Suits.{configuration, tables, slots, timers}
+use Rattle.executive.specs.Lent.{configuration, tables, slots, timers}
 use Rattle.executive.specs.Stepped.{step-refused, step-accepted}
 use borrow.Author.Needs.{needs}
 use Rattle.executive.proofs.frames.step.Statement.{statement}
