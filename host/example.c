@@ -7,6 +7,9 @@
 
 #define TOCK_MS 125
 
+static mcx11_t ride;   /* static, so that all bytes are 0 */
+static uint8_t before; /* the task that ran before the call */
+
 /* What to do about each number. */
 static const char *advice(uint8_t number)
 {
@@ -44,69 +47,63 @@ static void print_digits(const uint8_t *bytes, size_t length)
     printf("%.*s", (int)digits, (const char *)line);
 }
 
-static void print_outcome(const mcx11_t *m)
+static void print_refusal(uint8_t number)
 {
-    const uint8_t *value = mcx11_value(m);
+    printf("refused with %u ($%02X), %s: %s", number, number, mcx11_number_name(number), advice(number));
+}
 
-    switch (mcx11_outcome(m)) {
+static void print_outcome(void)
+{
+    const uint8_t *value = mcx11_value(&ride);
+
+    switch (mcx11_outcome(&ride)) {
     case MCX11_OUTCOME_PLAIN: printf("goes on"); break;
     case MCX11_OUTCOME_BEGIN: printf("begins"); break;
     case MCX11_OUTCOME_MESSAGE: printf("has message %u of task %u, semaphore %u", value[0], value[1], value[2]); break;
     case MCX11_OUTCOME_ENTRY:
         printf("has the entry $");
-        print_digits(value, mcx11_value_length(m));
+        print_digits(value, mcx11_value_length(&ride));
         break;
-    case MCX11_OUTCOME_REFUSED: printf("was refused with %u: %s", value[0], advice(value[0])); break;
+    case MCX11_OUTCOME_REFUSED:
+        printf("was ");
+        print_refusal(value[0]);
+        break;
     case MCX11_OUTCOME_SEMAPHORE: printf("has seen semaphore %u", value[0]); break;
     default: printf("has an outcome that is new: see docs/HOST.md"); break;
     }
 }
 
 /* Tells what came of a call, and which task is to run. */
-static void tell(const mcx11_t *m, const char *asked, uint8_t number, uint8_t before)
+static void tell(const char *asked, uint8_t number)
 {
     printf("%s\n    ", asked);
     if (number == MCX11_NUMBER_MEMORY) {
-        printf("refused with 11, no answer: %s\n", advice(number));
+        print_refusal(number);
+        printf("\n    there is no answer\n");
         return;
     }
-    print_digits(mcx11_answer(m), mcx11_answer_length(m));
-    if (number != MCX11_ACCEPTED)
-        printf("  refused with %u: %s", number, advice(number));
+    print_digits(mcx11_answer(&ride), mcx11_answer_length(&ride));
+    if (number != MCX11_ACCEPTED) {
+        printf("  ");
+        print_refusal(number);
+    }
     printf("\n    ");
-    if (mcx11_running(m) != before)
+    if (mcx11_running(&ride) != before)
         printf("switch: ");
-    if (mcx11_running(m) == 0) {
+    before = mcx11_running(&ride);
+    if (before == 0) {
         printf("the null task idles\n");
         return;
     }
-    printf("task %u ", mcx11_running(m));
-    print_outcome(m);
-    if (mcx11_reissues(m) > 0)
-        printf(", %u reissued", mcx11_reissues(m));
+    printf("task %u ", before);
+    print_outcome();
+    if (mcx11_reissues(&ride) > 0)
+        printf(", %u reissued", mcx11_reissues(&ride));
     printf("\n");
 }
 
-static mcx11_t ride; /* static, so that all bytes are 0 */
-
-static void call(const char *asked, uint8_t code, uint8_t a, uint8_t b, uint16_t x)
-{
-    uint8_t before = mcx11_running(&ride);
-    uint8_t number = mcx11_call(&ride, code, a, b, x);
-
-    tell(&ride, asked, number, before);
-}
-
-static void enqueue(const char *asked, uint8_t queue, uint8_t byte)
-{
-    const uint8_t frame[6] = {MCX11_ENQUEUE, queue, 0, 0, 0, byte};
-    uint8_t before = mcx11_running(&ride);
-    uint8_t number = mcx11_frame(&ride, frame, sizeof frame);
-
-    tell(&ride, asked, number, before);
-}
-
-static uint16_t tocks_of(uint16_t ms)
+/* A tock value for milliseconds. */
+static uint16_t once(uint16_t ms)
 {
     int32_t tocks = mcx11_milliseconds(ms, TOCK_MS);
 
@@ -114,35 +111,40 @@ static uint16_t tocks_of(uint16_t ms)
         fprintf(stderr, "%u ms: number %d: %s\n", ms, (int)-tocks, advice((uint8_t)-tocks));
         exit(EXIT_FAILURE);
     }
-    return (uint16_t)tocks;
+    return MCX11_ONCE(tocks);
 }
 
 int main(void)
 {
-    static const uint8_t configuration[] = {
-        2, 1, 1, 1, 1, /* tasks, named semaphores, queues, timers, messages */
-        1, 0, TOCK_MS, /* ticks per tock, milliseconds per tock in two bytes */
-        0, 0,          /* tasks 1 and 2 are runnable */
-        1, 1           /* queue 1: width and depth */
-    };
+    static const uint8_t entry[] = {0x41};
+    static mcx11_configuration_t configuration; /* static, so that all tasks are runnable */
     uint8_t number;
 
-    call("tick before the configuration", MCX11_TICK, 0, 0, 0);
+    configuration.tasks = 2;
+    configuration.named_semaphores = 1;
+    configuration.queues = 1;
+    configuration.timers = 1;
+    configuration.messages = 1;
+    configuration.ticks_per_tock = 1;
+    configuration.milliseconds_per_tock = TOCK_MS;
+    configuration.queue[1].width = 1;
+    configuration.queue[1].depth = 1;
 
-    number = mcx11_configure(&ride, configuration, sizeof configuration);
-    tell(&ride, "configuration", number, 0);
+    tell("tick before the configuration", mcx11_tick(&ride));
+    number = mcx11_configure_from(&ride, &configuration);
+    tell("configuration", number);
     if (number != MCX11_ACCEPTED)
         return EXIT_FAILURE;
 
-    call("task 1: take from queue 1", MCX11_DEQUEUE, 1, 0, 0);
-    enqueue("task 2: put $41 into queue 1", 1, 0x41);
-    call("task 1: delay of 250 ms", MCX11_DELAY, 0, 0, tocks_of(250));
-    call("clock: tick", MCX11_TICK, 0, 0, 0);
-    call("clock: tick", MCX11_TICK, 0, 0, 0);
-    call("task 1: take from queue 2", MCX11_DEQUEUE, 2, 0, 0);
-    call("task 1: wait for semaphore 1", MCX11_WAIT, 0, 1, 0);
-    call("task 2: wait for semaphore 1", MCX11_WAIT, 0, 1, 0);
-    call("task 2: suspend itself", MCX11_SUSPEND, 0, 0, 0);
-    call("device: interrupt exit with semaphore 1", MCX11_INTERRUPT_EXIT, 0, 1, 0);
+    tell("task 1: take from queue 1", mcx11_dequeue(&ride, 1));
+    tell("task 2: put $41 into queue 1", mcx11_enqueue(&ride, 1, entry, sizeof entry));
+    tell("task 1: delay of 250 ms", mcx11_delay(&ride, MCX11_SELF, MCX11_OWN, once(250)));
+    tell("clock: tick", mcx11_tick(&ride));
+    tell("clock: tick", mcx11_tick(&ride));
+    tell("task 1: take from queue 2", mcx11_dequeue(&ride, 2));
+    tell("task 1: wait for semaphore 1", mcx11_wait(&ride, 1));
+    tell("task 2: wait for semaphore 1", mcx11_wait(&ride, 1));
+    tell("task 2: suspend itself", mcx11_suspend(&ride, MCX11_SELF));
+    tell("device: interrupt exit with semaphore 1", mcx11_interrupt_exit(&ride, 1));
     return EXIT_SUCCESS;
 }

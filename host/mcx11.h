@@ -1,5 +1,12 @@
-/* MCX11, the task executive of a ride controller, as a C or C++ host calls it. Link with target/staticlib/libmcx11.a.
-   docs/HOST.md shows the first frame and what to do about each number; docs/MEMORY.md says what the lent memory holds. */
+/**
+ * @file mcx11.h
+ * @brief MCX11, the task executive of a ride controller, as a C or C++ host calls it.
+ *
+ * Link with libmcx11.a of the same version. docs/HOST.md shows the first host and what to do about each number,
+ * docs/FRAMES.md what each service does, docs/MEMORY.md what the lent memory holds.
+ *
+ * Numbers behind a $ are hexadecimal, as in lines and answers; all others are decimal. C99, C11, C++98 and later.
+ */
 #ifndef MCX11_H
 #define MCX11_H
 
@@ -10,140 +17,560 @@
 extern "C" {
 #endif
 
-/* The sizes of the lent blocks. */
-#define MCX11_CONFIG_BYTES 198
-#define MCX11_TABLES_BYTES 7571
-#define MCX11_SLOTS_BYTES 2016
-#define MCX11_TIMERS_BYTES 641
-#define MCX11_ANSWER_BYTES 21
+/** @name The version: docs/CHANGES.md says what each changed for hosts
+ * @{ */
+#define MCX11_VERSION_MAJOR 1 /**< a host has to be changed */
+#define MCX11_VERSION_MINOR 0 /**< something is new, or the lent memory has another layout */
+#define MCX11_VERSION_PATCH 0 /**< something is mended */
+#define MCX11_VERSION "1.0.0" /**< the three as a text */
+/** @} */
 
-/* The longest frame, and the longest line of digits. */
-#define MCX11_FRAME_BYTES 200
-#define MCX11_LINE_DIGITS 400
+/** @name The sizes of the lent blocks
+ * @{ */
+#define MCX11_CONFIG_BYTES 198  /**< of mcx11_t::config */
+#define MCX11_TABLES_BYTES 7509 /**< of mcx11_t::tables */
+#define MCX11_SLOTS_BYTES 2016  /**< of mcx11_t::slots */
+#define MCX11_TIMERS_BYTES 641  /**< of mcx11_t::timers */
+#define MCX11_ANSWER_BYTES 21   /**< of mcx11_t::answer */
+/** @} */
 
-/* All that the host lends. Let it begin with all bytes 0 (static, or memset): a frame before the configuration then gives 11.
-   Only the calls write it. It holds no addresses: between calls it may be copied and moved. */
+/** @name The most there can be
+ * @{ */
+#define MCX11_FRAME_BYTES 200 /**< the longest frame that a line has room for */
+#define MCX11_LINE_DIGITS 400 /**< the longest line of digits */
+#define MCX11_ENTRY_BYTES 16  /**< the widest entry of a queue */
+#define MCX11_MOST_TASKS 126  /**< T */
+#define MCX11_MOST_QUEUES 32  /**< Q */
+/** @} */
+
+/**
+ * All that the host lends. Let it begin with all bytes 0 (static, or memset): a frame before the configuration then gives 11.
+ * Only the calls write it, one at a time. It holds no addresses: between calls it may be copied and moved.
+ */
 typedef struct mcx11_t {
-    uint8_t config[MCX11_CONFIG_BYTES]; /* the accepted configuration */
-    uint8_t tables[MCX11_TABLES_BYTES]; /* tasks, semaphores, messages, queues, ticks */
-    uint8_t slots[MCX11_SLOTS_BYTES];   /* 16 bytes for each task, task 1's first */
-    uint8_t timers[MCX11_TIMERS_BYTES]; /* the timers */
-    uint8_t answer[MCX11_ANSWER_BYTES]; /* the length of the last answer, and behind it the answer */
+    uint8_t config[MCX11_CONFIG_BYTES]; /**< the accepted configuration */
+    uint8_t tables[MCX11_TABLES_BYTES]; /**< tasks, semaphores, messages, queues, ticks */
+    uint8_t slots[MCX11_SLOTS_BYTES];   /**< 16 bytes for each task, task 1's first */
+    uint8_t timers[MCX11_TIMERS_BYTES]; /**< the timers */
+    uint8_t answer[MCX11_ANSWER_BYTES]; /**< the length of the last answer, and behind it the answer */
 } mcx11_t;
 
-/* The codes of frames. A, B and X are the frame's fields; one that a code does not name is ignored.
-   B 0 is the running task's own semaphore; in delay, timer and purge it is task A's. Task t's own has the number S + t.
-   X as a tock value is signed: n tocks once, or (uint16_t)-n for every n tocks; 0x8000 is every 32,768. */
+/** The codes of frames. A, B and X are the frame's fields; one that a code does not name is ignored. */
 enum mcx11_code {
-    MCX11_WAIT = 0x01,          /* for semaphore B */
-    MCX11_SIGNAL = 0x02,        /* semaphore B */
-    MCX11_PEND = 0x03,          /* semaphore B */
-    MCX11_SEND = 0x04,          /* message X to task A, with semaphore B */
-    MCX11_SENDW = 0x05,         /* as send, then wait for B */
-    MCX11_RECEIVE = 0x06,       /* a message from task A, 0 is any */
-    MCX11_DEQUEUE = 0x07,       /* an entry from queue A */
-    MCX11_ENQUEUE = 0x08,       /* the entry behind X into queue A */
-    MCX11_RESUME = 0x09,        /* task A */
-    MCX11_SUSPEND = 0x0A,       /* task A, 0 is self */
-    MCX11_TERMINATE = 0x0B,     /* task A, 0 is self */
-    MCX11_EXECUTE = 0x0C,       /* task A from its start */
-    MCX11_DELAY = 0x0D,         /* task A, 0 is self, on semaphore B by the tock value X */
-    MCX11_TIMER = 0x0E,         /* for task A, 0 is self, on semaphore B with the tock value X */
-    MCX11_PURGE = 0x0F,         /* task A's timers, 0 is self: all if X's low byte is 0, else the one on B */
-    MCX11_TICK = 0x10,          /* of the clock; no service of a task */
-    MCX11_INTERRUPT_EXIT = 0x11 /* with semaphore B signalled, 0 is none; no service of a task */
+    MCX11_WAIT = 0x01,          /**< for semaphore B */
+    MCX11_SIGNAL = 0x02,        /**< semaphore B */
+    MCX11_PEND = 0x03,          /**< semaphore B */
+    MCX11_SEND = 0x04,          /**< message X to task A, with semaphore B */
+    MCX11_SENDW = 0x05,         /**< as send, then wait for B */
+    MCX11_RECEIVE = 0x06,       /**< a message from task A, 0 is any */
+    MCX11_DEQUEUE = 0x07,       /**< an entry from queue A */
+    MCX11_ENQUEUE = 0x08,       /**< the entry behind X into queue A */
+    MCX11_RESUME = 0x09,        /**< task A */
+    MCX11_SUSPEND = 0x0A,       /**< task A, 0 is self */
+    MCX11_TERMINATE = 0x0B,     /**< task A, 0 is self */
+    MCX11_EXECUTE = 0x0C,       /**< task A from its start */
+    MCX11_DELAY = 0x0D,         /**< task A, 0 is self, on semaphore B by the tock value X */
+    MCX11_TIMER = 0x0E,         /**< for task A, 0 is self, on semaphore B with the tock value X */
+    MCX11_PURGE = 0x0F,         /**< task A's timers, 0 is self: all if X's low byte is 0, else the one on B */
+    MCX11_TICK = 0x10,          /**< of the clock; no service of a task */
+    MCX11_INTERRUPT_EXIT = 0x11 /**< with semaphore B signalled, 0 is none; no service of a task */
 };
 
-/* What the running task's last request ended with. */
+/** What the running task's last request ended with. */
 enum mcx11_outcome_kind {
     MCX11_OUTCOME_PLAIN = 0,
-    MCX11_OUTCOME_BEGIN = 1,    /* the task was started and has not called since */
-    MCX11_OUTCOME_MESSAGE = 2,  /* value: message, sender, semaphore */
-    MCX11_OUTCOME_ENTRY = 3,    /* value: the entry */
-    MCX11_OUTCOME_REFUSED = 4,  /* value: the number that a reissue met */
-    MCX11_OUTCOME_SEMAPHORE = 5 /* value: the semaphore */
+    MCX11_OUTCOME_BEGIN = 1,    /**< the task was started and has not called since */
+    MCX11_OUTCOME_MESSAGE = 2,  /**< value: message, sender, semaphore */
+    MCX11_OUTCOME_ENTRY = 3,    /**< value: the entry */
+    MCX11_OUTCOME_REFUSED = 4,  /**< value: the number that a reissue met */
+    MCX11_OUTCOME_SEMAPHORE = 5 /**< value: the semaphore */
 };
 
-/* The numbers that calls are refused with. */
+/** The numbers that calls are refused with; behind the $ as an answer shows them. */
 enum mcx11_number {
-    MCX11_ACCEPTED = 0,
-    MCX11_NUMBER_LINE = 1,                /* line odd, too long or with another character; frame too long for a line */
-    MCX11_NUMBER_LENGTH = 2,              /* frame or configuration too short or too long */
-    MCX11_NUMBER_CONFIGURATION = 3,       /* a value in the configuration; 0 milliseconds per tock */
-    MCX11_NUMBER_CODE = 4,                /* no such code */
-    MCX11_NUMBER_TASK = 5,                /* no such task, or not for this code */
-    MCX11_NUMBER_SEMAPHORE = 6,           /* no such semaphore, or a queue's */
-    MCX11_NUMBER_QUEUE = 7,               /* no such queue */
-    MCX11_NUMBER_MESSAGE = 8,             /* no such message */
-    MCX11_NUMBER_TOCK_VALUE = 9,          /* tock value 0 */
-    MCX11_NUMBER_MILLISECONDS = 10,       /* milliseconds without a tock value */
-    MCX11_NUMBER_MEMORY = 11,             /* lent memory too short, not configured or broken; nothing was written */
-    MCX11_NUMBER_NULL_TASK_RUNS = 20,     /* a service while the null task runs */
-    MCX11_NUMBER_SEMAPHORE_WAITING = 21,  /* the semaphore has a waiting task */
-    MCX11_NUMBER_MESSAGE_IN_MAILBOX = 22, /* the message is in a mailbox */
-    MCX11_NUMBER_ALL_TIMERS_ACTIVE = 23,  /* no timer is free */
-    MCX11_NUMBER_HAS_A_TIMER = 24,        /* task and semaphore have a timer */
-    MCX11_NUMBER_IDLE_OR_WAITING = 25     /* delay of a task that is idle or waiting */
+    MCX11_ACCEPTED = 0,                   /**< the frame was carried out; its caller may wait now */
+    MCX11_NUMBER_LINE = 1,                /**< $01: line odd, too long or with another character; frame too long for a line */
+    MCX11_NUMBER_LENGTH = 2,              /**< $02: frame or configuration too short or too long */
+    MCX11_NUMBER_CONFIGURATION = 3,       /**< $03: a value in the configuration; 0 milliseconds per tock */
+    MCX11_NUMBER_CODE = 4,                /**< $04: no such code */
+    MCX11_NUMBER_TASK = 5,                /**< $05: no such task, or not for this code */
+    MCX11_NUMBER_SEMAPHORE = 6,           /**< $06: no such semaphore, or a queue's */
+    MCX11_NUMBER_QUEUE = 7,               /**< $07: no such queue */
+    MCX11_NUMBER_MESSAGE = 8,             /**< $08: no such message */
+    MCX11_NUMBER_TOCK_VALUE = 9,          /**< $09: tock value 0 */
+    MCX11_NUMBER_MILLISECONDS = 10,       /**< $0A: milliseconds without a tock value; in no answer */
+    MCX11_NUMBER_MEMORY = 11,             /**< $0B: lent memory too short, not configured or broken; nothing was written */
+    MCX11_NUMBER_NULL_TASK_RUNS = 20,     /**< $14: a service while the null task runs */
+    MCX11_NUMBER_SEMAPHORE_WAITING = 21,  /**< $15: the semaphore has a waiting task */
+    MCX11_NUMBER_MESSAGE_IN_MAILBOX = 22, /**< $16: the message is in a mailbox */
+    MCX11_NUMBER_ALL_TIMERS_ACTIVE = 23,  /**< $17: no timer is free */
+    MCX11_NUMBER_HAS_A_TIMER = 24,        /**< $18: task and semaphore have a timer */
+    MCX11_NUMBER_IDLE_OR_WAITING = 25     /**< $19: delay of a task that is idle or waiting */
 };
 
-/* The archive's own functions: each block is its address and its length. Blocks and frame do not overlap. */
+/* ---- The archive's own functions. Of these a host needs the last three alone. */
+
+/** Configures over blocks, each its address and its length. Blocks and frame do not overlap. @see mcx11_configure */
 uint8_t mcx11_configure_blocks(const uint8_t *frame, size_t length, uint8_t *config, size_t config_bytes, uint8_t *tables,
                                size_t tables_bytes, uint8_t *slots, size_t slots_bytes, uint8_t *timers,
                                size_t timers_bytes, uint8_t *answer, size_t answer_bytes);
+/** Carries out a frame over blocks. @see mcx11_frame */
 uint8_t mcx11_frame_blocks(const uint8_t *frame, size_t length, const uint8_t *config, size_t config_bytes, uint8_t *tables,
                            size_t tables_bytes, uint8_t *slots, size_t slots_bytes, uint8_t *timers, size_t timers_bytes,
                            uint8_t *answer, size_t answer_bytes);
 
-/* Reads a line of digits, without its end, into frame. Gives the frame's length, or a number with a minus sign. */
+/** Reads a line of digits, without its end, into frame. @return the frame's length, or a number with a minus sign */
 int32_t mcx11_read_line(const uint8_t *line, size_t digits, uint8_t *frame, size_t room);
 
-/* Writes the digits of a frame or an answer into line. Gives how many, or a number with a minus sign. */
+/** Writes the digits of a frame or an answer into line. @return how many, or a number with a minus sign */
 int32_t mcx11_write_line(const uint8_t *frame, size_t length, uint8_t *line, size_t room);
 
-/* Milliseconds as tocks of per milliseconds each, for X of delay and timer. Gives the tocks, or a number with a minus sign. */
+/** Milliseconds as tocks of per milliseconds each. @return the tocks, for MCX11_ONCE, or a number with a minus sign */
 int32_t mcx11_milliseconds(uint16_t ms, uint16_t per);
 
-/* Begins anew with this configuration. Gives the number, 0 accepted. A refused one changes the answer alone: what was begun
-   before goes on with the next frame, and this answer names no task to switch to. The bytes lie outside *m; after the call
-   their place may be used again. */
+/* ---- The trace hook */
+
+/** What was traced. */
+enum mcx11_traced {
+    MCX11_TRACED_CONFIGURATION,
+    MCX11_TRACED_FRAME
+};
+
+#ifdef MCX11_TRACE
+/**
+ * A function of the host's, which MCX11_TRACE names before this header is included. It is called behind every call with the
+ * bytes that were fed and the number; m holds the answer, with 11 an older one. It makes no call on m itself. Without
+ * MCX11_TRACE nothing is called.
+ */
+void MCX11_TRACE(const mcx11_t *m, enum mcx11_traced what, const uint8_t *bytes, size_t length, uint8_t number);
+#endif
+
+/* ---- Any frame */
+
+/**
+ * Begins anew with this configuration, whatever *m held. A refused one changes the answer alone: what was begun before goes on
+ * with the next frame, and this answer names no task to switch to.
+ * @param m      the lent memory
+ * @param bytes  the configuration frame, outside *m; after the call their place may be used again
+ * @param length how many bytes
+ * @return the number, 0 accepted
+ */
 static inline uint8_t mcx11_configure(mcx11_t *m, const uint8_t *bytes, size_t length)
 {
-    return mcx11_configure_blocks(bytes, length, m->config, sizeof m->config, m->tables, sizeof m->tables, m->slots,
-                                  sizeof m->slots, m->timers, sizeof m->timers, m->answer, sizeof m->answer);
+    const uint8_t number = mcx11_configure_blocks(bytes, length, m->config, sizeof m->config, m->tables, sizeof m->tables,
+                                                  m->slots, sizeof m->slots, m->timers, sizeof m->timers, m->answer,
+                                                  sizeof m->answer);
+#ifdef MCX11_TRACE
+    MCX11_TRACE(m, MCX11_TRACED_CONFIGURATION, bytes, length, number);
+#endif
+    return number;
 }
 
-/* Carries out a frame. Gives the number, 0 accepted. The bytes as above. */
+/** Carries out a frame; its bytes as above. @return the number, 0 accepted */
 static inline uint8_t mcx11_frame(mcx11_t *m, const uint8_t *bytes, size_t length)
 {
-    return mcx11_frame_blocks(bytes, length, m->config, sizeof m->config, m->tables, sizeof m->tables, m->slots,
-                              sizeof m->slots, m->timers, sizeof m->timers, m->answer, sizeof m->answer);
+    const uint8_t number = mcx11_frame_blocks(bytes, length, m->config, sizeof m->config, m->tables, sizeof m->tables,
+                                              m->slots, sizeof m->slots, m->timers, sizeof m->timers, m->answer,
+                                              sizeof m->answer);
+#ifdef MCX11_TRACE
+    MCX11_TRACE(m, MCX11_TRACED_FRAME, bytes, length, number);
+#endif
+    return number;
 }
 
-/* The frame of five bytes: every code but enqueue, whose entry stands behind them. */
+/** The frame of five bytes: every code but enqueue, whose entry stands behind them. @return the number, 0 accepted */
 static inline uint8_t mcx11_call(mcx11_t *m, uint8_t code, uint8_t a, uint8_t b, uint16_t x)
 {
     const uint8_t bytes[5] = {code, a, b, (uint8_t)(x >> 8), (uint8_t)(x & 0xFF)};
     return mcx11_frame(m, bytes, sizeof bytes);
 }
 
-/* The answer to the last call that did not give 11. */
+/* ---- The configuration by names */
+
+/** A queue's size. */
+typedef struct mcx11_queue_t {
+    uint8_t width; /**< bytes in an entry, 1 to 16 */
+    uint8_t depth; /**< entries, 1 to 255 */
+} mcx11_queue_t;
+
+/** A configuration. Begin with all bytes 0. Both tables are indexed by the number of the task or queue; place 0 is unused. */
+typedef struct mcx11_configuration_t {
+    uint8_t tasks;                              /**< T, 1 to 126 */
+    uint8_t named_semaphores;                   /**< S; S + T + 2Q is at most 255 */
+    uint8_t queues;                             /**< Q, 0 to 32 */
+    uint8_t timers;                             /**< R, 0 to 64 */
+    uint8_t messages;                           /**< G, 0 to 64 */
+    uint8_t ticks_per_tock;                     /**< K, 1 to 255 */
+    uint16_t milliseconds_per_tock;             /**< 1 to 65,535 */
+    uint8_t idle[MCX11_MOST_TASKS + 1];         /**< of task t: 0 it starts runnable, 1 it starts idle */
+    mcx11_queue_t queue[MCX11_MOST_QUEUES + 1]; /**< of queue q; widths times depths add up to at most 4,096 */
+} mcx11_configuration_t;
+
+/**
+ * Writes the configuration frame. With too many tasks or queues it is the first eight bytes alone, which get the 3 that is due.
+ * @return how many bytes
+ */
+static inline size_t mcx11_configuration_bytes(const mcx11_configuration_t *configuration, uint8_t bytes[MCX11_FRAME_BYTES])
+{
+    const mcx11_configuration_t *c = configuration;
+    size_t length = 0, t, q;
+    bytes[length++] = c->tasks;
+    bytes[length++] = c->named_semaphores;
+    bytes[length++] = c->queues;
+    bytes[length++] = c->timers;
+    bytes[length++] = c->messages;
+    bytes[length++] = c->ticks_per_tock;
+    bytes[length++] = (uint8_t)(c->milliseconds_per_tock >> 8);
+    bytes[length++] = (uint8_t)(c->milliseconds_per_tock & 0xFF);
+    if (c->tasks > MCX11_MOST_TASKS || c->queues > MCX11_MOST_QUEUES)
+        return length;
+    for (t = 1; t <= c->tasks; t++)
+        bytes[length++] = c->idle[t];
+    for (q = 1; q <= c->queues; q++) {
+        bytes[length++] = c->queue[q].width;
+        bytes[length++] = c->queue[q].depth;
+    }
+    return length;
+}
+
+/** Begins anew with this configuration. @return the number, 0 accepted. @see mcx11_configure */
+static inline uint8_t mcx11_configure_from(mcx11_t *m, const mcx11_configuration_t *configuration)
+{
+    uint8_t bytes[MCX11_FRAME_BYTES];
+    const size_t length = mcx11_configuration_bytes(configuration, bytes);
+    return mcx11_configure(m, bytes, length);
+}
+
+/* ---- The services by names. Each gives the number, 0 accepted; docs/FRAMES.md says what they do. */
+
+#define MCX11_SELF ((uint8_t)0) /**< as a task: the running task */
+#define MCX11_ANY ((uint8_t)0)  /**< as the sender in receive: whoever it is */
+#define MCX11_OWN ((uint8_t)0)  /**< as a semaphore: the running task's own; in delay, timer and purge that of the task named */
+#define MCX11_NONE ((uint8_t)0) /**< as the semaphore of an interrupt exit: none is signalled */
+
+/** The tock value of n tocks once, 1 to 32,767. Any other n gives 0, and the call is refused with 9; so does what
+ * mcx11_milliseconds refused. */
+static inline uint16_t mcx11_once(int32_t n) { return n >= 1 && n <= 32767 ? (uint16_t)n : (uint16_t)0; }
+
+/** The tock value of every n tocks, 1 to 32,768. Any other n gives 0, as above. */
+static inline uint16_t mcx11_every(int32_t n) { return n >= 1 && n <= 32768 ? (uint16_t)(65536 - n) : (uint16_t)0; }
+
+#define MCX11_ONCE(n) mcx11_once(n)   /**< for delay and timer: n tocks once */
+#define MCX11_EVERY(n) mcx11_every(n) /**< for delay and timer: every n tocks */
+
+/** The running task waits until the semaphore is signalled; if it is DONE, not at all. */
+static inline uint8_t mcx11_wait(mcx11_t *m, uint8_t semaphore) { return mcx11_call(m, MCX11_WAIT, 0, semaphore, 0); }
+
+/** Wakes the task that waits on the semaphore; if none does, the semaphore is DONE. */
+static inline uint8_t mcx11_signal(mcx11_t *m, uint8_t semaphore) { return mcx11_call(m, MCX11_SIGNAL, 0, semaphore, 0); }
+
+/** Makes the semaphore PENDING. */
+static inline uint8_t mcx11_pend(mcx11_t *m, uint8_t semaphore) { return mcx11_call(m, MCX11_PEND, 0, semaphore, 0); }
+
+/** Puts the message into the task's mailbox, with a semaphore to signal when it was read. */
+static inline uint8_t mcx11_send(mcx11_t *m, uint16_t message, uint8_t task, uint8_t semaphore)
+{
+    return mcx11_call(m, MCX11_SEND, task, semaphore, message);
+}
+
+/** The same, and the running task waits on the semaphore. */
+static inline uint8_t mcx11_sendw(mcx11_t *m, uint16_t message, uint8_t task, uint8_t semaphore)
+{
+    return mcx11_call(m, MCX11_SENDW, task, semaphore, message);
+}
+
+/** The running task takes a message from its mailbox, or waits for one. */
+static inline uint8_t mcx11_receive(mcx11_t *m, uint8_t sender) { return mcx11_call(m, MCX11_RECEIVE, sender, 0, 0); }
+
+/** The running task takes the oldest entry, or waits for one. */
+static inline uint8_t mcx11_dequeue(mcx11_t *m, uint8_t queue) { return mcx11_call(m, MCX11_DEQUEUE, queue, 0, 0); }
+
+/** The running task puts an entry of width bytes, or waits for room. The bytes are copied. */
+static inline uint8_t mcx11_enqueue(mcx11_t *m, uint8_t queue, const uint8_t *entry, size_t width)
+{
+    uint8_t bytes[5 + MCX11_ENTRY_BYTES] = {MCX11_ENQUEUE, 0, 0, 0, 0};
+    const size_t copied = width > MCX11_ENTRY_BYTES ? 0 : width; /* 0 is refused as any other wrong width is */
+    size_t i;
+    bytes[1] = queue;
+    for (i = 0; i < copied; i++)
+        bytes[5 + i] = entry[i];
+    return mcx11_frame(m, bytes, 5 + copied);
+}
+
+/** Ends the task's suspension. */
+static inline uint8_t mcx11_resume(mcx11_t *m, uint8_t task) { return mcx11_call(m, MCX11_RESUME, task, 0, 0); }
+
+/** Suspends the task until it is resumed or executed. */
+static inline uint8_t mcx11_suspend(mcx11_t *m, uint8_t task) { return mcx11_call(m, MCX11_SUSPEND, task, 0, 0); }
+
+/** Ends the task: it is idle, and its timers and messages are gone. */
+static inline uint8_t mcx11_terminate(mcx11_t *m, uint8_t task) { return mcx11_call(m, MCX11_TERMINATE, task, 0, 0); }
+
+/** Starts the task from its beginning. */
+static inline uint8_t mcx11_execute(mcx11_t *m, uint8_t task) { return mcx11_call(m, MCX11_EXECUTE, task, 0, 0); }
+
+/** Starts a timer, and has the task wait on the semaphore that it will signal. The tocks: MCX11_ONCE(n) or MCX11_EVERY(n). */
+static inline uint8_t mcx11_delay(mcx11_t *m, uint8_t task, uint8_t semaphore, uint16_t tocks)
+{
+    return mcx11_call(m, MCX11_DELAY, task, semaphore, tocks);
+}
+
+/** Starts a timer that will signal the semaphore. The tocks: MCX11_ONCE(n) or MCX11_EVERY(n). */
+static inline uint8_t mcx11_timer(mcx11_t *m, uint8_t task, uint8_t semaphore, uint16_t tocks)
+{
+    return mcx11_call(m, MCX11_TIMER, task, semaphore, tocks);
+}
+
+/** Removes the task's timer on this semaphore, if there is one. */
+static inline uint8_t mcx11_purge(mcx11_t *m, uint8_t task, uint8_t semaphore)
+{
+    return mcx11_call(m, MCX11_PURGE, task, semaphore, 1);
+}
+
+/** Removes all of the task's timers. */
+static inline uint8_t mcx11_purge_all(mcx11_t *m, uint8_t task) { return mcx11_call(m, MCX11_PURGE, task, 0, 0); }
+
+/** The clock ticked. No service of a task. */
+static inline uint8_t mcx11_tick(mcx11_t *m) { return mcx11_call(m, MCX11_TICK, 0, 0, 0); }
+
+/** A device's interrupt ends and signals the semaphore, or none. No service of a task. */
+static inline uint8_t mcx11_interrupt_exit(mcx11_t *m, uint8_t semaphore)
+{
+    return mcx11_call(m, MCX11_INTERRUPT_EXIT, 0, semaphore, 0);
+}
+
+/* ---- The answer to the last call that did not give 11. It stands until the next call. */
+
+/** The answer's bytes. */
 static inline const uint8_t *mcx11_answer(const mcx11_t *m) { return m->answer + 1; }
 
-/* How many bytes the answer has; 0 before the first call. */
-static inline size_t mcx11_answer_length(const mcx11_t *m) { return m->answer[0]; }
+/** How many bytes the answer has, 4 to 20; 0 before the first call. */
+static inline size_t mcx11_answer_length(const mcx11_t *m) { return m->answer[0] > 20 ? 20 : m->answer[0]; }
 
-/* Of the answer: the running task, which is the one to switch to; 0 is the null task. */
+/** The running task, which is the one to switch to; 0 is the null task. */
 static inline uint8_t mcx11_running(const mcx11_t *m) { return m->answer[2]; }
 
-/* Of the answer: how often settling issued a request again. */
+/** How often settling issued a request again. */
 static inline uint8_t mcx11_reissues(const mcx11_t *m) { return m->answer[3]; }
 
-/* Of the answer: the kind of the running task's outcome, an enum mcx11_outcome_kind. */
+/** The kind of the running task's outcome, an enum mcx11_outcome_kind. */
 static inline uint8_t mcx11_outcome(const mcx11_t *m) { return m->answer[4]; }
 
-/* Of the answer: the outcome's value, and how many bytes it has. */
+/** The outcome's value. */
 static inline const uint8_t *mcx11_value(const mcx11_t *m) { return m->answer + 5; }
-static inline size_t mcx11_value_length(const mcx11_t *m) { return m->answer[0] < 4 ? 0 : m->answer[0] - (size_t)4; }
+
+/** How many bytes the value has, 0 to 16. */
+static inline size_t mcx11_value_length(const mcx11_t *m)
+{
+    return mcx11_answer_length(m) < 4 ? 0 : mcx11_answer_length(m) - 4;
+}
+
+/* ---- Names as texts; what has none is "unknown" */
+
+/** Of an enum mcx11_code: "wait", "interrupt exit". */
+static inline const char *mcx11_code_name(uint8_t code)
+{
+    static const char *const names[] = {
+        "unknown", "wait",    "signal",    "pend",    "send",  "sendw", "receive", "dequeue", "enqueue",
+        "resume",  "suspend", "terminate", "execute", "delay", "timer", "purge",   "tick",    "interrupt exit"};
+    return code <= MCX11_INTERRUPT_EXIT ? names[code] : names[0];
+}
+
+/** Of an enum mcx11_outcome_kind: "plain", "entry". */
+static inline const char *mcx11_outcome_name(uint8_t kind)
+{
+    static const char *const names[] = {"plain", "begin", "message", "entry", "refused", "semaphore", "unknown"};
+    return kind <= MCX11_OUTCOME_SEMAPHORE ? names[kind] : names[6];
+}
+
+/** Of an enum mcx11_number: "accepted", "semaphore waiting". */
+static inline const char *mcx11_number_name(uint8_t number)
+{
+    static const char *const from_0[] = {"accepted",  "line",  "length",  "configuration", "code",         "task",
+                                         "semaphore", "queue", "message", "tock value",    "milliseconds", "memory"};
+    static const char *const from_20[] = {"null task runs",    "semaphore waiting", "message in mailbox",
+                                          "all timers active", "has a timer",       "idle or waiting"};
+    if (number <= MCX11_NUMBER_MEMORY)
+        return from_0[number];
+    if (number >= MCX11_NUMBER_NULL_TASK_RUNS && number <= MCX11_NUMBER_IDLE_OR_WAITING)
+        return from_20[number - MCX11_NUMBER_NULL_TASK_RUNS];
+    return "unknown";
+}
+
+/* ==== The state, read out of the lent memory between calls. This part, to the next such line, is all of the header that knows
+   the layout of docs/MEMORY.md, but for the answer's above. What there is not (a task above T, say) gives 0 or NULL; nothing
+   outside *m is read, whatever it holds. ==== */
+
+/** A task's blocks, as bits. */
+enum mcx11_block {
+    MCX11_IDLE = 1,
+    MCX11_SUSPENDED = 2,
+    MCX11_EVENT_WAIT = 4,
+    MCX11_MESSAGE_WAIT = 8
+};
+
+#define MCX11_PENDING ((uint8_t)0) /**< a semaphore's state */
+#define MCX11_DONE ((uint8_t)255)  /**< a semaphore's state; any other but PENDING is WAITING with the task of this number */
+
+/** @cond the header's own */
+/* How many there are of each, and where their bytes begin in their blocks. */
+struct mcx11_layout_t {
+    size_t tasks, named, semaphores, queues, timers, messages;
+    size_t at_sizes, at_planes, at_semaphores, at_rings, at_messages, at_entries;
+};
+
+static inline struct mcx11_layout_t mcx11_layout(const mcx11_t *m)
+{
+    const uint8_t *c = m->config;
+    const size_t semaphores = (size_t)c[0] + c[1] + c[2] + c[2];
+    const size_t one = c[0] <= MCX11_MOST_TASKS && c[2] <= MCX11_MOST_QUEUES && c[3] <= 64 && c[4] <= 64 && semaphores <= 255;
+    struct mcx11_layout_t at; /* where the counts are no configuration's, there is nothing at all */
+    at.tasks = one * c[0];
+    at.named = one * c[1];
+    at.queues = one * c[2];
+    at.timers = one * c[3];
+    at.messages = one * c[4];
+    at.semaphores = one * semaphores;
+    at.at_sizes = 8 + at.tasks;
+    at.at_planes = 2;
+    at.at_semaphores = at.at_planes + 64 + 6 * at.tasks;
+    at.at_rings = at.at_semaphores + at.semaphores + 16 * at.tasks;
+    at.at_messages = at.at_rings + 2 * at.queues;
+    at.at_entries = at.at_messages + 4 * at.messages;
+    return at;
+}
+
+/* Four bytes of the task's timer on this semaphore, from the given place of its record on; 0 if there is none. */
+static inline uint32_t mcx11_of_timer(const mcx11_t *m, uint8_t task, uint8_t semaphore, size_t place)
+{
+    const size_t most = mcx11_layout(m).timers, count = m->timers[0] < most ? m->timers[0] : most;
+    size_t i;
+    for (i = 0; i < count; i++) {
+        const uint8_t *record = m->timers + 1 + 10 * i, *four = record + place;
+        if (record[0] == task && record[1] == semaphore)
+            return (uint32_t)four[0] << 24 | (uint32_t)four[1] << 16 | (uint32_t)four[2] << 8 | four[3];
+    }
+    return 0;
+}
+/** @endcond */
+
+/** The ticks left in the present tock. */
+static inline uint8_t mcx11_ticks_left(const mcx11_t *m)
+{
+    return m->tables[0] >= 1 && m->tables[0] <= m->config[5] ? m->tables[0] : m->config[5];
+}
+
+/** T, the tasks of the configuration; 0 before it. */
+static inline uint8_t mcx11_tasks(const mcx11_t *m) { return (uint8_t)mcx11_layout(m).tasks; }
+
+/** The number of the task's own semaphore, S + t. */
+static inline uint8_t mcx11_own_semaphore(const mcx11_t *m, uint8_t task)
+{
+    const struct mcx11_layout_t at = mcx11_layout(m);
+    return task >= 1 && task <= at.tasks ? (uint8_t)(at.named + task) : (uint8_t)0;
+}
+
+/** The task's blocks, bits of enum mcx11_block; 0 if it is runnable. */
+static inline uint8_t mcx11_blocks(const mcx11_t *m, uint8_t task)
+{
+    const struct mcx11_layout_t at = mcx11_layout(m);
+    unsigned blocks = 0;
+    size_t plane;
+    if (task < 1 || task > at.tasks) {
+        return 0;
+    }
+    for (plane = 0; plane < 4; plane++) {
+        const unsigned bits = m->tables[at.at_planes + 16 * plane + (task - 1u) / 8];
+        blocks |= (bits >> (task - 1u) % 8 & 1u) << plane;
+    }
+    return (uint8_t)blocks;
+}
+
+/** The task's slot of 16 bytes; its last entry stands in front. */
+static inline const uint8_t *mcx11_slot(const mcx11_t *m, uint8_t task)
+{
+    return task >= 1 && task <= mcx11_layout(m).tasks ? m->slots + 16 * ((size_t)task - 1) : NULL;
+}
+
+/** The semaphore's state: MCX11_PENDING, MCX11_DONE, or the number of the task that waits. Queue q has S + T + 2q - 1 and the
+ * next, not-empty and not-full. */
+static inline uint8_t mcx11_semaphore(const mcx11_t *m, uint8_t semaphore)
+{
+    const struct mcx11_layout_t at = mcx11_layout(m);
+    const uint8_t state = semaphore >= 1 && semaphore <= at.semaphores ? m->tables[at.at_semaphores + semaphore - 1] : 0;
+    return state <= at.tasks ? state : MCX11_DONE;
+}
+
+/** How many messages lie in the task's mailbox. */
+static inline uint8_t mcx11_mailbox_count(const mcx11_t *m, uint8_t task)
+{
+    const struct mcx11_layout_t at = mcx11_layout(m);
+    const size_t lie = m->tables[1] < at.messages ? m->tables[1] : at.messages;
+    uint8_t count = 0;
+    size_t i;
+    for (i = 0; i < lie; i++)
+        if (task >= 1 && m->tables[at.at_messages + 4 * i] == task)
+            count++;
+    return count;
+}
+
+/** The width and the depth of the queue. */
+static inline mcx11_queue_t mcx11_queue_size(const mcx11_t *m, uint8_t queue)
+{
+    const struct mcx11_layout_t at = mcx11_layout(m);
+    mcx11_queue_t size = {0, 0};
+    if (queue >= 1 && queue <= at.queues) {
+        size.width = m->config[at.at_sizes + 2 * ((size_t)queue - 1)];
+        size.depth = m->config[at.at_sizes + 2 * ((size_t)queue - 1) + 1];
+    }
+    return size;
+}
+
+/** How many entries the queue holds. */
+static inline uint8_t mcx11_queue_count(const mcx11_t *m, uint8_t queue)
+{
+    const struct mcx11_layout_t at = mcx11_layout(m);
+    const uint8_t depth = mcx11_queue_size(m, queue).depth;
+    const uint8_t held = depth == 0 ? 0 : m->tables[at.at_rings + 2 * ((size_t)queue - 1) + 1];
+    return held < depth ? held : depth;
+}
+
+/** An entry that the queue holds, width bytes: 0 is the oldest. */
+static inline const uint8_t *mcx11_queue_entry(const mcx11_t *m, uint8_t queue, uint8_t turn)
+{
+    const struct mcx11_layout_t at = mcx11_layout(m);
+    const mcx11_queue_t size = mcx11_queue_size(m, queue);
+    size_t from = at.at_entries, oldest;
+    uint8_t q;
+    if (turn >= mcx11_queue_count(m, queue))
+        return NULL;
+    for (q = 1; q < queue; q++)
+        from += (size_t)mcx11_queue_size(m, q).width * mcx11_queue_size(m, q).depth;
+    oldest = m->tables[at.at_rings + 2 * ((size_t)queue - 1)];
+    from += ((oldest < size.depth ? oldest : 0) + turn) % size.depth * size.width;
+    return from + size.width <= sizeof m->tables ? m->tables + from : NULL;
+}
+
+/** How many timers run. */
+static inline uint8_t mcx11_timer_count(const mcx11_t *m)
+{
+    const size_t most = mcx11_layout(m).timers;
+    return m->timers[0] < most ? m->timers[0] : (uint8_t)most;
+}
+
+/** The tocks until the task's timer on this semaphore is due, as both are numbered (not 0); 0 if there is none. */
+static inline uint32_t mcx11_tocks_left(const mcx11_t *m, uint8_t task, uint8_t semaphore)
+{
+    return mcx11_of_timer(m, task, semaphore, 2);
+}
+
+/** The period of the task's timer on this semaphore; 0 if it is a one-shot, or there is none. */
+static inline uint32_t mcx11_period(const mcx11_t *m, uint8_t task, uint8_t semaphore)
+{
+    return mcx11_of_timer(m, task, semaphore, 6);
+}
+
+/* ==== The end of the part that knows the layout ==== */
 
 #ifdef __cplusplus
 }

@@ -1,7 +1,6 @@
 //! Nanoseconds and instructions a frame.
 
 use std::fs;
-use std::path::Path;
 use std::process::Command;
 use std::time::Instant;
 
@@ -66,12 +65,13 @@ pub struct Counted {
 
 /// By callgrind, with the frames less without them. None where valgrind is missing.
 pub fn instructions(session: &Session, index: usize) -> Option<Counted> {
-    let file = Path::new(env!("CARGO_MANIFEST_DIR")).join("target").join(format!("session-{index}.txt"));
-    fs::write(&file, session.lines()).expect("a file in bench/target/");
+    let program = std::env::current_exe().expect("a name");
+    let file = program.with_file_name(format!("session-{index}.txt"));
+    fs::write(&file, session.lines()).expect("a file beside the program");
     let count = |who: &str, frames: &str| {
         let output = Command::new("valgrind")
             .args(["--tool=callgrind", "--callgrind-out-file=/dev/null"])
-            .arg(std::env::current_exe().expect("a name"))
+            .arg(&program)
             .args([who, file.to_str().expect("a name"), &session.before.len().to_string(), frames])
             .output()
             .ok()?;

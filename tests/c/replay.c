@@ -1,5 +1,5 @@
-/* Lines of a session from standard input, answers to standard output, through every function of host/mcx11.h.
-   Valid as C and as C++. Exit status 1 where two functions of the header disagree. */
+/* Lines of a session from standard input, answers to standard output, through the functions of host/mcx11.h that take frames and
+   read answers. Valid as C and as C++. Exit status 1 where two of them disagree. */
 #include "mcx11.h"
 #include "mcx11.h" /* a second time does no harm */
 

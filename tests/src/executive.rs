@@ -11,6 +11,7 @@ use crate::queues::Queues;
 use crate::semaphore::Semaphore;
 use crate::tasks::Tasks;
 use crate::timers::Timers;
+use crate::trail::Notes;
 
 #[derive(Clone, Debug)]
 pub struct Executive {
@@ -52,11 +53,16 @@ impl Executive {
     }
 
     pub fn frame(&mut self, frame: &[u8]) -> Answer {
+        self.frame_noting(frame, &mut ())
+    }
+
+    /// Tells what the frame does on its way.
+    pub fn frame_noting(&mut self, frame: &[u8], notes: &mut impl Notes) -> Answer {
         match command::read(self, frame) {
             Err(refusal) => self.answer(refusal, 0),
             Ok(command) => {
-                self.carry_out(command);
-                let reissues = self.settle();
+                self.carry_out(command, notes);
+                let reissues = self.settle(notes);
                 self.answer(0, reissues)
             }
         }

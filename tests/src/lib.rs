@@ -19,6 +19,7 @@ mod settling;
 pub mod tasks;
 pub mod timers;
 pub mod tocks;
+pub mod trail;
 
 pub mod coverage;
 pub mod generator;

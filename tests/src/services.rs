@@ -5,37 +5,38 @@ use crate::executive::Executive;
 use crate::semaphore::Semaphore;
 use crate::tasks::{Block, Letter, Outcome, Request, SLOT_BYTES};
 use crate::timers::Start;
+use crate::trail::{Event, Notes};
 
 impl Executive {
-    pub(crate) fn carry_out(&mut self, command: Command) {
+    pub(crate) fn carry_out(&mut self, command: Command, notes: &mut impl Notes) {
         match command {
-            Command::Tick => self.tick(),
+            Command::Tick => self.tick(notes),
             Command::InterruptExit(0) => {}
             Command::InterruptExit(semaphore) => {
-                self.signal(semaphore);
+                self.signal(semaphore, notes);
             }
-            _ => self.serve(command),
+            _ => self.serve(command, notes),
         }
     }
 
     /// The services; a caller's outcome is plain unless its service says otherwise.
-    fn serve(&mut self, command: Command) {
+    fn serve(&mut self, command: Command, notes: &mut impl Notes) {
         let own = self.running();
         self.set_outcome(own, Outcome::Plain);
         match command {
             Command::Wait(semaphore) => self.wait(own, semaphore),
             Command::Signal(semaphore) => {
-                self.signal(semaphore);
+                self.signal(semaphore, notes);
             }
             Command::Pend(semaphore) => self.set_semaphore(semaphore, Semaphore::Pending),
-            Command::Send(to, letter) => self.send(own, to, letter),
+            Command::Send(to, letter) => self.send(own, to, letter, notes),
             Command::SendAndWait(to, letter) => {
-                self.send(own, to, letter);
+                self.send(own, to, letter, notes);
                 self.wait_on(own, letter.semaphore);
             }
             Command::Receive(from) => self.receive(own, from),
-            Command::Dequeue(queue) => self.dequeue(own, queue),
-            Command::Enqueue(queue, entry) => self.enqueue(own, queue, entry),
+            Command::Dequeue(queue) => self.dequeue(own, queue, notes),
+            Command::Enqueue(queue, entry) => self.enqueue(own, queue, entry, notes),
             Command::Resume(task) => self.tasks.unblock(task, Block::Suspended),
             Command::Suspend(task) => self.tasks.block(task, Block::Suspended),
             Command::Terminate(task) => self.terminate(task),
@@ -58,27 +59,34 @@ impl Executive {
     }
 
     /// Tells which task lost its event wait, or 0.
-    pub(crate) fn signal(&mut self, semaphore: u8) -> u8 {
-        let woken = self.wake(semaphore);
+    pub(crate) fn signal(&mut self, semaphore: u8, notes: &mut impl Notes) -> u8 {
+        let woken = self.wake(semaphore, notes);
         if woken == 0 {
+            if self.semaphore(semaphore) == Semaphore::Done {
+                notes.note(Event::Lost { semaphore });
+            }
             self.set_semaphore(semaphore, Semaphore::Done);
         }
         woken
     }
 
     /// As signal, but a semaphore on which nobody waits stays as it is: those of queues are never DONE.
-    fn wake(&mut self, semaphore: u8) -> u8 {
+    fn wake(&mut self, semaphore: u8, notes: &mut impl Notes) -> u8 {
         let Semaphore::Waiting(task) = self.semaphore(semaphore) else {
             return 0;
         };
         self.set_semaphore(semaphore, Semaphore::Pending);
         self.tasks.get_mut(task).waits_on = 0;
         self.tasks.unblock(task, Block::EventWait);
+        notes.note(Event::Woken { task, semaphore });
         task
     }
 
-    fn send(&mut self, own: u8, to: u8, letter: Letter) {
+    fn send(&mut self, own: u8, to: u8, letter: Letter, notes: &mut impl Notes) {
         self.mailboxes.insert(to, letter);
+        if self.tasks.get(to).blocks().has(Block::MessageWait) {
+            notes.note(Event::Woken { task: to, semaphore: 0 });
+        }
         self.tasks.unblock(to, Block::MessageWait);
         self.set_outcome(own, Outcome::Semaphore(letter.semaphore));
     }
@@ -93,7 +101,7 @@ impl Executive {
         }
     }
 
-    pub(crate) fn dequeue(&mut self, own: u8, queue: u8) {
+    pub(crate) fn dequeue(&mut self, own: u8, queue: u8, notes: &mut impl Notes) {
         if self.queues.is_empty(queue) {
             self.tasks.get_mut(own).request = Request::Dequeue(queue);
             self.wait_on(own, self.configuration.not_empty(queue));
@@ -105,10 +113,10 @@ impl Executive {
         if let Some(histories) = &mut self.history {
             histories[usize::from(queue) - 1].copied.push(task.slot[..width].to_vec());
         }
-        self.wake(self.configuration.not_full(queue));
+        self.wake(self.configuration.not_full(queue), notes);
     }
 
-    pub(crate) fn enqueue(&mut self, own: u8, queue: u8, entry: &[u8]) {
+    pub(crate) fn enqueue(&mut self, own: u8, queue: u8, entry: &[u8], notes: &mut impl Notes) {
         if self.queues.is_full(queue) {
             let mut waiting = [0; SLOT_BYTES];
             waiting[..entry.len()].copy_from_slice(entry);
@@ -120,7 +128,7 @@ impl Executive {
         if let Some(histories) = &mut self.history {
             histories[usize::from(queue) - 1].put.push(entry.to_vec());
         }
-        self.wake(self.configuration.not_empty(queue));
+        self.wake(self.configuration.not_empty(queue), notes);
     }
 
     fn terminate(&mut self, task: u8) {
@@ -158,13 +166,14 @@ impl Executive {
         self.timers.start(start, self.clock.tocks());
     }
 
-    fn tick(&mut self) {
+    fn tick(&mut self, notes: &mut impl Notes) {
         if !self.clock.tick() {
             return;
         }
         while let Some(timer) = self.timers.take_due(self.clock.tocks()) {
+            notes.note(Event::Due { task: timer.task, semaphore: timer.semaphore });
             if (1..=self.configuration.semaphores()).contains(&timer.semaphore) {
-                self.signal(timer.semaphore);
+                self.signal(timer.semaphore, notes);
             }
         }
     }

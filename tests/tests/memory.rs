@@ -155,44 +155,24 @@ fn no_accepted_configuration_needs_more() {
 
 // ---- the sources
 
-fn sources() -> Vec<PathBuf> {
-    let mut found = Vec::new();
-    for crate_folder in fs::read_dir(repository().join("crates")).expect("crates") {
-        let Ok(files) = fs::read_dir(crate_folder.unwrap().path().join("src")) else { continue };
-        found.extend(files.map(|file| file.unwrap().path()).filter(|path| path.extension().is_some_and(|e| e == "rt")));
-    }
-    assert!(found.len() > 10, "Rattle sources: {found:?}");
-    found
-}
-
-/// The numbers that stand right before or right behind a text.
-fn numbers_beside(source: &str, before: &str, behind: &str) -> Vec<usize> {
-    let left = source.match_indices(before).filter(|_| !before.is_empty()).map(|(at, _)| {
-        let rest = &source[..at];
-        &rest[rest.trim_end_matches(|c: char| c.is_ascii_digit()).len()..]
-    });
-    let right = source.match_indices(behind).filter(|_| !behind.is_empty()).map(|(at, found)| {
-        let rest = &source[at + found.len()..];
-        &rest[..rest.len() - rest.trim_start_matches(|c: char| c.is_ascii_digit()).len()]
-    });
-    left.chain(right).filter_map(|digits| digits.parse().ok()).collect()
-}
-
 #[test]
 fn the_sizes_are_those_of_the_sources() {
+    let full = sides("crates/mcx11/specs/Sizes.antt", "Full", " ≤ ");
     for (block, bytes, _) in sizes() {
-        let mut seen = 0;
-        for path in sources() {
-            let source = text(&path);
-            let asked = numbers_beside(&source, &format!(" ≤ length (now {block})"), &format!("{block}.len() < "));
-            seen += asked.len();
-            assert!(asked.iter().all(|size| *size == bytes), "{block} {bytes}: {} has {asked:?}", path.display());
-        }
-        assert!(seen > 0, "no source asks for a size of {block}");
+        let asked = full.iter().find(|(_, right)| *right == format!("length (m .{block})"));
+        let (size, _) = asked.unwrap_or_else(|| panic!("Full asks no size of {block}"));
+        assert_eq!(size.parse(), Ok(bytes), "{block}");
     }
 }
 
-/// Both sides of each line such as `pub records : s .recordat ≡ 2 + s .tasks` in a record of the specifications.
+/// The number that a definition of the specifications is.
+fn number(file: &str, name: &str) -> usize {
+    let source = text(file);
+    let line = source.lines().find_map(|line| line.strip_prefix(&format!("{name} = ")));
+    line.and_then(|number| number.parse().ok()).unwrap_or_else(|| panic!("{file}: {name} is no number"))
+}
+
+/// Both sides of each line such as `pub waiting : s .waitingat ≡ s .semaphoreat + s .semaphores` in a record of the specifications.
 fn sides(file: &str, record: &str, sign: &str) -> Vec<(String, String)> {
     let source = text(file);
     let from = source.find(&format!("pub record {record} ")).unwrap_or_else(|| panic!("{file} has no {record}"));
@@ -233,11 +213,12 @@ fn the_regions_are_those_of_the_layout() {
     let starts = ["recordat", "semaphoreat", "waitingat", "ringat", "messageat", "bodyat"];
     let regions = table(&["Region", "Bytes"]);
     let named: Vec<_> = regions.iter().map(|row| row[0].as_str()).collect();
-    assert_eq!(named, ["ticks", "count", "blocks", "records", "semaphores", "waiting", "rings", "messages", "entries"]);
+    assert_eq!(named, ["ticks", "count", "planes", "records", "semaphores", "waiting", "rings", "messages", "entries"]);
 
     for configuration in some_configurations() {
         let numbers = Numbers::of(&configuration);
         let mut fields = fields(numbers);
+        fields.insert("recordsAt".to_string(), number("crates/tables/specs/Layout.antt", "recordsAt"));
         for (field, sum) in &laid {
             let value = evaluate(sum, |name| fields[name]);
             fields.insert(field.clone(), value);
@@ -336,11 +317,11 @@ fn assert_shown(memory: &HashMap<&str, Bytes>, configuration: &Configuration, it
     assert_eq!(configuration.ticks_per_tock - left, items.ticks);
 
     for (index, task) in items.tasks.iter().enumerate() {
-        let blocks = tables.at(starts["blocks"] + index);
-        for (bit, block) in
+        for (plane, block) in
             [Block::Idle, Block::Suspended, Block::EventWait, Block::MessageWait].into_iter().enumerate()
         {
-            assert_eq!(blocks >> bit & 1 == 1, task.blocks.has(block), "task {}", index + 1);
+            let bits = tables.at(starts["planes"] + 16 * plane + index / 8);
+            assert_eq!(bits >> (index % 8) & 1 == 1, task.blocks.has(block), "task {}", index + 1);
         }
         let slot = slots.some(16 * index, 16);
         assert_eq!(slot, task.slot);

@@ -138,7 +138,8 @@ fn everything_that_the_sheet_cites_is_there() {
     // and the page was read: statements, edits and a command
     let parts = parts(&sheet);
     let items: Vec<&str> = parts.iter().flat_map(|part| quoted(part)).collect();
-    for some in ["demand-3", "Same.answers", "mcx11/specs/Whole.antt", "clock/must-fail/ticks_ignored.edit", "./test"] {
+    for some in ["demand-3", "Same.answers", "theorems/specs/Same.antt", "clock/must-fail/ticks_ignored.edit", "./test"]
+    {
         assert!(items.contains(&some), "docs/SHEET.md does not cite {some}");
     }
 }
@@ -146,18 +147,18 @@ fn everything_that_the_sheet_cites_is_there() {
 #[test]
 fn a_wrong_page_is_found_out() {
     let pages = [
-        ("`demand-3` in `mcx11/proofs/Whole.antt`; `rt check ledger`, `./test` and [a link](SHEET.md)", None),
-        ("- `demand-3`, `configures`\n  in `mcx11/proofs/Whole.antt`", None),
-        ("`demand-4` in `mcx11/proofs/Whole.antt`", Some("demand-4: not in")),
-        ("`demand-3` in `mcx11/specs/Whole.antt`", Some("demand-3: not in")),
-        ("`by-contract` in `mcx11/proofs/Whole.antt`", Some("by-contract: not in")),
-        ("`Same.number` in `mcx11/specs/Whole.antt`", Some("Same.number: not in")),
-        ("`Sam.answers` in `mcx11/specs/Whole.antt`", Some("Sam.answers: not in")),
-        ("`demand-3` in `mcx11/proofs/Hole.antt`", Some("no file")),
-        ("`demand-3`\n\n`Same` in `mcx11/specs/Whole.antt`", Some("demand-3: a name without a place")),
-        ("- `demand-3`\n- `Same` in `mcx11/specs/Whole.antt`", Some("demand-3: a name without a place")),
-        ("1. `demand-3`\n2. `Same` in `mcx11/specs/Whole.antt`", Some("demand-3: a name without a place")),
-        ("in `mcx11/specs/Whole.antt`", Some("a place without a name")),
+        ("`demand-3` in `theorems/proofs/Demand3.antt`; `rt check ledger`, `./test` and [a link](SHEET.md)", None),
+        ("- `demand-3`, `configures`\n  in `theorems/proofs/Demand3.antt`", None),
+        ("`demand-4` in `theorems/proofs/Demand3.antt`", Some("demand-4: not in")),
+        ("`demand-3` in `theorems/specs/Same.antt`", Some("demand-3: not in")),
+        ("`by-contract` in `theorems/proofs/Demand3.antt`", Some("by-contract: not in")),
+        ("`Same.number` in `theorems/specs/Same.antt`", Some("Same.number: not in")),
+        ("`Sam.answers` in `theorems/specs/Same.antt`", Some("Sam.answers: not in")),
+        ("`demand-3` in `theorems/proofs/Hole.antt`", Some("no file")),
+        ("`demand-3`\n\n`Same` in `theorems/specs/Same.antt`", Some("demand-3: a name without a place")),
+        ("- `demand-3`\n- `Same` in `theorems/specs/Same.antt`", Some("demand-3: a name without a place")),
+        ("1. `demand-3`\n2. `Same` in `theorems/specs/Same.antt`", Some("demand-3: a name without a place")),
+        ("in `theorems/specs/Same.antt`", Some("a place without a name")),
         ("`clock/must-fail/ticks_ignore.edit`", Some("no edit")),
         ("`clock/src/ticks_ignored.edit`", Some("no edit")),
         ("`./tests`", Some("no command")),

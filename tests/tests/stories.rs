@@ -20,7 +20,7 @@ fn stories() -> BTreeSet<String> {
     let names = files.map(|file| file.unwrap().file_name().into_string().unwrap());
     let story = |name: String| {
         let (story, ending) = name.rsplit_once('.').unwrap_or((&name, ""));
-        assert!(["session", "answers", "md"].contains(&ending), "examples/{name} belongs to no story");
+        assert!(["session", "answers", "md", "names"].contains(&ending), "examples/{name} belongs to no story");
         story.to_string()
     };
     names.filter(|name| name != "README.md").map(story).collect()
@@ -61,7 +61,7 @@ fn each_page_has_every_frame_and_answer_in_order() {
         let (frames, answers) = (text(&format!("{story}.session")), text(&format!("{story}.answers")));
         let lines = frames.lines().zip(answers.lines());
         let lines: Vec<_> = lines.map(|(frame, answer)| (frame.to_string(), answer.to_string())).collect();
-        assert!(lines.len() > 1 && frames.lines().count() == answers.lines().count(), "{story}");
+        assert!(!lines.is_empty() && frames.lines().count() == answers.lines().count(), "{story}");
         assert_eq!(rows(&text(&format!("{story}.md"))), lines, "{story}");
     }
 }

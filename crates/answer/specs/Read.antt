@@ -3,7 +3,7 @@ use mathlib.Core.Path.{_≡_, refl, sym, subst}
 use mathlib.Core.List.{List}
 use Prim.Native.Nat.{ℕ, zero, suc, _+_, _-_, _≤_}
 use native.Mathlib.Omega.{arith}
-use lib.ListN.{length, getD, drop, length-append, length-take, length-drop}
+use lib.ListN.{length, getD, drop, length-take}
 use lib.Seq.{take-at}
 use Rattle.rows.specs.Splice.{cut}
 use Rattle.rows.specs.Rows.{rowAt}
@@ -28,10 +28,6 @@ module _ (a old : List ℕ) where
   pub read-answer : cut (written a old) 1 (1 + length a) ≡ a
   unfolding written
   read-answer = let e : 1 + length a - 1 ≡ length a = omega arith in rw e (take-at a (drop (suc (length a)) old) (length a) refl)
-
-  pub written-length : suc (length a) ≤ length old → length (written a old) ≡ length old
-  unfolding written
-  written-length h = simp (length-append, length-drop) (omega arith)
 
 -- 1 to 17 bytes show an outcome
 abbrev Short : List ℕ → Type 0

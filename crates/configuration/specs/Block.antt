@@ -9,7 +9,7 @@ use lib.ListN.{length, take, drop}
 use lib.Seq.{getD-take, take-nil, take-take, take-all}
 use Rattle.rows.specs.Splice.{cut}
 use Rattle.ledger.specs.Lists.{within, byte, word, sum, all}
-use Rattle.ledger.specs.Config.{Shape, Config, shapesIn, configIn, goodHead, goodRest}
+use Rattle.ledger.specs.Config.{Shape, Config, Limits, shapesIn, configIn, goodHead, goodRest}
 
 unfoldable pub front : List ℕ → List ℕ
 front g = take (8 + byte 0 g + 2 * byte 2 g) g
@@ -26,14 +26,14 @@ shaped s = within 1 16 (s .width) && within 1 255 (s .depth)
 abbrev pub product : Shape → ℕ
 product s = s .width * s .depth
 
-unfoldable pub goodShapes : List Shape → Bool
-goodShapes l = all shaped l && leb (sum (map product l)) 4096
+unfoldable pub goodShapes : Limits → List Shape → Bool
+goodShapes m l = all shaped l && leb (sum (map product l)) (m .bytes)
 
-unfoldable pub goodQueues : Config → Bool
-goodQueues c = goodShapes (c .shapes)
+unfoldable pub goodQueues : Limits → Config → Bool
+goodQueues m c = goodShapes m (c .shapes)
 
-unfoldable pub rule : Config → Bool
-rule c = goodHead c && goodQueues c
+unfoldable pub rule : Limits → Config → Bool
+rule m c = goodHead m c && goodQueues m c
 
 pub and-no : (a : Bool) → (a && false) ≡ false
 and-no true = refl
@@ -43,9 +43,9 @@ and-assoc : (a b c : Bool) → (a && b && c) ≡ (a && (b && c))
 and-assoc true b c = refl
 and-assoc false b c = refl
 
-pub rest-halves : (c : Config) → goodRest c ≡ (all (λ s. leb s 1) (c .states) && goodQueues c)
+pub rest-halves : (m : Limits) (c : Config) → goodRest m c ≡ (all (λ s. leb s 1) (c .states) && goodQueues m c)
 unfolding goodRest goodQueues goodShapes
-rest-halves c = and-assoc (all (λ s. leb s 1) (c .states)) (all shaped (c .shapes)) (leb (sum (map product (c .shapes))) 4096)
+rest-halves m c = and-assoc (all (λ s. leb s 1) (c .states)) (all shaped (c .shapes)) (leb (sum (map product (c .shapes))) (m .bytes))
 
 -- ---- where its parts lie
 unfoldable pub read : List ℕ → Config

@@ -7,7 +7,7 @@ use native.Mathlib.Omega.{arith}
 use lib.ListN.{length}
 use borrow.Author.Tests.{leb-true}
 use Rattle.ledger.specs.Lists.{sum, all}
-use Rattle.ledger.specs.Config.{Config, goodHead}
+use Rattle.ledger.specs.Config.{Config, Limits, goodHead}
 use Rattle.ledger.specs.Services.{shape}
 use Rattle.ledger.specs.Theorems.Checks.{and-left, and-right, at-all}
 use Rattle.tables.specs.declared.shape.Shape.{Shape}
@@ -16,6 +16,7 @@ use Rattle.tables.specs.Shows.{bytesOf, Of}
 use Rattle.configuration.specs.declared.Lent.{Lent}
 use Rattle.configuration.specs.declared.Lent.the-variants.{Bad, Good}
 use Rattle.configuration.specs.Block.{shaped, product, goodShapes, goodQueues, rule}
+use Rattle.configuration.specs.Limits.{Made}
 use Rattle.configuration.specs.Head.{Head, head-says}
 use Rattle.configuration.specs.Room.{Sized, sized}
 
@@ -38,16 +39,16 @@ laidOut t s q r g k n =
       end = recordsAt + 6 * t + (s + t + 2 * q) + 16 * t + 2 * q + 4 * g + n;
     }
 
-pub laid-out : (t s q r g k ms n : ℕ) → Head t s q r g k ms → n ≤ 4096 → Laid (laidOut t s q r g k n)
-laid-out t s q r g k ms n h m =
+pub laid-out : (m : Limits) → Made m → (t s q r g k ms n : ℕ) → Head m t s q r g k ms → n ≤ m .bytes → Laid (laidOut t s q r g k n)
+laid-out m made t s q r g k ms n h b =
     record {
       some = h .some;
-      few = h .few;
+      few = omega (arith, h .few, made .tasks);
       semaphores = refl;
       sum = h .sum;
-      queues = h .queues;
-      timers = h .timers;
-      messages = h .messages;
+      queues = omega (arith, h .queues, made .queues);
+      timers = omega (arith, h .timers, made .timers);
+      messages = omega (arith, h .messages, made .messages);
       ticks = h .ticks;
       tocks = h .tocks;
       records = refl;
@@ -57,30 +58,30 @@ laid-out t s q r g k ms n h m =
       mail = refl;
       bodies = refl;
       after = omega arith;
-      whole = omega arith;
+      whole = omega (arith, b, made .bytes);
     }
 
 unfoldable pub shapeOf : Config → Shape
 shapeOf c = laidOut (c .T) (c .S) (c .Q) (c .R) (c .G) (c .K) (sum (map product (c .shapes)))
 
 -- what a block is
-abbrev pub Lends : Config → Lent → Type 0
-Lends c Bad = rule c ≡ false
-Lends c (Good s) = (rule c ≡ true) × Of c s
+abbrev pub Lends : Limits → Config → Lent → Type 0
+Lends m c Bad = rule m c ≡ false
+Lends m c (Good s) = (rule m c ≡ true) × Of c s
 
 -- ---- the shape of a configuration that keeps the rule
-module _ (c : Config) (h : rule c ≡ true) where
-  pub rule-head : Head (c .T) (c .S) (c .Q) (c .R) (c .G) (c .K) (c .ms)
+module _ (m : Limits) (made : Made m) (c : Config) (h : rule m c ≡ true) where
+  pub rule-head : Head m (c .T) (c .S) (c .Q) (c .R) (c .G) (c .K) (c .ms)
   unfolding rule goodHead
-  rule-head = head-says (c .T) (c .S) (c .Q) (c .R) (c .G) (c .K) (c .ms) (and-left (goodHead c) (goodQueues c) h)
+  rule-head = head-says m (c .T) (c .S) (c .Q) (c .R) (c .G) (c .K) (c .ms) (and-left (goodHead m c) (goodQueues m c) h)
 
   rule-shaped : all shaped (c .shapes) ≡ true
   unfolding rule goodQueues goodShapes
-  rule-shaped = and-left _ _ (and-right (goodHead c) (goodQueues c) h)
+  rule-shaped = and-left _ _ (and-right (goodHead m c) (goodQueues m c) h)
 
-  pub rule-room : sum (map product (c .shapes)) ≤ 4096
+  pub rule-room : sum (map product (c .shapes)) ≤ m .bytes
   unfolding rule goodQueues goodShapes
-  rule-room = leb-true (sum (map product (c .shapes))) 4096 (and-right (all shaped (c .shapes)) _ (and-right (goodHead c) (goodQueues c) h))
+  rule-room = leb-true (sum (map product (c .shapes))) (m .bytes) (and-right (all shaped (c .shapes)) _ (and-right (goodHead m c) (goodQueues m c) h))
 
   module _ (n : length (c .shapes) ≡ c .Q) where
     rule-sized : (q : ℕ) → 1 ≤ q → q ≤ c .Q → Sized (shape c q .width) (shape c q .depth)
@@ -94,7 +95,7 @@ module _ (c : Config) (h : rule c ≡ true) where
     of-shape =
         let w = rule-sized in
         record {
-          laid = laid-out (c .T) (c .S) (c .Q) (c .R) (c .G) (c .K) (c .ms) (sum (map product (c .shapes))) rule-head rule-room;
+          laid = laid-out m made (c .T) (c .S) (c .Q) (c .R) (c .G) (c .K) (c .ms) (sum (map product (c .shapes))) rule-head rule-room;
           tasks = refl;
           named = refl;
           queues = refl;
@@ -106,6 +107,10 @@ module _ (c : Config) (h : rule c ≡ true) where
           depths = λ q a b. (w q a b .deep, w q a b .shallow);
           bodies = refl;
         }
+
+-- the bytes of its frame
+abbrev pub frameBytes : Shape → ℕ
+frameBytes s = 8 + s .tasks + 2 * s .queues
 
 -- there is no other
 pub of-one : (c : Config) (s : Shape) → Of c s → s ≡ shapeOf c
@@ -131,5 +136,5 @@ of-one c s o =
     }
 
 -- the largest tables
-pub end-most : (c : Config) (s : Shape) → Of c s → s .end ≤ 7571
+pub end-most : (c : Config) (s : Shape) → Of c s → s .end ≤ 7509
 end-most c s o = let l = o .laid in omega arith

@@ -9,11 +9,12 @@ use Rattle.rows.specs.Splice.{cut}
 use Rattle.rows.specs.Laws.{length-cut}
 use Rattle.ledger.specs.Lists.{byte, word, sum}
 use Rattle.ledger.specs.Config as config
-use Rattle.ledger.specs.Config.{Config, shapesIn, goodHead}
+use Rattle.ledger.specs.Config.{Config, Limits, shapesIn, goodHead}
 use Rattle.tables.specs.declared.shape.Shape.{Shape}
 use Rattle.tables.specs.Shows.{Of}
 use Rattle.configuration.specs.declared.Lent.the-variants.{Good}
 use Rattle.configuration.specs.Block.{and-no, product, goodShapes, goodQueues, rule, read, configured, configured-is}
+use Rattle.configuration.specs.Limits.{longest, Made}
 use Rattle.configuration.specs.Head.{Head, head-says, head-read}
 use Rattle.configuration.specs.Room.{roomIn, room-good, room-bad}
 use Rattle.configuration.specs.Layout.{laidOut, shapeOf, Lends, of-shape}
@@ -25,17 +26,17 @@ shapes-length (w ∷ []) n h = absurd (omega arith)
 shapes-length (w ∷ d ∷ xs) zero h = absurd (omega arith)
 shapes-length (w ∷ d ∷ xs) (suc n) h = omega (arith, shapes-length xs n (omega arith))
 
-module _ (g : List ℕ) where
-  pub lent-head : goodHead (read g) ≡ false → rule (configured g) ≡ false
+module _ (m : Limits) (made : Made m) (g : List ℕ) where
+  pub lent-head : goodHead m (read g) ≡ false → rule m (configured g) ≡ false
   unfolding rule
-  lent-head e = ap rule (configured-is g) ∙ rw e
+  lent-head e = ap (rule m) (configured-is g) ∙ rw e
 
-  module _ (head : goodHead (read g) ≡ true) (t q : ℕ) (et : t ≡ byte 0 g) (eq : q ≡ byte 2 g) where
-    says : Head (byte 0 g) (byte 1 g) (byte 2 g) (byte 3 g) (byte 4 g) (byte 5 g) (word 6 g)
-    says = head-says (byte 0 g) (byte 1 g) (byte 2 g) (byte 3 g) (byte 4 g) (byte 5 g) (word 6 g) (sym (head-read g) ∙ head)
+  module _ (head : goodHead m (read g) ≡ true) (t q : ℕ) (et : t ≡ byte 0 g) (eq : q ≡ byte 2 g) where
+    says : Head m (byte 0 g) (byte 1 g) (byte 2 g) (byte 3 g) (byte 4 g) (byte 5 g) (word 6 g)
+    says = head-says m (byte 0 g) (byte 1 g) (byte 2 g) (byte 3 g) (byte 4 g) (byte 5 g) (word 6 g) (sym (head-read m g) ∙ head)
 
-    pub lent-fits : 8 + t + 2 * q ≤ 198
-    lent-fits = let h = says in omega arith
+    pub lent-fits : 8 + t + 2 * q ≤ longest m
+    lent-fits = let h = says in omega (arith, h .few, h .queues)
 
     abbrev part : List ℕ
     part = cut g (8 + t) (8 + t + 2 * q)
@@ -44,23 +45,23 @@ module _ (g : List ℕ) where
     unfolding read
     shapes-are = rw (et, eq)
 
-    pub lent-room : 4096 < roomIn 0 part → rule (configured g) ≡ false
+    pub lent-room : m .bytes < roomIn part → rule m (configured g) ≡ false
     unfolding rule goodQueues
-    lent-room h = ap rule (configured-is g) ∙ ap (λ (b : Bool). goodHead (read g) && b) (ap goodShapes shapes-are ∙ room-bad part h) ∙ and-no (goodHead (read g))
+    lent-room h = ap (rule m) (configured-is g) ∙ ap (λ (b : Bool). goodHead m (read g) && b) (ap (goodShapes m) shapes-are ∙ room-bad m (made .bytes) part h) ∙ and-no (goodHead m (read g))
 
-    module _ (long : 198 ≤ length g) (n : ℕ) (en : n ≡ roomIn 0 part) (h : n ≤ 4096) where
-      keeps : rule (read g) ≡ true
+    module _ (long : longest m ≤ length g) (n : ℕ) (en : n ≡ roomIn part) (h : n ≤ m .bytes) where
+      keeps : rule m (read g) ≡ true
       unfolding rule goodQueues
-      keeps = rw head (ap goodShapes shapes-are ∙ room-good part (omega arith) .0)
+      keeps = rw head (ap (goodShapes m) shapes-are ∙ room-good m (made .bytes) part (omega arith) .0)
 
       many : length (read g .shapes) ≡ read g .Q
       unfolding read
       many = ap length shapes-are ∙ shapes-length part (byte 2 g) (length-cut g (8 + t) (8 + t + 2 * q) (omega (arith, lent-fits)) ∙ omega arith)
 
-      pub lent-good : (s : Shape) → s ≡ laidOut (byte 0 g) (byte 1 g) (byte 2 g) (byte 3 g) (byte 4 g) (byte 5 g) n → Lends (configured g) (Good s)
+      pub lent-good : (s : Shape) → s ≡ laidOut (byte 0 g) (byte 1 g) (byte 2 g) (byte 3 g) (byte 4 g) (byte 5 g) n → Lends m (configured g) (Good s)
       unfolding shapeOf read
       lent-good s es =
           let r : List config.Shape → ℕ = λ l. sum (map product l) in
-          let m : n ≡ r (read g .shapes) = en ∙ room-good part (omega arith) .1 ∙ ap r (sym shapes-are) in
-          let e : s ≡ shapeOf (read g) = es ∙ ap (laidOut (byte 0 g) (byte 1 g) (byte 2 g) (byte 3 g) (byte 4 g) (byte 5 g)) m in
-          (ap rule (configured-is g) ∙ keeps, subst (λ (c : Config). Of c s) (sym (configured-is g)) (subst (λ (x : Shape). Of (read g) x) (sym e) (of-shape (read g) keeps many)))
+          let b : n ≡ r (read g .shapes) = en ∙ room-good m (made .bytes) part (omega arith) .1 ∙ ap r (sym shapes-are) in
+          let e : s ≡ shapeOf (read g) = es ∙ ap (laidOut (byte 0 g) (byte 1 g) (byte 2 g) (byte 3 g) (byte 4 g) (byte 5 g)) b in
+          (ap (rule m) (configured-is g) ∙ keeps, subst (λ (c : Config). Of c s) (sym (configured-is g)) (subst (λ (x : Shape). Of (read g) x) (sym e) (of-shape m made (read g) keeps many)))

@@ -15,6 +15,7 @@ use Rattle.tables.specs.declared.shape.Shape.{Shape}
 use Rattle.tables.specs.Shows.{bytesOf, begins, Of}
 use Rattle.queues.specs.Rings.{ringOf}
 use Rattle.configuration.specs.Block.{product, read, configured, configured-is}
+use Rattle.configuration.specs.Layout.{frameBytes}
 use Rattle.configuration.specs.Room.{bytesIn}
 
 -- ---- shapes in pairs of bytes
@@ -45,7 +46,7 @@ sum-take (suc i) [] = omega arith
 sum-take (suc i) (x ∷ xs) = omega (arith, sum-take i xs)
 
 -- ---- of a block
-module _ (g : List ℕ) (s : Shape) (long : 198 ≤ length g) (o : Of (read g) s) (i : ℕ) (hi : i < s .queues) where
+module _ (g : List ℕ) (s : Shape) (long : frameBytes s ≤ length g) (o : Of (read g) s) (i : ℕ) (hi : i < s .queues) where
   t-is : s .tasks ≡ byte 0 g
   unfolding read
   t-is = o .tasks
@@ -100,14 +101,14 @@ module _ (g : List ℕ) (s : Shape) (long : 198 ≤ length g) (o : Of (read g) s
   unfolding ringOf
   ring-read = λ x. record { width = sym pair-is x .width; depth = sym pair-is x .depth; base = s .bodyat + front-bytes x }
 
-module _ (g : List ℕ) (s : Shape) (long : 198 ≤ length g) (o : Of (configured g) s) (q : ℕ) (lo : 1 ≤ q) (hi : q ≤ s .queues) where
+module _ (g : List ℕ) (s : Shape) (long : frameBytes s ≤ length g) (o : Of (configured g) s) (q : ℕ) (lo : 1 ≤ q) (hi : q ≤ s .queues) where
   abbrev at-read : Of (read g) s
   at-read = subst (λ (c : Config). Of c s) (configured-is g) o
 
   pub ring-inside : 8 + s .tasks + 2 * (q - 1) + 1 < length g
   ring-inside = ring-in g s long at-read (q - 1) (omega arith)
 
-  pub ring-base : s .bodyat + bytesIn (cut g (8 + s .tasks) (8 + s .tasks + 2 * (q - 1))) ≤ 7571
+  pub ring-base : s .bodyat + bytesIn (cut g (8 + s .tasks) (8 + s .tasks + 2 * (q - 1))) ≤ 8192
   ring-base = let l = o .laid in omega (arith, front-low g s long at-read (q - 1) (omega arith))
 
   pub ring-is : (w d n : ℕ) → w ≡ getD g (8 + s .tasks + 2 * (q - 1)) 0 → d ≡ getD g (8 + s .tasks + 2 * (q - 1) + 1) 0 → n ≡ bytesIn (cut g (8 + s .tasks) (8 + s .tasks + 2 * (q - 1)))

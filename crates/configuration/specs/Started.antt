@@ -10,7 +10,7 @@ use borrow.Rule.Slice.PartMut.{putMid}
 use Rattle.rows.specs.Splice.{cut, splice}
 use Rattle.rows.specs.Laws.{length-cut, length-splice}
 use Rattle.ledger.specs.Lists.{byte}
-use Rattle.ledger.specs.Config.{Config, configIn, configRefusal}
+use Rattle.ledger.specs.Config.{Config, configIn, configRefusal, controller}
 use Rattle.ledger.specs.Ledger.{fresh}
 use Rattle.tables.specs.declared.shape.Shape.{Shape}
 use Rattle.tables.specs.Layout.{Fits, fitting}
@@ -21,17 +21,21 @@ use Rattle.configuration.specs.Accepted.{Accepted, accepted, accepted-le
 use Rattle.configuration.specs.Fresh.{FreshTables, fresh-shows}
 use Rattle.configuration.specs.Written.{splice-in, lent-part}
 
+-- the bytes of a count and of the timers' records
+abbrev pub timersBytes : Shape → ℕ
+timersBytes s = 1 + 10 * s .timers
+
 -- the block holds the frame's configuration and keeps the rule; the memory shows the fresh ledger, in the shape that the block has
 pub record Started (f g d z w : List ℕ) : Type 0 where
   pub holds : configured g ≡ configIn f
-  pub keeps : rule (configured g) ≡ true
+  pub keeps : rule controller (configured g) ≡ true
   pub shows : (s : Shape) → Of (configIn f) s → Shows (configIn f) s (fresh (configIn f)) d z w
 
 module _ (f : List ℕ) (zero : configRefusal f ≡ 0) where
   abbrev ok : Accepted f
   ok = accepted f zero
 
-  pub frame-length : (8 ≤ length f) × (length f ≤ 198)
+  pub frame-length : 8 ≤ length f
   frame-length = accepted-length f ok
 
   module _ (s : Shape) (o : Of (configIn f) s) where
@@ -42,8 +46,8 @@ module _ (f : List ℕ) (zero : configRefusal f ≡ 0) where
     pub tasks-in : (s .tasks ≤ 126) × (8 + s .tasks ≤ length f)
     tasks-in = (o .laid .few, omega (arith, t-is, ok .whole))
 
-    pub start-fits : (n : ℕ) → 7571 ≤ n → Fits s n
-    start-fits n h = fitting (o .laid) (omega (arith, end-most (configIn f) s o))
+    pub start-fits : (n : ℕ) → s .end ≤ n → Fits s n
+    start-fits n h = fitting (o .laid) h
 
     module _ (d : List ℕ) (b : FreshTables s (byte 5 f) (cut f 8 (8 + s .tasks)) d) where
       states-are : cut f 8 (8 + s .tasks) ≡ configIn f .states
@@ -58,28 +62,25 @@ module _ (f : List ℕ) (zero : configRefusal f ≡ 0) where
           let x : FreshTables s (byte 5 f) (configIn f .states) d = subst (λ (l : List ℕ). FreshTables s (byte 5 f) l d) states-are b in
           subst (λ (v : Shape). FreshTables v (byte 5 f) (configIn f .states) d) (of-one (configIn f) s o ∙ sym (of-one (configIn f) u p)) x
 
-      module _ (z ys w : List ℕ) (ey : ys ≡ replicate (length (cut z 0 (16 * s .tasks))) 0) (ld : 7571 ≤ length d) (lz : 2016 ≤ length z) (lw : 641 ≤ length w) where
+      module _ (z ys w : List ℕ) (ey : ys ≡ replicate (length (cut z 0 (16 * s .tasks))) 0) (ld : s .end ≤ length d) (lz : 16 * s .tasks ≤ length z) (lw : timersBytes s ≤ length w) where
         abbrev z' : List ℕ
         z' = putMid 0 (16 * s .tasks - 0) z ys
 
-        few : s .tasks ≤ 126
-        few = tasks-in .0
-
         length-ys : length ys ≡ 16 * s .tasks - 0
-        length-ys = ap length ey ∙ length-replicate (length (cut z 0 (16 * s .tasks))) 0 ∙ length-cut z 0 (16 * s .tasks) (omega (arith, few))
+        length-ys = ap length ey ∙ length-replicate (length (cut z 0 (16 * s .tasks))) 0 ∙ length-cut z 0 (16 * s .tasks) (omega (arith, lz))
 
         z-is : z' ≡ splice z 0 ys
-        z-is = lent-part z 0 (16 * s .tasks) ys (omega arith) (omega (arith, few)) length-ys
+        z-is = lent-part z 0 (16 * s .tasks) ys (omega arith) (omega (arith, lz)) length-ys
 
         length-z : length z' ≡ length z
-        length-z = ap length z-is ∙ length-splice z 0 ys (omega (arith, length-ys, few))
+        length-z = ap length z-is ∙ length-splice z 0 ys (omega (arith, length-ys, lz))
 
         zeros : (i : ℕ) → i < 16 * configIn f .T → getD z' i 0 ≡ 0
         zeros i h =
             let e : 0 + i ≡ i = omega arith in
-            let m : length (cut z 0 (16 * s .tasks)) ≡ 16 * s .tasks - 0 = length-cut z 0 (16 * s .tasks) (omega (arith, few)) in
+            let m : length (cut z 0 (16 * s .tasks)) ≡ 16 * s .tasks - 0 = length-cut z 0 (16 * s .tasks) (omega (arith, lz)) in
             ap (λ (x : List ℕ). getD x i 0) z-is ∙ ap (λ (x : ℕ). getD (splice z 0 ys) x 0) (sym e)
-            ∙ splice-in z ys 0 (omega (arith, length-ys, few)) i (omega (arith, length-ys, o .tasks)) ∙ ap (λ (x : List ℕ). getD x i 0) ey
+            ∙ splice-in z ys 0 (omega (arith, length-ys, lz)) i (omega (arith, length-ys, o .tasks)) ∙ ap (λ (x : List ℕ). getD x i 0) ey
             ∙ getD-replicate (length (cut z 0 (16 * s .tasks))) i 0 0 (omega (arith, o .tasks))
 
         pub started : (g₀ g : List ℕ) → g ≡ splice g₀ 0 f → Started f g d z' (set w 0 0)
@@ -88,9 +89,9 @@ module _ (f : List ℕ) (zero : configRefusal f ≡ 0) where
             let h : configured g ≡ c = configured-in f ok g (drop (0 + length f) g₀) eg in
             record {
               holds = h;
-              keeps = ap rule h ∙ ok .rule;
+              keeps = ap (rule controller) h ∙ ok .rule;
               shows = λ u p.
-                  let l = p .laid in
+                  let e : u ≡ s = of-one c u p ∙ sym (of-one c s o) in
                   fresh-shows c u p d z' (set w 0 0) (accepted-states f ok) (ok .states) (fresh-here u p)
-                  (omega (arith, length-z, few, o .tasks)) zeros (getD-set-same w 0 0 0 (omega arith)) (omega (arith, end-most c u p)) (simp length-set (omega (arith, p .timers)));
+                  (omega (arith, length-z, lz, o .tasks)) zeros (getD-set-same w 0 0 0 (omega arith)) (omega (arith, ap (λ (x : Shape). x .end) e, ld)) (simp length-set (omega (arith, o .timers, lw)));
             }

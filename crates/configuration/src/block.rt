@@ -1,21 +1,22 @@
 // What the lent configuration block says. It holds the accepted frame at its front; the bytes behind are free.
 use crate::Lent;
-use crate::frame::bytes_of;
 use crate::frame::good_head;
 use crate::frame::room;
+use crate::frame::taken;
 use crate::frame::wide;
+use crate::limits::Limits;
 use queues::Ring;
 use tables::shape::RECORDS_AT;
 use tables::shape::Shape;
 ghost use mathlib.Core.Path.{_≡_};
-ghost use Prim.Native.Nat.{_*_, _≤_};
+ghost use Prim.Native.Nat.{_≤_};
 ghost use lib.ListN.{length};
 ghost use Rattle.ledger.specs.Config.{configIn, configRefusal};
 ghost use Rattle.tables.specs.Shows.{Of};
 ghost use Rattle.queues.specs.Rings.{ringOf};
+ghost use Rattle.configuration.specs.Limits.{limitsOf, longest, Made};
 ghost use Rattle.configuration.specs.Block.{configured};
-ghost use Rattle.configuration.specs.Layout.{laidOut, Lends};
-ghost use Rattle.configuration.specs.Room.{bytesIn};
+ghost use Rattle.configuration.specs.Layout.{frameBytes, laidOut, Lends};
 
 // The regions of the tables, one behind the other.
 pub fn lay(t: u8, s: u8, q: u8, r: u8, g: u8, k: u8, room: usize) -> Shape
@@ -51,21 +52,6 @@ pub fn lay(t: u8, s: u8, q: u8, r: u8, g: u8, k: u8, room: usize) -> Shape
     }
 }
 
-// The bytes of all queues, where the rule for them has been tested.
-fn taken(shapes: &[u8], queues: usize) -> usize
-    requires { ⌜ (length (now shapes) ≡ 2 * queues) × (queues ≤ 255) ⌝ }
-    ensures { λ r. ⌜ r ≡ bytesIn (now (shapes .entry)) ⌝ }
-{
-    let mut sum: usize = 0;
-    let mut k: usize = 0;
-    while k < queues {
-        let i = 2 * k;
-        sum += bytes_of(shapes[i], shapes[i + 1]);
-        k += 1;
-    }
-    sum
-}
-
 // The shape that an accepted frame asks for.
 pub fn shape_of(frame: &[u8]) -> Shape
     requires { ⌜ configRefusal (now frame) ≡ 0 ⌝ }
@@ -81,23 +67,23 @@ pub fn shape_of(frame: &[u8]) -> Shape
         frame[3],
         frame[4],
         frame[5],
-        sum,
+        sum as usize,
     )
 }
 
 // The structure rule of number 11, and the shape of a block that keeps it.
-pub fn lent(config: &[u8]) -> Lent
-    requires { ⌜ 198 ≤ length (now config) ⌝ }
-    ensures { λ r. ⌜ Lends (configured (now (config .entry))) r ⌝ }
+pub fn lent(limits: Limits, config: &[u8]) -> Lent
+    requires { ⌜ Made (limitsOf limits) × (longest (limitsOf limits) ≤ length (now config)) ⌝ }
+    ensures { λ r. ⌜ Lends (limitsOf limits) (configured (now (config .entry))) r ⌝ }
 {
-    if !good_head(config) {
+    if !good_head(limits, config) {
         return Lent::Bad;
     }
     let queues = wide(config[2]);
     let at = 8 + wide(config[0]);
     let end = at + 2 * queues;
     let sum = room(&config[at..end], queues);
-    if sum > 4096 {
+    if sum > limits.bytes {
         return Lent::Bad;
     }
     let shape = lay(
@@ -107,20 +93,20 @@ pub fn lent(config: &[u8]) -> Lent
         config[3],
         config[4],
         config[5],
-        sum,
+        sum as usize,
     );
     Lent::Good(shape)
 }
 
 // The ring of queue q. Its entries lie behind those of the queues before it.
 pub fn ring_of(config: &[u8], shape: Shape, q: usize) -> Ring
-    requires { ⌜ (198 ≤ length (now config)) × Of (configured (now config)) shape × (1 ≤ q) × (q ≤ shape .queues) ⌝ }
+    requires { ⌜ (frameBytes shape ≤ length (now config)) × Of (configured (now config)) shape × (1 ≤ q) × (q ≤ shape .queues) ⌝ }
     ensures { λ r. ⌜ r ≡ ringOf (configured (now (config .entry))) shape q ⌝ }
 {
     let before = q - 1;
     let at = 8 + shape.tasks;
     let here = at + 2 * before;
-    let base = shape.bodyat + taken(&config[at..here], before);
+    let base = shape.bodyat + taken(&config[at..here], before) as usize;
     Ring {
         width: wide(config[here]),
         depth: wide(config[here + 1]),

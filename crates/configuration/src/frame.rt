@@ -1,14 +1,17 @@
 // A configuration frame, accepted or refused; its tests serve the lent block too.
+use crate::limits::Limits;
+use crate::limits::controller;
 ghost use mathlib.Core.Path.{_≡_};
-ghost use Prim.Native.Nat.{_+_, _*_, _≤_};
+ghost use Prim.Native.Nat.{_+_, _*_, _/_, _%_, _≤_};
 ghost use mathlib.Core.Bool.{_&&_};
 ghost use lib.Dec.{leb};
-ghost use lib.ListN.{length};
-ghost use Rattle.ledger.specs.Lists.{within, all};
+ghost use lib.ListN.{length, getD};
+ghost use Rattle.ledger.specs.Lists.{all};
 ghost use Rattle.ledger.specs.Config.{goodHead, configRefusal};
+ghost use Rattle.configuration.specs.Limits.{limitsOf};
 ghost use Rattle.configuration.specs.Block.{read};
 ghost use Rattle.configuration.specs.Head.{headRule};
-ghost use Rattle.configuration.specs.Room.{roomIn};
+ghost use Rattle.configuration.specs.Room.{bytesOrNone, roomIn, bytesIn};
 
 pub fn wide(x: u8) -> usize
     ensures { λ r. ⌜ r ≡ x ⌝ }
@@ -23,22 +26,22 @@ fn word(high: u8, low: u8) -> u16
 }
 
 // The rule for the first eight bytes.
-fn head_rule(t: u8, s: u8, q: u8, r: u8, g: u8, k: u8, ms: u16) -> bool
-    ensures { λ x. ⌜ x ≡ headRule t s q r g k ms ⌝ }
+fn head_rule(limits: Limits, t: u8, s: u8, q: u8, r: u8, g: u8, k: u8, ms: u16) -> bool
+    ensures { λ x. ⌜ x ≡ headRule (limitsOf limits) t s q r g k ms ⌝ }
 {
     if t == 0 {
         return false;
     }
-    if t > 126 {
+    if t > limits.tasks {
         return false;
     }
-    if q > 32 {
+    if q > limits.queues {
         return false;
     }
-    if r > 64 {
+    if r > limits.timers {
         return false;
     }
-    if g > 64 {
+    if g > limits.messages {
         return false;
     }
     if k == 0 {
@@ -53,12 +56,13 @@ fn head_rule(t: u8, s: u8, q: u8, r: u8, g: u8, k: u8, ms: u16) -> bool
     true
 }
 
-pub fn good_head(bytes: &[u8]) -> bool
+pub fn good_head(limits: Limits, bytes: &[u8]) -> bool
     requires { ⌜ 8 ≤ length (now bytes) ⌝ }
-    ensures { λ r. ⌜ r ≡ goodHead (read (now (bytes .entry))) ⌝ }
+    ensures { λ r. ⌜ r ≡ goodHead (limitsOf limits) (read (now (bytes .entry))) ⌝ }
 {
     let ms = word(bytes[6], bytes[7]);
     head_rule(
+        limits,
         bytes[0],
         bytes[1],
         bytes[2],
@@ -83,57 +87,72 @@ fn good_states(states: &[u8]) -> bool
     true
 }
 
-// Whether there is such a queue.
-fn is_shaped(width: u8, depth: u8) -> bool
-    ensures { λ r. ⌜ r ≡ (within 1 16 width && within 1 255 depth) ⌝ }
+// Width and depth of a queue in one number, the depth high: two bytes that are loaded at once, so that the loops below go in vectors.
+fn pair(shapes: &[u8], i: usize) -> u16
+    requires { ⌜ i + 2 ≤ length (now shapes) ⌝ }
+    ensures { λ r. ⌜ (r % 256 ≡ getD (now (shapes .entry)) i 0) × (r / 256 ≡ getD (now (shapes .entry)) (i + 1) 0) ⌝ }
 {
-    if width == 0 {
-        return false;
-    }
-    if width > 16 {
-        return false;
-    }
-    if depth == 0 {
-        return false;
-    }
-    true
+    word(shapes[i + 1], shapes[i])
 }
 
 // The bytes of one queue.
-pub fn bytes_of(width: u8, depth: u8) -> usize
-    ensures { λ r. ⌜ (r ≡ width * depth) × (r ≤ 65025) ⌝ }
+fn bytes_of(pair: u16) -> u32
+    ensures { λ r. ⌜ (r ≡ pair % 256 * (pair / 256)) × (r ≤ 65025) ⌝ }
 {
-    wide(width) * wide(depth)
+    ((pair % 256) as u32) * ((pair / 256) as u32)
 }
 
-// The bytes of all queues, or 4,097 if there is no such queue as one of them.
-pub fn room(shapes: &[u8], queues: usize) -> usize
-    requires { ⌜ (length (now shapes) ≡ 2 * queues) × (queues ≤ 255) ⌝ }
-    ensures { λ r. ⌜ r ≡ roomIn 0 (now (shapes .entry)) ⌝ }
+// The bytes of one queue, or 4,097 if there is no such queue.
+fn bytes_or_none(pair: u16) -> u32
+    ensures { λ r. ⌜ (r ≡ bytesOrNone (pair % 256) (pair / 256)) × (r ≤ 4097) ⌝ }
 {
-    let mut sum: usize = 0;
+    let bytes = bytes_of(pair);
+    if pair % 256 > 16 {
+        return 4097;
+    }
+    if bytes == 0 {
+        return 4097;
+    }
+    bytes
+}
+
+// The bytes of all queues, above 4,096 if there is no such queue as one of them. No test ends the sum early.
+pub fn room(shapes: &[u8], queues: usize) -> u32
+    requires { ⌜ (length (now shapes) ≡ 2 * queues) × (queues ≤ 255) ⌝ }
+    ensures { λ r. ⌜ r ≡ roomIn (now (shapes .entry)) ⌝ }
+{
+    let mut sum: u32 = 0;
     let mut k: usize = 0;
     while k < queues {
-        let i = 2 * k;
-        let width = shapes[i];
-        let depth = shapes[i + 1];
-        if !is_shaped(width, depth) {
-            return 4097;
-        }
-        sum += bytes_of(width, depth);
+        sum += bytes_or_none(pair(shapes, 2 * k));
         k += 1;
     }
     sum
 }
 
-// 0 accepts.
+// The bytes of all queues, where the rule for them has been tested.
+pub fn taken(shapes: &[u8], queues: usize) -> u32
+    requires { ⌜ (length (now shapes) ≡ 2 * queues) × (queues ≤ 255) ⌝ }
+    ensures { λ r. ⌜ r ≡ bytesIn (now (shapes .entry)) ⌝ }
+{
+    let mut sum: u32 = 0;
+    let mut k: usize = 0;
+    while k < queues {
+        sum += bytes_of(pair(shapes, 2 * k));
+        k += 1;
+    }
+    sum
+}
+
+// By the controller's limits; 0 accepts.
 pub fn refusal(frame: &[u8]) -> u8
     ensures { λ r. ⌜ r ≡ configRefusal (now (frame .entry)) ⌝ }
 {
     if frame.len() < 8 {
         return 2;
     }
-    if !good_head(frame) {
+    let limits = controller();
+    if !good_head(limits, frame) {
         return 3;
     }
     let queues = wide(frame[2]);
@@ -145,7 +164,7 @@ pub fn refusal(frame: &[u8]) -> u8
     if !good_states(&frame[8..at]) {
         return 3;
     }
-    if room(&frame[at..end], queues) > 4096 {
+    if room(&frame[at..end], queues) > limits.bytes {
         return 3;
     }
     0

@@ -12,7 +12,7 @@ ghost use Rattle.tables.specs.Layout.{Fits};
 ghost use Rattle.tables.specs.Shows.{Of};
 ghost use Rattle.configuration.specs.Fresh.{kindOf, idleOf, FreshTables};
 ghost use Rattle.configuration.specs.Written.{Begun, Marked};
-ghost use Rattle.configuration.specs.Started.{Started};
+ghost use Rattle.configuration.specs.Started.{timersBytes, Started};
 
 fn fill(part: &mut [u8], v: u8)
     ensures { λ _. ⌜ now (part .exit) ≡ replicate (length (now (part .entry))) v ⌝ }
@@ -92,7 +92,7 @@ pub fn start(
     timers: &mut [u8],
     shape: Shape,
 )
-    requires { ⌜ (configRefusal (now frame) ≡ 0) × Of (configIn (now frame)) shape × (198 ≤ length (now config)) × (7571 ≤ length (now tables)) × (2016 ≤ length (now slots)) × (641 ≤ length (now timers)) ⌝ }
+    requires { ⌜ (configRefusal (now frame) ≡ 0) × Of (configIn (now frame)) shape × (length (now frame) ≤ length (now config)) × (shape .end ≤ length (now tables)) × (16 * shape .tasks ≤ length (now slots)) × (timersBytes shape ≤ length (now timers)) ⌝ }
     ensures { λ _. ⌜ Started (now (frame .entry)) (now (config .exit)) (now (tables .exit)) (now (slots .exit)) (now (timers .exit)) ⌝ }
 {
     rows::copy_in(frame, config, 0);

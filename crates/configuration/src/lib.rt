@@ -6,6 +6,7 @@ use tables::shape::Shape;
 pub mod block;
 pub mod frame;
 pub mod fresh;
+pub mod limits;
 
 // What the lent configuration block is: bad if it breaks the structure rule.
 pub enum Lent {

@@ -9,7 +9,7 @@ use lib.Seq.{take-add, take-all, drop-drop}
 use Rattle.rows.specs.Splice.{cut}
 use Rattle.ledger.specs.Lines.{frameOf}
 use Rattle.mcx11.specs.Contract.{Memory}
-use Rattle.mcx11.specs.Calls.{answerOf}
+use Rattle.mcx11.specs.Answer.{answerOf}
 use Rattle.feeding.specs.declared.Stage.{Stage}
 use Rattle.feeding.specs.declared.Stage.the-variants.{First, Running, Ended}
 use Rattle.feeding.specs.declared.Answered.{Answered}

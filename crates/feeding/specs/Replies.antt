@@ -9,7 +9,7 @@ use borrow.Author.Tests.{eq-eqb, eqb-true, eqb-false, ne-eqb, le-ltb}
 use lib.Dec.{eqb}
 use lib.ListN.{length, getD, take, drop, length-append}
 use lib.Seq.{take-at}
-use Rattle.ledger.specs.Config.{Config, configIn, configRefusal}
+use Rattle.ledger.specs.Config.{Config, configIn, configRefusal, controller}
 use Rattle.ledger.specs.Ledger.{Ledger, fresh}
 use Rattle.ledger.specs.Session.{answer, step, refusedConfiguration}
 use Rattle.ledger.specs.Lines.{frameOf, stepLine, readLine, writtenInto}
@@ -25,10 +25,10 @@ use Rattle.line.specs.declared.Written.{Written}
 use Rattle.line.specs.declared.Written.the-variants as written-as
 use Rattle.executive.specs.Carried.{never}
 use Rattle.mcx11.specs.Contract.{Memory, memory, lentWell, Displays, SameSizes, answering, Configures, Frames}
-use Rattle.mcx11.specs.Calls.{answerOf}
-use Rattle.mcx11.specs.Sizes.{Full, sizes-full, full-kept}
-use Rattle.mcx11.specs.Displayed.{well-full, well-rule, displays-well, answer-short, step-short}
-use Rattle.mcx11.specs.Follows.{answer-is}
+use Rattle.mcx11.specs.Answer.{answerOf}
+use Rattle.mcx11.specs.Sizes.{Full, sizes-full, full-kept, well-full, well-rule}
+use Rattle.mcx11.specs.Displayed.{displays-well, answer-short, step-short}
+use Rattle.mcx11.specs.Answer.{answer-is}
 use Rattle.feeding.specs.declared.Stage.{Stage}
 use Rattle.feeding.specs.declared.Stage.the-variants.{First, Running, Ended}
 use Rattle.feeding.specs.Input.{Stands, first, runs, over, Reply, configures, steps}
@@ -62,7 +62,7 @@ pub record Begins (f : Option (List ℕ)) (m' : Memory) (p : Stage) : Type 0 whe
 -- a line that is no frame is answered with 1, whatever ledger the memory shows
 abbrev pub RefusesLine : (g d z a a' : List ℕ) → Type 0
 RefusesLine g d z a a' =
-    (l : Ledger) (w : List ℕ) → rule (configured g) ≡ true → Shows (configured g) (shapeOf (configured g)) l d z w → a' ≡ written (answer 1 0 l) a
+    (l : Ledger) (w : List ℕ) → rule controller (configured g) ≡ true → Shows (configured g) (shapeOf (configured g)) l d z w → a' ≡ written (answer 1 0 l) a
 
 -- any other
 pub record GoesOn (f : Option (List ℕ)) (m m' : Memory) : Type 0 where
@@ -167,7 +167,7 @@ runs-on : {m m' : Memory} (c : Config) (l l' : Ledger) → At (runs c l) Running
 unfolding At
 runs-on {m = m} {m' = m'} c l l' h s e d =
     let k : configured (m' .config) ≡ c = ap configured e ∙ h .1 in
-    let r : rule (configured (m' .config)) ≡ true = ap (λ (x : List ℕ). rule (configured x)) e ∙ well-rule m (h .2) in
+    let r : rule controller (configured (m' .config)) ≡ true = ap (λ (x : List ℕ). rule controller (configured x)) e ∙ well-rule m (h .2) in
     (refl, k, displays-well m' l' (full-kept s ∙ well-full m (h .2)) r (subst (λ (x : Config). Displays x l' m') (sym k) d), d)
 
 pub goes-on-none : {f : Option (List ℕ)} (g d z w a a' : List ℕ) → f ≡ none → length a' ≡ length a → RefusesLine g d z a a' → GoesOn f (memory g d z w a) (memory g d z w a')

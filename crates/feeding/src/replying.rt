@@ -1,6 +1,7 @@
 // The answer to a line, in the answer block.
 use super::Stage;
 use configuration::Lent;
+use configuration::limits::controller;
 use line::Written;
 ghost use Prim.Native.Nat.{_≤_};
 ghost use lib.ListN.{length};
@@ -47,10 +48,11 @@ pub fn reply_first(
 
 // The answer to a line that is no frame.
 fn refuse_line(config: &[u8], tables: &[u8], slots: &[u8], answer: &mut [u8])
-    requires { ⌜ (198 ≤ length (now config)) × (7571 ≤ length (now tables)) × (2016 ≤ length (now slots)) × (21 ≤ length (now answer)) ⌝ }
+    requires { ⌜ (198 ≤ length (now config)) × (7509 ≤ length (now tables)) × (2016 ≤ length (now slots)) × (21 ≤ length (now answer)) ⌝ }
     ensures { λ _. ⌜ RefusesLine (now (config .entry)) (now (tables .entry)) (now (slots .entry)) (now (answer .entry)) (now (answer .exit)) ⌝ }
 {
-    let l = configuration::block::lent(config);
+    let limits = controller();
+    let l = configuration::block::lent(limits, config);
     match l {
         Lent::Bad => {}
         Lent::Good(shape) => {

@@ -24,9 +24,6 @@ pub mod Steps
 pub mod Kept
 pub mod HandedOut
 pub mod Sound
--- the step depends on what is compared alone (alike-step)
-pub mod Both
-pub mod Alike
 -- lines and frames are inverse to each other (written-reads-back, read-is-the-line); a tock value at every width (negative, lowest)
 pub mod Lines
 pub mod TockValues

@@ -1,4 +1,2 @@
 pub mod Signed
 pub mod Results
-pub mod Whole
-pub mod Total

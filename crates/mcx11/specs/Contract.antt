@@ -1,17 +1,18 @@
 -- What a call of the executive promises: of the configuration, and of a frame.
-use Prim.Native.Nat.{ℕ}
+use Prim.Native.Nat.{ℕ, _+_, _*_}
 use mathlib.Core.Path.{_≡_}
 use mathlib.Core.Bool.{Bool, true, false, _&&_}
 use mathlib.Core.List.{List}
 use lib.Dec.{leb}
 use lib.ListN.{length}
-use Rattle.ledger.specs.Config.{Config, configIn, configRefusal}
+use Rattle.ledger.specs.Config.{Config, Limits, controller, configIn, configRefusal}
 use Rattle.ledger.specs.Ledger.{Ledger, fresh}
 use Rattle.ledger.specs.Refusals.{refusal}
 use Rattle.ledger.specs.Session as session
 use Rattle.messages.specs.Pending.{completeIn}
-use Rattle.tables.specs.Layout.{regions}
+use Rattle.tables.specs.Layout.{recordsAt, regions}
 use Rattle.tables.specs.Shows.{pendingOf, Shows}
+use Rattle.configuration.specs.Limits.{longest}
 use Rattle.configuration.specs.Block.{configured, rule}
 use Rattle.configuration.specs.Layout.{shapeOf}
 use Rattle.answer.specs.Written.{written}
@@ -27,16 +28,43 @@ pub record Memory : Type 0 where
 abbrev pub memory : (config tables slots timers answer : List ℕ) → Memory
 memory g d z w a = record { config = g; tables = d; slots = z; timers = w; answer = a }
 
--- the fixed sizes of docs/MEMORY.md
+-- the sizes of the blocks
+pub record Sizes : Type 0 where
+  pub config : ℕ
+  pub tables : ℕ
+  pub slots : ℕ
+  pub timers : ℕ
+  pub answer : ℕ
+
+-- the fixed sizes of docs/MEMORY.md: the most that a configuration within the limits needs. The semaphores are at most 255
+unfoldable pub sizesOf : Limits → Sizes
+sizesOf k = record {
+  config = longest k;
+  tables = recordsAt + 22 * k .tasks + 255 + 2 * k .queues + 4 * k .messages + k .bytes;
+  slots = 16 * k .tasks;
+  timers = 1 + 10 * k .timers;
+  answer = 21;
+}
+
+-- every block has its size
+unfoldable pub hasSizes : Sizes → Memory → Bool
+hasSizes n m =
+    leb (n .config) (length (m .config)) && leb (n .tables) (length (m .tables)) && leb (n .slots) (length (m .slots)) && leb (n .timers) (length (m .timers))
+    && leb (n .answer) (length (m .answer))
+
 unfoldable pub fullSize : Memory → Bool
-fullSize m = leb 198 (length (m .config)) && leb 7571 (length (m .tables)) && leb 2016 (length (m .slots)) && leb 641 (length (m .timers)) && leb 21 (length (m .answer))
+fullSize m = hasSizes (sizesOf controller) m
 
 -- the structure rules there: the block holds a configuration; no message lies twice, and each is one of those that there are
 unfoldable pub messagesSound : Config → List ℕ → Bool
 messagesSound c d = completeIn (c .T) (c .G) (pendingOf c (regions (shapeOf c) d))
 
+-- by the limits of the executive that it is lent to
+unfoldable pub lentWellFor : Limits → Memory → Bool
+lentWellFor k m = hasSizes (sizesOf k) m && rule k (configured (m .config)) && messagesSound (configured (m .config)) (m .tables)
+
 unfoldable pub lentWell : Memory → Bool
-lentWell m = fullSize m && rule (configured (m .config)) && messagesSound (configured (m .config)) (m .tables)
+lentWell m = lentWellFor controller m
 
 -- the memory shows the ledger
 unfoldable pub Displays : Config → Ledger → Memory → Type 0

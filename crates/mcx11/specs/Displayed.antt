@@ -2,24 +2,23 @@
 use Prim.Native.Nat.{ℕ, _*_, _≤_}
 use mathlib.Core.Path.{_≡_, ap, _∙_}
 use mathlib.Core.Logic.{_⊎_, inl, inr}
-use mathlib.Core.Bool.{Bool, true, false, cond, _&&_}
+use mathlib.Core.Bool.{Bool, true, false, cond}
 use mathlib.Core.List.{List}
 use native.Mathlib.Omega.{arith}
 use lib.Dec.{eqb}
 use lib.ListN.{length}
-use Rattle.ledger.specs.Config.{Config}
+use Rattle.ledger.specs.Config.{Config, controller}
 use Rattle.ledger.specs.Ledger.{Ledger, running}
 use Rattle.ledger.specs.Refusals.{refusal}
 use Rattle.ledger.specs.Session.{answer, settle, accept, Stepped, step, Items, items}
 use Rattle.ledger.specs.Theorems.Lowest.{TaskRuns, NullRuns, lowest-runs}
-use Rattle.ledger.specs.Theorems.Checks.{and-left, and-right}
 use Rattle.rows.specs.Tab.{tab-length}
 use Rattle.tables.specs.Layout.{regions}
 use Rattle.tables.specs.Shows.{ticksIn, tasksIn, semaphoresIn, mailboxesIn, queuesIn, timersOf}
 use Rattle.configuration.specs.Block.{configured, rule}
 use Rattle.configuration.specs.Layout.{shapeOf}
 use Rattle.answer.specs.Read as read
-use Rattle.mcx11.specs.Contract.{Memory, fullSize, messagesSound, lentWell, Displays}
+use Rattle.mcx11.specs.Contract.{Memory, fullSize, messagesSound, lentWellFor, lentWell, Displays}
 
 -- the items that the memory's bytes are
 unfoldable pub itemsIn : Config → Memory → Items
@@ -49,21 +48,9 @@ items-shown c l m h =
 
 -- ---- lent well
 
-pub well-full : (m : Memory) → lentWell m ≡ true → fullSize m ≡ true
-unfolding lentWell
-well-full m h = and-left _ (rule (configured (m .config))) (and-left _ (messagesSound (configured (m .config)) (m .tables)) h)
-
-pub well-rule : (m : Memory) → lentWell m ≡ true → rule (configured (m .config)) ≡ true
-unfolding lentWell
-well-rule m h = and-right (fullSize m) _ (and-left _ (messagesSound (configured (m .config)) (m .tables)) h)
-
-pub well-messages : (m : Memory) → lentWell m ≡ true → messagesSound (configured (m .config)) (m .tables) ≡ true
-unfolding lentWell
-well-messages m h = and-right (fullSize m && rule (configured (m .config))) _ h
-
 -- the third rule is one of the things that showing a ledger says
-pub displays-well : (m : Memory) (l : Ledger) → fullSize m ≡ true → rule (configured (m .config)) ≡ true → Displays (configured (m .config)) l m → lentWell m ≡ true
-unfolding lentWell messagesSound Displays
+pub displays-well : (m : Memory) (l : Ledger) → fullSize m ≡ true → rule controller (configured (m .config)) ≡ true → Displays (configured (m .config)) l m → lentWell m ≡ true
+unfolding lentWell lentWellFor fullSize messagesSound Displays
 displays-well m l f r h = rw (f, r, h .shown .messages)
 
 -- ---- an answer has 4 to 20 bytes

@@ -1,18 +1,19 @@
 -- Records and their bytes: what the searches find and what the changes of rows are on mailboxes.
 use mathlib.Core.Path.{_≡_, sym, ap, _∙_}
-use mathlib.Core.Bool.{Bool, true, false, not}
+use mathlib.Core.Bool.{Bool, true, false, not, _||_, and-false, and-true}
 use mathlib.Core.List.{List, [], map}
 use mathlib.Core.Option.{none, some}
 use Prim.Native.Nat.{ℕ, _+_, _-_, _*_, _<_, _≤_}
 use native.Mathlib.Nat.{add-zero, zero-add}
 use native.Mathlib.Omega.{arith}
-use lib.Dec.{ltb}
+use lib.Dec.{ltb, eqb}
+use borrow.Author.Tests.{eq-eqb, ne-eqb}
 use lib.ListN.{length, getD, drop, length-map, List·getD-map}
-use Rattle.ledger.specs.Lists.{any, keep, find}
+use Rattle.ledger.specs.Lists.{within, any, keep, find}
 use Rattle.ledger.specs.Services.{wanted}
 use Rattle.rows.specs.Rows.{rowsOf, insertAt, removeAt, getD-row, getD-rows, length-rows, map-insertAt}
 use Rattle.rows.specs.First.{firstOf, first-le, first-here, first-on, first-end, keepFrom, keep-on, keep-out, keep-end, map-removeAt, any-is}
-use Rattle.messages.specs.Pending.{Pending, pending, pendingOf, pendingAt, pendingIn, for, mailboxOf, mailboxesOf, numbered, heldBy, behind, placeFor, placeOf}
+use Rattle.messages.specs.Pending.{Pending, pending, pendingOf, pendingAt, pendingIn, for, mailboxOf, mailboxesOf, numbered, heldBy, behind, placeFor, wantedBy, placeOf}
 use Rattle.messages.specs.Changes.{Inserted, Found, Taken, Emptied}
 use Rattle.messages.specs.Mailboxes.{mailbox-insert, mailbox-insert-other, mailbox-remove, mailbox-remove-other, mailbox-find, mailbox-find-none, mailbox-empty, mailbox-empty-other, mailboxes-any}
 
@@ -30,6 +31,36 @@ unfolding pendingAt
 pending-bytes k d =
     sym (simp (getD-row 4 k 0 d (omega arith), getD-row 4 k 1 d (omega arith), getD-row 4 k 2 d (omega arith), getD-row 4 k 3 d (omega arith), add-zero))
 
+-- ---- record k, tested by its bytes
+
+module _ (k : ℕ) (d : List ℕ) where
+  pub for-read : (t : ℕ) → eqb (getD d (k * 4) 0) t ≡ for t (pendingAt k d)
+  for-read t = ap (for t) (pending-bytes k d)
+
+  -- a record for another task is not the one looked for
+  module _ (t : ℕ) (n : getD d (k * 4) 0 ≡ t → ⊥) where
+    pub behind-other : (s : ℕ) → false ≡ behind t s (pendingAt k d)
+    behind-other s = sym (rw (ne-eqb (getD d (k * 4) 0) t n)) ∙ ap (behind t s) (pending-bytes k d)
+
+    pub wanted-other : (a : ℕ) → false ≡ wantedBy t a (pendingAt k d)
+    wanted-other a = sym (rw (ne-eqb (getD d (k * 4) 0) t n)) ∙ ap (wantedBy t a) (pending-bytes k d)
+
+  module _ (t : ℕ) (e : getD d (k * 4) 0 ≡ t) where
+    pub behind-own : (s : ℕ) → ltb s (getD d (k * 4 + 2) 0) ≡ behind t s (pendingAt k d)
+    behind-own s = sym (rw (eq-eqb (getD d (k * 4) 0) t e)) ∙ ap (behind t s) (pending-bytes k d)
+
+    pub wanted-own : (a : ℕ) (b : Bool) → b ≡ (eqb a 0 || eqb a (getD d (k * 4 + 2) 0)) → b ≡ wantedBy t a (pendingAt k d)
+    unfolding wanted
+    wanted-own a b q = q ∙ sym (rw (eq-eqb (getD d (k * 4) 0) t e)) ∙ ap (wantedBy t a) (pending-bytes k d)
+
+  -- and so is one with another number
+  module _ (tasks x : ℕ) where
+    pub held-other : (getD d (k * 4 + 1) 0 ≡ x → ⊥) → false ≡ heldBy tasks x (pendingAt k d)
+    held-other n = sym (rw (ne-eqb (getD d (k * 4 + 1) 0) x n) (and-false (within 1 tasks (getD d (k * 4) 0)))) ∙ ap (heldBy tasks x) (pending-bytes k d)
+
+    pub held-own : getD d (k * 4 + 1) 0 ≡ x → within 1 tasks (getD d (k * 4) 0) ≡ heldBy tasks x (pendingAt k d)
+    held-own e = sym (rw (eq-eqb (getD d (k * 4 + 1) 0) x e) (and-true (within 1 tasks (getD d (k * 4) 0)))) ∙ ap (heldBy tasks x) (pending-bytes k d)
+
 -- ---- a search that has come to record k
 
 pub record Searched (p : Pending → Bool) (n k : ℕ) (d : List ℕ) : Type 0 where
@@ -40,9 +71,9 @@ pub search-start : (p : Pending → Bool) (n : ℕ) (d : List ℕ) → Searched 
 search-start p n d = record { inside = omega arith; so-far = sym (zero-add _) }
 
 module _ (p : Pending → Bool) (n k : ℕ) (d : List ℕ) (s : Searched p n k d) where
-  module _ (h : k < n) {u : Pending} (e : u ≡ pendingAt k d) {b : Bool} (t : b ≡ p u) where
+  module _ (h : k < n) {b : Bool} (t : b ≡ p (pendingAt k d)) where
     tested : p (getD (pendingIn n d) k (pendingOf [])) ≡ b
-    tested = ap p (pending-at n k d h ∙ sym e) ∙ sym t
+    tested = ap p (pending-at n k d h) ∙ sym t
 
     pub search-here : b ≡ true → k ≡ firstOf p (pendingIn n d)
     search-here y = first-here p (pendingIn n d) k (s .so-far) (pendingOf []) (rw pending-length h) (tested ∙ y)
@@ -113,9 +144,9 @@ pub record Emptying (t m k : ℕ) (d : List ℕ) (l : List Pending) : Type 0 whe
   pub so-far : keepFrom (notFor t) k (pendingIn m d) ≡ l
 
 module _ (t m k : ℕ) (d : List ℕ) (l : List Pending) (s : Emptying t m k d l) where
-  module _ (h : k < m) {u : Pending} (e : u ≡ pendingAt k d) {b : Bool} (r : b ≡ for t u) where
+  module _ (h : k < m) {b : Bool} (r : b ≡ for t (pendingAt k d)) where
     tested-for : notFor t (getD (pendingIn m d) k (pendingOf [])) ≡ not b
-    tested-for = ap (notFor t) (pending-at m k d h ∙ sym e) ∙ ap not (sym r)
+    tested-for = ap (notFor t) (pending-at m k d h) ∙ ap not (sym r)
 
     pub empty-out : (d' : List ℕ) → b ≡ true → pendingIn (m - 1) d' ≡ removeAt k (pendingIn m d) → Emptying t (m - 1) k d' l
     empty-out d' y q =

@@ -32,11 +32,15 @@ pub fn load(b: &[u8], k: usize) -> Pending
     }
 }
 
-// Whether a message is for task `to`, from a higher sender.
-fn is_behind(p: Pending, to: u8, sender: u8) -> bool
-    ensures { λ r. ⌜ r ≡ behind to sender (pending (p .to) (p .number) (p .sender) (p .semaphore)) ⌝ }
+// Whether record k is for task `to`, from a higher sender. A record for another task costs one compare, here and below.
+fn is_behind(b: &[u8], k: usize, to: u8, sender: u8) -> bool
+    requires { ⌜ k * 4 + 4 ≤ length (now b) ⌝ }
+    ensures { λ r. ⌜ r ≡ behind to sender (pendingAt k (now (b .entry))) ⌝ }
 {
-    p.to == to && sender < p.sender
+    if b[k * 4] != to {
+        return false;
+    }
+    sender < b[k * 4 + 2]
 }
 
 // The place of a new message: before the first of the same receiver from a higher sender, else behind all.
@@ -46,7 +50,7 @@ fn place(b: &[u8], n: usize, to: u8, sender: u8) -> usize
 {
     let mut k = 0;
     while k < n {
-        if is_behind(load(b, k), to, sender) {
+        if is_behind(b, k, to, sender) {
             return k;
         }
         k += 1;
@@ -64,11 +68,18 @@ pub fn insert(b: &mut [u8], n: usize, to: u8, number: u8, sender: u8, semaphore:
     rows::insert_at(b, n, 4, at, &row);
 }
 
-// Whether a message is for task `to`, and from `from`, or from any if that is 0.
-fn is_wanted(p: Pending, to: u8, from: u8) -> bool
-    ensures { λ r. ⌜ r ≡ wantedBy to from (pending (p .to) (p .number) (p .sender) (p .semaphore)) ⌝ }
+// Whether record k is for task `to`, and from `from`, or from any if that is 0.
+fn is_wanted(b: &[u8], k: usize, to: u8, from: u8) -> bool
+    requires { ⌜ k * 4 + 4 ≤ length (now b) ⌝ }
+    ensures { λ r. ⌜ r ≡ wantedBy to from (pendingAt k (now (b .entry))) ⌝ }
 {
-    p.to == to && (from == 0 || from == p.sender)
+    if b[k * 4] != to {
+        return false;
+    }
+    if from == 0 {
+        return true;
+    }
+    from == b[k * 4 + 2]
 }
 
 // The place of the first message for task `to` that is from `from`, or from any if that is 0; n if there is none.
@@ -78,7 +89,7 @@ pub fn find(b: &[u8], n: usize, to: u8, from: u8) -> usize
 {
     let mut k = 0;
     while k < n {
-        if is_wanted(load(b, k), to, from) {
+        if is_wanted(b, k, to, from) {
             return k;
         }
         k += 1;
@@ -94,11 +105,12 @@ pub fn remove(b: &mut [u8], n: usize, k: usize)
     rows::remove_at(b, n, 4, k);
 }
 
-// Whether a message is for a task.
-fn is_for(p: Pending, task: u8) -> bool
-    ensures { λ r. ⌜ r ≡ for task (pending (p .to) (p .number) (p .sender) (p .semaphore)) ⌝ }
+// Whether record k is for a task.
+fn is_for(b: &[u8], k: usize, task: u8) -> bool
+    requires { ⌜ k * 4 + 4 ≤ length (now b) ⌝ }
+    ensures { λ r. ⌜ r ≡ for task (pendingAt k (now (b .entry))) ⌝ }
 {
-    p.to == task
+    b[k * 4] == task
 }
 
 // Takes every message for task `to` out. Gives the number of records that are left.
@@ -109,7 +121,7 @@ pub fn remove_all(b: &mut [u8], n: usize, to: u8) -> usize
     let mut m = n;
     let mut k = 0;
     while k < m {
-        if is_for(load(b, k), to) {
+        if is_for(b, k, to) {
             remove(b, m, k);
             m -= 1;
         } else {
@@ -126,11 +138,15 @@ fn is_within(x: u8, top: usize) -> bool
     std::num::wrapping_sub_usize(x as usize, 1) < top
 }
 
-// Whether a message is for one of the tasks, and has this number.
-fn is_held(p: Pending, tasks: usize, number: u8) -> bool
-    ensures { λ r. ⌜ r ≡ heldBy tasks number (pending (p .to) (p .number) (p .sender) (p .semaphore)) ⌝ }
+// Whether record k is for one of the tasks, and has this number.
+fn is_held(b: &[u8], k: usize, tasks: usize, number: u8) -> bool
+    requires { ⌜ k * 4 + 4 ≤ length (now b) ⌝ }
+    ensures { λ r. ⌜ r ≡ heldBy tasks number (pendingAt k (now (b .entry))) ⌝ }
 {
-    is_within(p.to, tasks) && p.number == number
+    if b[k * 4 + 1] != number {
+        return false;
+    }
+    is_within(b[k * 4], tasks)
 }
 
 // Whether the message of a number lies in the mailbox of one of the tasks.
@@ -140,7 +156,7 @@ pub fn holds(b: &[u8], n: usize, tasks: usize, number: u8) -> bool
 {
     let mut k = 0;
     while k < n {
-        if is_held(load(b, k), tasks, number) {
+        if is_held(b, k, tasks, number) {
             return true;
         }
         k += 1;

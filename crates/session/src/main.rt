@@ -47,7 +47,7 @@ fn turn(
     reached: Reached,
     line: &mut [u8; 401],
     config: &mut [u8; 198],
-    tables: &mut [u8; 7571],
+    tables: &mut [u8; 7509],
     slots: &mut [u8; 2016],
     timers: &mut [u8; 641],
     answer: &mut [u8; 21],
@@ -95,7 +95,7 @@ fn end(
     reached: Reached,
     line: &[u8; 401],
     config: &mut [u8; 198],
-    tables: &mut [u8; 7571],
+    tables: &mut [u8; 7509],
     slots: &mut [u8; 2016],
     timers: &mut [u8; 641],
     answer: &mut [u8; 21],
@@ -113,7 +113,7 @@ fn end(
 fn main() {
     let mut line = [0u8; 401];
     let mut config = [0u8; 198];
-    let mut tables = [0u8; 7571];
+    let mut tables = [0u8; 7509];
     let mut slots = [0u8; 2016];
     let mut timers = [0u8; 641];
     let mut answer = [0u8; 21];

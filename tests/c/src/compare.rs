@@ -75,7 +75,8 @@ fn unequal(
     })
 }
 
-fn unequal_items(ours: &Items, theirs: &Items) -> Option<String> {
+/// The first item that is not the other's.
+pub fn unequal_items(ours: &Items, theirs: &Items) -> Option<String> {
     let Items { ticks, tasks, semaphores, mailboxes, queues, timers } = ours;
     let mut found = unequal_item("the ticks", ticks, &theirs.ticks);
     for (place, (ours, theirs)) in tasks.iter().zip(&theirs.tasks).enumerate() {

@@ -8,7 +8,7 @@ use plain_executive::executive::Executive;
 use plain_executive::numbers::{Number, MEMORY};
 use plain_executive::random::Random;
 
-use crate::lent::{Lent, Regions, SIZES};
+use crate::lent::{Lent, Regions, PLANE, PLANES, SIZES};
 use crate::rules::{self, Rule};
 use crate::strange::strange;
 
@@ -138,7 +138,7 @@ fn field(random: &mut Random, memory: &mut Lent, configuration: &Configuration) 
         5 if configuration.messages > 0 => 1,
         6 if configuration.messages > 0 => regions.messages + 4 * random.below(lying) + random.below(4),
         7 if queues > 0 => regions.rings + random.below(2 * queues),
-        8 | 9 => 2 + task,
+        8 | 9 => PLANES + PLANE * random.below(4) + task / 8,
         10 => regions.records + 6 * task,
         11 => regions.records + 6 * task + 1 + random.below(3),
         12 => return open_a_request(random, memory, regions.records + 6 * task + 4, value),

@@ -38,7 +38,11 @@ extern "C" {
 }
 
 /// The least sizes of the five blocks.
-pub const SIZES: [usize; 5] = [198, 7571, 2016, 641, 21];
+pub const SIZES: [usize; 5] = [198, 7509, 2016, 641, 21];
+
+/// Where the planes of the tasks' blocks begin in the tables, and the bytes of one.
+pub const PLANES: usize = 2;
+pub const PLANE: usize = 16;
 
 /// Five blocks of bytes: config, tables, slots, timers, answer.
 pub type Blocks<'a> = [&'a mut [u8]; 5];
@@ -135,7 +139,7 @@ pub struct Regions {
 impl Regions {
     pub fn of(configuration: &Configuration) -> Self {
         let tasks = usize::from(configuration.tasks);
-        let records = 2 + tasks;
+        let records = PLANES + 4 * PLANE;
         let semaphores = records + 6 * tasks;
         let waiting = semaphores + usize::from(configuration.semaphores());
         let rings = waiting + 16 * tasks;
@@ -198,7 +202,8 @@ impl<'lent> Reader<'lent> {
 
     fn blocks(&self, index: usize) -> tasks::Blocks {
         let all = [Block::Idle, Block::Suspended, Block::EventWait, Block::MessageWait];
-        let held = all.into_iter().enumerate().filter(|(bit, _)| self.at(2 + index) >> bit & 1 == 1);
+        let plane = |number: usize| self.at(PLANES + PLANE * number + index / 8);
+        let held = all.into_iter().enumerate().filter(|(number, _)| plane(*number) >> (index % 8) & 1 == 1);
         tasks::Blocks::of(held.map(|(_, block)| block))
     }
 

@@ -8,7 +8,7 @@ use plain_executive::items::{Items, RequestItem};
 use plain_executive::semaphore::Semaphore;
 use plain_executive::tasks::Block;
 
-use crate::lent::{Lent, Regions};
+use crate::lent::{Lent, Regions, PLANE, PLANES};
 
 type Situation = (&'static str, fn(&Seen) -> bool);
 
@@ -16,7 +16,11 @@ pub const STRANGE: [Situation; 23] = [
     ("ticks left: 0", |seen| seen.lent.tables[0] == 0),
     ("ticks left: above K", |seen| seen.lent.tables[0] > seen.configuration.ticks_per_tock),
     ("messages: above G", |seen| seen.lent.tables[1] > seen.configuration.messages),
-    ("blocks: bits 4 to 7", |seen| seen.lent.tables[2..seen.regions.records].iter().any(|blocks| *blocks > 15)),
+    ("planes: a bit of no task", |seen| {
+        let tasks = usize::from(seen.configuration.tasks);
+        let bits = |plane: &[u8]| (tasks..8 * PLANE).any(|bit| plane[bit / 8] >> (bit % 8) & 1 == 1);
+        seen.lent.tables[PLANES..seen.regions.records].chunks_exact(PLANE).any(bits)
+    }),
     ("outcome: above 5", |seen| seen.records().any(|record| record[0] > 5)),
     ("outcome: an entry above 16", |seen| seen.records().any(|record| record[0] == 3 && record[1] > 16)),
     ("request: above 3", |seen| seen.records().any(|record| record[4] > 3)),

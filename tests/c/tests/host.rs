@@ -1,60 +1,16 @@
 //! host/ and docs/HOST.md: the header compiles as C and C++ and leads to the archive's functions; its sizes, codes, outcomes
-//! and numbers are the paper's; the examples and the page's first host print what is stored.
+//! and numbers are the paper's, and the page's; the examples print what is stored.
+
+mod tools;
 
 use c::lent::SIZES;
 use plain_executive::generator::Generator;
 use plain_executive::line::{MOST_BYTES, MOST_DIGITS};
 use plain_executive::session;
+use plain_executive::tasks::SLOT_BYTES;
 use std::fs;
-use std::io::Write;
-use std::os::unix::fs::symlink;
-use std::path::{Path, PathBuf};
-use std::process::{Command, Output, Stdio};
-
-const STRICT: [&str; 4] = ["-Wall", "-Wextra", "-Werror", "-pedantic"];
-
-/// Of each language the compiler, and what it is told.
-const LANGUAGES: [(&str, &[&str]); 4] = [
-    ("gcc", &["-x", "c", "-std=c99"]),
-    ("gcc", &["-x", "c", "-std=c11"]),
-    ("g++", &["-x", "c++", "-std=c++98"]),
-    ("g++", &["-x", "c++", "-std=c++17"]),
-];
-
-fn repository() -> PathBuf {
-    Path::new(env!("CARGO_MANIFEST_DIR")).join("../..")
-}
-
-fn text(file: &str) -> String {
-    let path = repository().join(file);
-    fs::read_to_string(&path).unwrap_or_else(|error| panic!("{}: {error}", path.display()))
-}
-
-/// An empty folder of one's own.
-fn scratch(name: &str) -> PathBuf {
-    let folder = Path::new(env!("CARGO_TARGET_TMPDIR")).join(name);
-    fs::remove_dir_all(&folder).ok();
-    fs::create_dir_all(&folder).expect("a folder for the test");
-    folder
-}
-
-fn run(command: &mut Command, input: &[u8]) -> Output {
-    let told = format!("{command:?}");
-    let piped = command.stdin(Stdio::piped()).stdout(Stdio::piped()).stderr(Stdio::piped());
-    let mut child = piped.spawn().unwrap_or_else(|error| panic!("{told}: {error}"));
-    let mut standard_input = child.stdin.take().expect("piped");
-    std::thread::scope(|scope| {
-        scope.spawn(move || standard_input.write_all(input).ok());
-        child.wait_with_output().expect("its output")
-    })
-}
-
-/// What a command prints that must end well.
-fn printed(command: &mut Command, input: &[u8]) -> String {
-    let output = run(command, input);
-    assert!(output.status.success(), "{command:?}:\n{}", String::from_utf8_lossy(&output.stderr));
-    String::from_utf8(output.stdout).expect("text")
-}
+use std::process::Command;
+use tools::{built, frames_of, languages, printed, repository, run, scratch, stories, text};
 
 // ---- the header
 
@@ -65,22 +21,9 @@ fn every_language_replays_the_stories_and_random_sessions() {
         .map(|seed| (format!("seed {seed}"), Generator::new(seed).script(1..=20, 200).lines()))
         .chain([("a refused configuration".to_string(), b"00\n".to_vec())])
         .collect();
-    for file in fs::read_dir(repository().join("examples")).expect("examples/") {
-        let path = file.unwrap().path();
-        if path.extension().is_some_and(|ending| ending == "session") {
-            let stored = fs::read_to_string(path.with_extension("answers")).expect("a story has its answers");
-            let input = fs::read(&path).unwrap();
-            assert_eq!(stored.as_bytes(), session::run(&input), "{}", path.display());
-            sessions.push((path.display().to_string(), input));
-        }
-    }
-    for (number, (compiler, language)) in LANGUAGES.iter().enumerate() {
-        let program = folder.join(format!("replay{number}"));
-        let mut compile = Command::new(compiler);
-        compile.args(*language).args(STRICT).arg("-I").arg(repository().join("host"));
-        compile.arg(repository().join("tests/c/replay.c")).args(["-x", "none"]);
-        compile.arg(repository().join("target/staticlib/libmcx11.a")).arg("-o").arg(&program);
-        printed(&mut compile, b"");
+    sessions.extend(stories().into_iter().map(|story| (story.clone(), frames_of(&story))));
+    for language in languages() {
+        let program = built(&folder, "replay.c", language, &[]);
         for (name, input) in &sessions {
             let answers = printed(&mut Command::new(&program), input);
             assert_eq!(answers.as_bytes(), session::run(input), "{language:?}: {name}");
@@ -140,12 +83,12 @@ fn the_sizes_are_those_of_the_memory_page() {
     assert_eq!(sizes, SIZES.map(|size| size as u32));
 
     let header = text("host/mcx11.h");
-    let mut defined = named(&header, "#define MCX11_", " ", ' ');
-    let longest = defined.split_off(blocks.len());
+    let defined = named(&header, "#define MCX11_", " ", ' ').into_iter();
+    let defined: Vec<_> = defined.filter(|(name, _)| name.ends_with("_BYTES") || name.ends_with("_DIGITS")).collect();
     let named_after = |block: &String| format!("{}_BYTES", block.to_uppercase());
-    assert_eq!(defined, blocks.iter().map(named_after).zip(sizes).collect::<Vec<_>>());
-    let lines = [("FRAME_BYTES".to_string(), MOST_BYTES as u32), ("LINE_DIGITS".to_string(), MOST_DIGITS as u32)];
-    assert_eq!(longest, lines);
+    let longest = [("FRAME_BYTES", MOST_BYTES), ("LINE_DIGITS", MOST_DIGITS), ("ENTRY_BYTES", SLOT_BYTES)];
+    let longest = longest.map(|(name, size)| (name.to_string(), size as u32));
+    assert_eq!(defined, blocks.iter().map(named_after).zip(sizes).chain(longest).collect::<Vec<_>>());
 
     let fields = header.split("typedef struct mcx11_t {").nth(1).and_then(|rest| rest.split("} mcx11_t;").next());
     let fields: Vec<String> = fields
@@ -217,24 +160,9 @@ fn the_page_has_every_number() {
     let row = |line: &str| {
         let cells: Vec<&str> = line.trim_matches('|').split('|').map(str::trim).collect();
         assert!(cells.len() == 4 && cells.iter().all(|cell| !cell.is_empty()), "{line}");
-        (cells[1].trim_matches('`').to_string(), cells[0].parse().expect("a number"))
+        let number: u32 = cells[0].split(' ').next().expect("a number").parse().expect("a number");
+        assert_eq!(cells[0], format!("{number} (${number:02X})"));
+        (cells[1].trim_matches('`').to_string(), number)
     };
     assert_eq!(rows.take_while(|line| line.starts_with('|')).map(row).collect::<Vec<_>>(), numbers());
-}
-
-#[test]
-fn the_pages_first_host_prints_what_the_page_says() {
-    let page = text("docs/HOST.md");
-    let between = |from: &str, to: &str| {
-        let rest = page.split(from).nth(1).unwrap_or_else(|| panic!("docs/HOST.md: {from}"));
-        rest.split(to).next().unwrap().to_string()
-    };
-    let folder = scratch("first");
-    fs::write(folder.join("first.c"), between("```c\n", "```")).unwrap();
-    for linked in ["host", "target"] {
-        symlink(fs::canonicalize(repository().join(linked)).unwrap(), folder.join(linked)).unwrap();
-    }
-    let command = format!("gcc {}", between("\n    gcc ", "\n"));
-    let output = printed(Command::new("sh").arg("-c").arg(&command).current_dir(&folder), b"");
-    assert_eq!(output, format!("{}\n", between("Its output is `", "`")));
 }

@@ -171,7 +171,7 @@ fn a_difference_comes_as_a_short_session() {
 
 #[test]
 fn a_short_block_gives_11_before_all_else() {
-    let mut memory = Lent::new([198, 7571, 2016, 640, 21], || 0);
+    let mut memory = Lent::new([198, 7509, 2016, 640, 21], || 0);
     assert_eq!((memory.configure(&[]), memory.frame(&[])), (MEMORY, MEMORY));
     let mut memory = Lent::new(SIZES, || 0);
     assert_eq!((memory.configure(&[]), memory.frame(&[])), (2, MEMORY));

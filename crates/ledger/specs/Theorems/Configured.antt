@@ -8,7 +8,7 @@ use borrow.Author.Tests.{leb-true, eqb-true, not-false}
 use lib.Dec.{eqb, ltb}
 use lib.ListN.{length, length-take, length-drop}
 use Rattle.ledger.specs.Lists.{_⇒_, all, within}
-use Rattle.ledger.specs.Config.{Shape, Config, shapesIn, configIn, goodHead, goodRest, configRefusal}
+use Rattle.ledger.specs.Config.{Shape, Config, shapesIn, configIn, controller, goodHead, goodRest, configRefusal}
 use Rattle.ledger.specs.Services.{shape}
 use Rattle.ledger.specs.Theorems.Items.{Numbered}
 use Rattle.ledger.specs.Theorems.Checks.{and-left, and-right, within-numbered, passes, at-all}
@@ -42,7 +42,7 @@ all-shaped c e h q n =
     let k = at-all (λ s. within 1 16 (s .width) && within 1 255 (s .depth)) (c .shapes) q (record { width = 0; depth = 0 }) h (omega arith) in
     record { width = within-numbered 16 (s .width) (and-left _ (within 1 255 (s .depth)) k); depth = within-numbered 255 (s .depth) (and-right (within 1 16 (s .width)) _ k) }
 
-checked : (c : Config) → goodHead c ≡ true → goodRest c ≡ true → length (c .states) ≡ c .T → length (c .shapes) ≡ c .Q → Configured c
+checked : (c : Config) → goodHead controller c ≡ true → goodRest controller c ≡ true → length (c .states) ≡ c .T → length (c .shapes) ≡ c .Q → Configured c
 unfolding goodHead goodRest
 checked c h r s q =
     record {
@@ -61,6 +61,6 @@ pub configured : (g : List ℕ) → configRefusal g ≡ 0 → Configured (config
 unfolding configRefusal configIn
 configured g h =
     let c = configIn g in
-    let p = passes (ltb (length g) 8 ⇒ 2 ∷ not (goodHead c) ⇒ 3 ∷ not (eqb (length g) (8 + c .T + 2 * c .Q)) ⇒ 2 ∷ not (goodRest c) ⇒ 3 ∷ []) refl h in
+    let p = passes (ltb (length g) 8 ⇒ 2 ∷ not (goodHead controller c) ⇒ 3 ∷ not (eqb (length g) (8 + c .T + 2 * c .Q)) ⇒ 2 ∷ not (goodRest controller c) ⇒ 3 ∷ []) refl h in
     let n : length g ≡ 8 + c .T + 2 * c .Q = eqb-true (length g) _ (not-false _ (p .1 .1 .0)) in
     checked c (not-false _ (p .1 .0)) (not-false _ (p .1 .1 .1 .0)) (simp (length-take, length-drop) (omega arith)) (shapesIn-length _ (c .Q) (simp length-drop (omega arith)))

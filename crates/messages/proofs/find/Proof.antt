@@ -1,7 +1,6 @@
 -- The search stops at the first record that is wanted, or behind the last one.
 use Prim.Native.Nat.{_-_}
 use native.Mathlib.Omega.{arith}
-use borrow.Author.Needs.{needs}
 use denote.Ref.{now}
 use Rattle.messages.specs.Pending.{wantedBy, placeOf}
 use Rattle.messages.specs.Records.{Searched, search-start, search-here, search-on, search-end}
@@ -17,18 +16,15 @@ abbrev μ-loop : tie.MeasureT-loop
 loop-holds : tie.Need-loop-holds Inv-loop μ-loop
 loop-holds c = let a = c .before .args in search-start (wantedBy (a .to) (a .from)) (a .n) (now (a .b))
 
-load-requires : tie.Need-load-requires Inv-loop μ-loop
-load-requires c κs = omega arith
-
 is-wanted-requires : tie.Need-is-wanted-requires Inv-loop μ-loop
-is-wanted-requires c κs = search needs
+is-wanted-requires c κs = omega arith
 
 returns : tie.Need-returns Inv-loop μ-loop
 unfolding placeOf
 returns c =
-    let a = c .before .before .before .before .before .before .args in
-    let l = c .before .before .before .before .loop in
-    record { place = search-here (wantedBy (a .to) (a .from)) (a .n) (l .k) (now (a .b)) (l .inv) (c .before .before .before .loop-test .taken) (c .before .before .load .ensures) (c .before .is-wanted .ensures) (c .if1 .taken); inside = l .inv .inside }
+    let a = c .before .before .before .before .before .args in
+    let l = c .before .before .before .loop in
+    record { place = search-here (wantedBy (a .to) (a .from)) (a .n) (l .k) (now (a .b)) (l .inv) (c .before .before .loop-test .taken) (c .before .is-wanted .ensures) (c .if1 .taken); inside = l .inv .inside }
 
 add-k : tie.Need-add-k Inv-loop μ-loop
 add-k c = omega arith
@@ -38,9 +34,9 @@ loop-less c = omega arith
 
 loop-again : tie.Need-loop-again Inv-loop μ-loop
 loop-again c =
-    let a = c .before .before .before .before .before .before .args in
-    let l = c .before .before .before .before .loop in
-    search-on (wantedBy (a .to) (a .from)) (a .n) (l .k) (now (a .b)) (l .inv) (c .before .before .before .loop-test .taken) (c .before .before .load .ensures) (c .before .is-wanted .ensures) (c .if1 .left)
+    let a = c .before .before .before .before .before .args in
+    let l = c .before .before .before .loop in
+    search-on (wantedBy (a .to) (a .from)) (a .n) (l .k) (now (a .b)) (l .inv) (c .before .before .loop-test .taken) (c .before .is-wanted .ensures) (c .if1 .left)
 
 returns-2 : tie.Need-returns-2 Inv-loop μ-loop
 unfolding placeOf
@@ -56,7 +52,6 @@ find-spec =
     Inv-loop
     μ-loop
     loop-holds
-    load-requires
     is-wanted-requires
     returns
     add-k

@@ -1,7 +1,6 @@
 -- The search for a record that is for one of the tasks and has the number stops before the end just where some mailbox has it.
 use Prim.Native.Nat.{_-_}
 use native.Mathlib.Omega.{arith}
-use borrow.Author.Needs.{needs}
 use denote.Ref.{now}
 use mathlib.Core.Path.{sym, _∙_}
 use borrow.Author.Tests.{lt-ltb, le-ltb}
@@ -19,18 +18,15 @@ abbrev μ-loop : tie.MeasureT-loop
 loop-holds : tie.Need-loop-holds Inv-loop μ-loop
 loop-holds c = let a = c .before .args in search-start (heldBy (a .tasks) (a .number)) (a .n) (now (a .b))
 
-load-requires : tie.Need-load-requires Inv-loop μ-loop
-load-requires c κs = omega arith
-
 is-held-requires : tie.Need-is-held-requires Inv-loop μ-loop
-is-held-requires c κs = search needs
+is-held-requires c κs = omega arith
 
 returns : tie.Need-returns Inv-loop μ-loop
 returns c =
-    let a = c .before .before .before .before .before .before .args in
-    let l = c .before .before .before .before .loop in
-    let h = c .before .before .before .loop-test .taken in
-    sym (found-held (a .n) (a .tasks) (a .number) (l .k) (now (a .b)) (search-here (heldBy (a .tasks) (a .number)) (a .n) (l .k) (now (a .b)) (l .inv) (c .before .before .before .loop-test .taken) (c .before .before .load .ensures) (c .before .is-held .ensures) (c .if1 .taken)) ∙ lt-ltb _ _ h)
+    let a = c .before .before .before .before .before .args in
+    let l = c .before .before .before .loop in
+    let h = c .before .before .loop-test .taken in
+    sym (found-held (a .n) (a .tasks) (a .number) (l .k) (now (a .b)) (search-here (heldBy (a .tasks) (a .number)) (a .n) (l .k) (now (a .b)) (l .inv) (c .before .before .loop-test .taken) (c .before .is-held .ensures) (c .if1 .taken)) ∙ lt-ltb _ _ h)
 
 add-k : tie.Need-add-k Inv-loop μ-loop
 add-k c = omega arith
@@ -40,9 +36,9 @@ loop-less c = omega arith
 
 loop-again : tie.Need-loop-again Inv-loop μ-loop
 loop-again c =
-    let a = c .before .before .before .before .before .before .args in
-    let l = c .before .before .before .before .loop in
-    search-on (heldBy (a .tasks) (a .number)) (a .n) (l .k) (now (a .b)) (l .inv) (c .before .before .before .loop-test .taken) (c .before .before .load .ensures) (c .before .is-held .ensures) (c .if1 .left)
+    let a = c .before .before .before .before .before .args in
+    let l = c .before .before .before .loop in
+    search-on (heldBy (a .tasks) (a .number)) (a .n) (l .k) (now (a .b)) (l .inv) (c .before .before .loop-test .taken) (c .before .is-held .ensures) (c .if1 .left)
 
 returns-2 : tie.Need-returns-2 Inv-loop μ-loop
 returns-2 c =
@@ -57,7 +53,6 @@ holds-spec =
     Inv-loop
     μ-loop
     loop-holds
-    load-requires
     is-held-requires
     returns
     add-k

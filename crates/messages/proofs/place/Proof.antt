@@ -1,7 +1,6 @@
 -- The search stops at the first record that is for the receiver, from a higher sender, or behind the last one.
 use Prim.Native.Nat.{_-_}
 use native.Mathlib.Omega.{arith}
-use borrow.Author.Needs.{needs}
 use denote.Ref.{now}
 use Rattle.messages.specs.Pending.{behind, placeFor}
 use Rattle.messages.specs.Records.{Searched, search-start, search-here, search-on, search-end}
@@ -17,18 +16,15 @@ abbrev μ-loop : tie.MeasureT-loop
 loop-holds : tie.Need-loop-holds Inv-loop μ-loop
 loop-holds c = let a = c .before .args in search-start (behind (a .to) (a .sender)) (a .n) (now (a .b))
 
-load-requires : tie.Need-load-requires Inv-loop μ-loop
-load-requires c κs = omega arith
-
 is-behind-requires : tie.Need-is-behind-requires Inv-loop μ-loop
-is-behind-requires c κs = search needs
+is-behind-requires c κs = omega arith
 
 returns : tie.Need-returns Inv-loop μ-loop
 unfolding placeFor
 returns c =
-    let a = c .before .before .before .before .before .before .args in
-    let l = c .before .before .before .before .loop in
-    search-here (behind (a .to) (a .sender)) (a .n) (l .k) (now (a .b)) (l .inv) (c .before .before .before .loop-test .taken) (c .before .before .load .ensures) (c .before .is-behind .ensures) (c .if1 .taken)
+    let a = c .before .before .before .before .before .args in
+    let l = c .before .before .before .loop in
+    search-here (behind (a .to) (a .sender)) (a .n) (l .k) (now (a .b)) (l .inv) (c .before .before .loop-test .taken) (c .before .is-behind .ensures) (c .if1 .taken)
 
 add-k : tie.Need-add-k Inv-loop μ-loop
 add-k c = omega arith
@@ -38,9 +34,9 @@ loop-less c = omega arith
 
 loop-again : tie.Need-loop-again Inv-loop μ-loop
 loop-again c =
-    let a = c .before .before .before .before .before .before .args in
-    let l = c .before .before .before .before .loop in
-    search-on (behind (a .to) (a .sender)) (a .n) (l .k) (now (a .b)) (l .inv) (c .before .before .before .loop-test .taken) (c .before .before .load .ensures) (c .before .is-behind .ensures) (c .if1 .left)
+    let a = c .before .before .before .before .before .args in
+    let l = c .before .before .before .loop in
+    search-on (behind (a .to) (a .sender)) (a .n) (l .k) (now (a .b)) (l .inv) (c .before .before .loop-test .taken) (c .before .is-behind .ensures) (c .if1 .left)
 
 returns-2 : tie.Need-returns-2 Inv-loop μ-loop
 unfolding placeFor
@@ -56,7 +52,6 @@ place-spec =
     Inv-loop
     μ-loop
     loop-holds
-    load-requires
     is-behind-requires
     returns
     add-k

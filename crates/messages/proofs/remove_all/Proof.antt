@@ -3,7 +3,6 @@ use mathlib.Core.Path.{_≡_, refl}
 use mathlib.Core.Bool.{not}
 use Prim.Native.Nat.{_-_, _≤_}
 use native.Mathlib.Omega.{arith}
-use borrow.Author.Needs.{needs}
 use lib.ListN.{length}
 use denote.Ref.{now}
 use Rattle.ledger.specs.Lists.{keep}
@@ -21,11 +20,8 @@ abbrev μ-loop : tie.MeasureT-loop
 loop-holds : tie.Need-loop-holds Inv-loop μ-loop
 loop-holds c = (omega arith, refl, record { inside = omega arith; so-far = refl })
 
-load-requires : tie.Need-load-requires Inv-loop μ-loop
-load-requires c κs = omega arith
-
 is-for-requires : tie.Need-is-for-requires Inv-loop μ-loop
-is-for-requires c κs = search needs
+is-for-requires c κs = omega arith
 
 remove-requires : tie.Need-remove-requires Inv-loop μ-loop
 remove-requires c κs = omega arith
@@ -38,11 +34,11 @@ loop-less c = omega arith
 
 loop-again : tie.Need-loop-again Inv-loop μ-loop
 loop-again c =
-    let z = c .before .before .before .before .before .before .before .before .before in
+    let z = c .before .before .before .before .before .before .before .before in
     let a = z .before .before .args in
     let l = z .loop in
     let r = c .before .before .remove in
-    (omega arith, omega arith, empty-out (a .to) (l .m) (l .k) (l .b) _ (l .inv .2) (omega arith) (c .before .before .before .before .before .before .load .ensures) (c .before .before .before .before .before .is-for .ensures) (r .last .0) (c .before .before .before .before .if1 .taken) (r .ensures))
+    (omega arith, omega arith, empty-out (a .to) (l .m) (l .k) (l .b) _ (l .inv .2) (omega arith) (c .before .before .before .before .before .is-for .ensures) (r .last .0) (c .before .before .before .before .if1 .taken) (r .ensures))
 
 add-k : tie.Need-add-k Inv-loop μ-loop
 add-k c = omega arith
@@ -52,10 +48,10 @@ loop-less-2 c = omega arith
 
 loop-again-2 : tie.Need-loop-again-2 Inv-loop μ-loop
 loop-again-2 c =
-    let z = c .before .before .before .before .before in
+    let z = c .before .before .before .before in
     let a = z .before .before .args in
     let l = z .loop in
-    (omega arith, omega arith, empty-on (a .to) (l .m) (l .k) (l .b) _ (l .inv .2) (omega arith) (c .before .before .load .ensures) (c .before .is-for .ensures) (c .if1 .left))
+    (omega arith, omega arith, empty-on (a .to) (l .m) (l .k) (l .b) _ (l .inv .2) (omega arith) (c .before .is-for .ensures) (c .if1 .left))
 
 same-length : tie.Need-same-length Inv-loop μ-loop
 same-length c = omega arith
@@ -73,7 +69,6 @@ remove-all-spec =
     Inv-loop
     μ-loop
     loop-holds
-    load-requires
     is-for-requires
     remove-requires
     sub-m

@@ -3,6 +3,7 @@ use native.Mathlib.Omega.{arith}
 use denote.Ref.{now}
 use mathlib.Core.Path.{sym, _∙_}
 use borrow.Author.Tests.{not-true, not-false}
+use Rattle.configuration.specs.Limits.{limitsOf}
 use Rattle.configuration.specs.Lent.{lent-head, lent-fits, lent-room, lent-good}
 use borrow.Author.Needs.{needs}
 use Rattle.configuration.proofs.block.lent.Statement.{statement}
@@ -12,7 +13,7 @@ good-head-requires : tie.Need-good-head-requires
 good-head-requires c κs = search needs
 
 returns : tie.Need-returns
-returns c = lent-head (now (c .before .before .before .args .config)) (sym (c .before .good-head .ensures) ∙ not-true _ (c .if1 .taken))
+returns c = let a = c .before .before .before .args in lent-head (limitsOf (a .limits)) (c .before .before .before .pre .0) (now (a .config)) (sym (c .before .good-head .ensures) ∙ not-true _ (c .if1 .taken))
 
 shared-slice-read-wide : tie.Need-shared-slice-read-wide
 shared-slice-read-wide c = search needs
@@ -42,13 +43,13 @@ part-room-start : tie.Need-part-room-start
 part-room-start c = search needs
 
 part-room-end : tie.Need-part-room-end
-part-room-end c = omega (arith, c .before .before .before .before .before .before .before .pre, lent-fits (now (c .before .before .before .before .before .before .before .args .config)) (sym (c .before .before .before .before .before .good-head .ensures) ∙ not-false _ (c .before .before .before .before .if1 .left)) _ _ (c .wide2 .ensures) (c .before .before .wide .ensures))
+part-room-end c = omega (arith, c .before .before .before .before .before .before .before .pre .1, lent-fits (limitsOf (c .before .before .before .before .before .before .before .args .limits)) (c .before .before .before .before .before .before .before .pre .0) (now (c .before .before .before .before .before .before .before .args .config)) (sym (c .before .before .before .before .before .good-head .ensures) ∙ not-false _ (c .before .before .before .before .if1 .left)) _ _ (c .wide2 .ensures) (c .before .before .wide .ensures))
 
 room-requires : tie.Need-room-requires
 room-requires c κs = (search needs, omega (arith, c .before .before .before .wide .ensures, c .before .before .before .before .shared-slice-known2 .given 2))
 
 returns-2 : tie.Need-returns-2
-returns-2 c = lent-room (now (c .before .before .before .before .before .before .before .before .before .before .args .config)) (sym (c .before .before .before .before .before .before .before .before .good-head .ensures) ∙ not-false _ (c .before .before .before .before .before .before .before .if1 .left)) _ _ (c .before .before .before .wide2 .ensures) (c .before .before .before .before .before .wide .ensures) (omega (arith, c .before .room .ensures))
+returns-2 c = lent-room (limitsOf (c .before .before .before .before .before .before .before .before .before .before .before .args .limits)) (c .before .before .before .before .before .before .before .before .before .before .before .pre .0) (now (c .before .before .before .before .before .before .before .before .before .before .before .args .config)) (sym (c .before .before .before .before .before .before .before .before .before .good-head .ensures) ∙ not-false _ (c .before .before .before .before .before .before .before .before .if1 .left)) _ _ (c .before .before .before .before .wide2 .ensures) (c .before .before .before .before .before .before .wide .ensures) (omega (arith, c .before .before .room .ensures))
 
 shared-slice-read-lay : tie.Need-shared-slice-read-lay
 shared-slice-read-lay c = search needs
@@ -68,11 +69,15 @@ shared-slice-read-lay-5 c = search needs
 shared-slice-read-lay-6 : tie.Need-shared-slice-read-lay-6
 shared-slice-read-lay-6 c = search needs
 
+cast-lay : tie.Need-cast-lay
+cast-lay c = search needs
+
 lay-requires : tie.Need-lay-requires
-lay-requires c κs = search needs
+lay-requires c κs = omega (arith, c .before .before .before .before .before .before .before .before .before .before .before .before .before .before .before .before .before .pre .0 .bytes, c .before .before .before .before .before .before .if2 .left)
 
 returns-3 : tie.Need-returns-3
-returns-3 c = lent-good (now (c .before .before .before .before .before .before .before .before .before .before .before .before .before .before .before .before .before .args .config)) (sym (c .before .before .before .before .before .before .before .before .before .before .before .before .before .before .before .good-head .ensures) ∙ not-false _ (c .before .before .before .before .before .before .before .before .before .before .before .before .before .before .if1 .left)) _ _ (c .before .before .before .before .before .before .before .before .before .before .wide2 .ensures) (c .before .before .before .before .before .before .before .before .before .before .before .before .wide .ensures) (c .before .before .before .before .before .before .before .before .before .before .before .before .before .before .before .before .before .pre) _ (c .before .before .before .before .before .before .before .before .room .ensures) (omega arith) _ (c .lay .ensures)
+returns-3 c =
+    lent-good (limitsOf (c .before .before .before .before .before .before .before .before .before .before .before .before .before .before .before .before .before .before .args .limits)) (c .before .before .before .before .before .before .before .before .before .before .before .before .before .before .before .before .before .before .pre .0) (now (c .before .before .before .before .before .before .before .before .before .before .before .before .before .before .before .before .before .before .args .config)) (sym (c .before .before .before .before .before .before .before .before .before .before .before .before .before .before .before .before .good-head .ensures) ∙ not-false _ (c .before .before .before .before .before .before .before .before .before .before .before .before .before .before .before .if1 .left)) _ _ (c .before .before .before .before .before .before .before .before .before .before .before .wide2 .ensures) (c .before .before .before .before .before .before .before .before .before .before .before .before .before .wide .ensures) (c .before .before .before .before .before .before .before .before .before .before .before .before .before .before .before .before .before .before .pre .1) _ (c .before .before .before .before .before .before .before .before .before .room .ensures) (omega arith) _ (c .lay .ensures)
 
 pub lent-spec : {M : Type 1} → statement M
 lent-spec =
@@ -98,5 +103,6 @@ lent-spec =
     shared-slice-read-lay-4
     shared-slice-read-lay-5
     shared-slice-read-lay-6
+    cast-lay
     lay-requires
     returns-3)

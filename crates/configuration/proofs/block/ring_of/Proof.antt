@@ -39,6 +39,9 @@ part-taken-end c =
 taken-requires : tie.Need-taken-requires
 taken-requires c κs = search needs
 
+cast-base : tie.Need-cast-base
+cast-base c = search needs
+
 add-base : tie.Need-add-base
 add-base c =
     let s = c .before .before .before .before .before in
@@ -84,6 +87,7 @@ ring-of-spec =
     part-taken-start
     part-taken-end
     taken-requires
+    cast-base
     add-base
     shared-slice-read-wide
     wide-requires

@@ -51,6 +51,9 @@ shared-slice-read-lay-5 c = omega (arith, accepted-length (now (c .before .befor
 shared-slice-read-lay-6 : tie.Need-shared-slice-read-lay-6
 shared-slice-read-lay-6 c = omega (arith, accepted-length (now (c .before .before .before .before .before .before .before .before .before .before .before .before .before .args .frame)) (accepted (now (c .before .before .before .before .before .before .before .before .before .before .before .before .before .args .frame)) (c .before .before .before .before .before .before .before .before .before .before .before .before .before .pre)))
 
+cast-lay : tie.Need-cast-lay
+cast-lay c = search needs
+
 lay-requires : tie.Need-lay-requires
 lay-requires c κs = let f = now (c .before .before .before .before .before .before .before .before .before .before .before .before .before .args .frame) in accepted-room f (accepted f (c .before .before .before .before .before .before .before .before .before .before .before .before .before .pre)) _ _ (c .before .before .before .before .before .before .before .before .wide2 .ensures) (c .before .before .before .before .before .before .taken .ensures)
 
@@ -76,5 +79,6 @@ shape-of-spec =
     shared-slice-read-lay-4
     shared-slice-read-lay-5
     shared-slice-read-lay-6
+    cast-lay
     lay-requires
     returns)

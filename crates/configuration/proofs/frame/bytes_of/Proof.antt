@@ -1,25 +1,29 @@
--- Two bytes' product fits.
+-- A product of two bytes fits.
 use native.Mathlib.Nat.{mul-le-mul}
 use native.Mathlib.Omega.{arith}
+use mathlib.Core.Path.{refl}
 use borrow.Author.Needs.{needs}
-use Prim.Native.Nat.{ℕ, _*_, _≤_}
+use Prim.Native.Nat.{ℕ, _*_, _/_, _%_, _<_, _≤_}
 use Rattle.configuration.proofs.frame.bytes_of.Statement.{statement}
 use Rattle.configuration.proofs.frame.bytes_of.Tie as tie
 
-product-low : (w d : ℕ) → w ≤ 255 → d ≤ 255 → w * d ≤ 65025
-product-low w d a b = mul-le-mul a b
+product-low : (x : ℕ) → x < 65536 → x % 256 * (x / 256) ≤ 65025
+product-low x h =
+    let a : x % 256 ≤ 255 = omega arith in
+    let b : x / 256 ≤ 255 = omega arith in
+    mul-le-mul a b
 
-wide-requires : tie.Need-wide-requires
-wide-requires c κs = search needs
+cast-result : tie.Need-cast-result
+cast-result c = search needs
 
-wide-requires-2 : tie.Need-wide-requires-2
-wide-requires-2 c κs = search needs
+cast-result-2 : tie.Need-cast-result-2
+cast-result-2 c = search needs
 
 mul-result : tie.Need-mul-result
-mul-result c = omega (arith, product-low (c .before .wide .result) (c .wide2 .result) (omega arith) (omega arith))
+mul-result c = omega (arith, product-low (c .args .pair) (omega arith))
 
 returns : tie.Need-returns
-returns c = (rw (c .before .wide .ensures, c .wide2 .ensures), product-low (c .before .wide .result) (c .wide2 .result) (omega arith) (omega arith))
+returns c = (refl, product-low (c .args .pair) (omega arith))
 
 pub bytes-of-spec : {M : Type 1} → statement M
-bytes-of-spec = tie.close (tie.spec wide-requires wide-requires-2 mul-result returns)
+bytes-of-spec = tie.close (tie.spec cast-result cast-result-2 mul-result returns)

@@ -1,6 +1,7 @@
 -- The rule speaks of these bytes.
 use mathlib.Core.Path.{sym, _∙_}
 use denote.Ref.{now}
+use Rattle.configuration.specs.Limits.{limitsOf}
 use Rattle.configuration.specs.Head.{head-read}
 use borrow.Author.Needs.{needs}
 use Rattle.configuration.proofs.frame.good_head.Statement.{statement}
@@ -38,8 +39,8 @@ head-rule-requires c κs = search needs
 
 returns : tie.Need-returns
 returns c =
-    let a = now (c .before .before .before .before .before .before .before .before .before .before .before .args .bytes) in
-    c .head-rule .ensures ∙ rw (c .before .before .before .before .before .before .before .word .ensures) (sym (head-read a))
+    let a = c .before .before .before .before .before .before .before .before .before .before .before .args in
+    c .head-rule .ensures ∙ rw (c .before .before .before .before .before .before .before .word .ensures) (sym (head-read (limitsOf (a .limits)) (now (a .bytes))))
 
 pub good-head-spec : {M : Type 1} → statement M
 good-head-spec =

@@ -8,7 +8,7 @@ use Rattle.configuration.proofs.fresh.start.Statement.{statement}
 use Rattle.configuration.proofs.fresh.start.Tie as tie
 
 copy-in-requires : tie.Need-copy-in-requires
-copy-in-requires c κs = omega (arith, frame-length (now (c .before .before .before .before .before .before .args .frame)) (c .before .before .before .before .before .before .pre .0))
+copy-in-requires c κs = omega (arith, c .before .before .before .before .before .before .pre .2)
 
 add-at : tie.Need-add-at
 add-at c = omega (arith, tasks-in (now (c .before .before .before .before .before .before .before .before .before .before .args .frame)) (c .before .before .before .before .before .before .before .before .before .before .pre .0) (c .before .before .before .before .before .before .before .before .before .before .args .shape) (c .before .before .before .before .before .before .before .before .before .before .pre .1))

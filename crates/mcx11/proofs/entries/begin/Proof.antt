@@ -1,7 +1,8 @@
 -- The shape is that of the memory that the start leaves, which shows the fresh ledger; the answer is for the task that runs there.
 use native.Mathlib.Omega.{arith}
+use denote.Ref.{now}
 use Rattle.tables.specs.Layout.{fitting}
-use Rattle.mcx11.specs.Feeding.{begun-room, begun}
+use Rattle.mcx11.specs.Entries.{begun-fits, begun-room, begun}
 use borrow.Author.Needs.{needs}
 use Rattle.mcx11.proofs.entries.begin.Statement.{statement}
 use Rattle.mcx11.proofs.entries.begin.Tie as tie
@@ -10,7 +11,11 @@ shape-of-requires : tie.Need-shape-of-requires
 shape-of-requires c κs = search needs
 
 start-requires : tie.Need-start-requires
-start-requires c κs = search needs
+start-requires c κs =
+    let p = c .before .before .before .before .before .before .before .before .before .before .before .pre in
+    let o = c .before .before .before .before .shape-of .ensures in
+    let r = begun-fits (now (c .before .before .before .before .before .before .before .before .before .before .before .args .frame)) (p .0) _ o in
+    (p .0, o, omega (arith, r .0, p .1), omega (arith, r .1, p .2), omega (arith, r .2, p .3), omega (arith, r .3, p .4))
 
 running-requires : tie.Need-running-requires
 running-requires c κs =

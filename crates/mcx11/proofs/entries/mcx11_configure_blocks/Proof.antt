@@ -2,58 +2,43 @@
 use mathlib.Core.Path.{refl, sym, _∙_}
 use borrow.Author.Tests.{not-true, not-false}
 use denote.Ref.{now}
-use Rattle.mcx11.specs.Contract.{memory, fullSize}
-use Rattle.mcx11.specs.Sizes.{full-sizes}
-use Rattle.mcx11.specs.Feeding.{configure-short, configure-refused, configure-accepted}
+use Rattle.mcx11.specs.Contract.{memory}
+use Rattle.mcx11.specs.Sizes.{full-sizes, full-told}
+use Rattle.mcx11.specs.Entries.{configure-short, configure-refused, configure-accepted}
 use borrow.Author.Needs.{needs}
 use Rattle.mcx11.proofs.entries.mcx11_configure_blocks.Statement.{statement}
 use Rattle.mcx11.proofs.entries.mcx11_configure_blocks.Tie as tie
+
+controller-requires : tie.Need-controller-requires
+controller-requires c κs = search needs
 
 full-size-requires : tie.Need-full-size-requires
 full-size-requires c κs = search needs
 
 returns : tie.Need-returns
-unfolding fullSize
-returns c =
-    let a = c .before .before .before .before .before .before .before .before .args in
-    configure-short (now (a .frame)) (now (a .config)) (now (a .tables)) (now (a .slots)) (now (a .timers)) (now (a .answer)) (sym (c .before .full-size .ensures) ∙ not-true _ (c .if1 .taken))
+returns c = configure-short (now (c .before .before .before .before .before .before .before .before .before .args .frame)) (now (c .before .before .before .before .before .before .before .before .before .args .config)) (now (c .before .before .before .before .before .before .before .before .before .args .tables)) (now (c .before .before .before .before .before .before .before .before .before .args .slots)) (now (c .before .before .before .before .before .before .before .before .before .args .timers)) (now (c .before .before .before .before .before .before .before .before .before .args .answer)) (full-told _ (c .before .before .controller .ensures) (now (c .before .before .before .before .before .before .before .before .before .args .config)) (now (c .before .before .before .before .before .before .before .before .before .args .tables)) (now (c .before .before .before .before .before .before .before .before .before .args .slots)) (now (c .before .before .before .before .before .before .before .before .before .args .timers)) (now (c .before .before .before .before .before .before .before .before .before .args .answer)) _ _ (c .before .full-size .ensures) (not-true _ (c .if1 .taken)))
 
 refusal-requires : tie.Need-refusal-requires
 refusal-requires c κs = search needs
 
 refuse-configuration-requires : tie.Need-refuse-configuration-requires
-unfolding fullSize
-refuse-configuration-requires c κs =
-    let a = c .before .before .before .before .before .before .before .before .before .before .before .args in
-    full-sizes (memory (now (a .config)) (now (a .tables)) (now (a .slots)) (now (a .timers)) (now (a .answer))) (sym (c .before .before .before .before .full-size .ensures) ∙ not-false _ (c .before .before .before .if1 .left)) .answer
+refuse-configuration-requires c κs = full-sizes (memory (now (c .before .before .before .before .before .before .before .before .before .before .before .before .args .config)) (now (c .before .before .before .before .before .before .before .before .before .before .before .before .args .tables)) (now (c .before .before .before .before .before .before .before .before .before .before .before .before .args .slots)) (now (c .before .before .before .before .before .before .before .before .before .before .before .before .args .timers)) (now (c .before .before .before .before .before .before .before .before .before .before .before .before .args .answer))) (full-told _ (c .before .before .before .before .before .controller .ensures) (now (c .before .before .before .before .before .before .before .before .before .before .before .before .args .config)) (now (c .before .before .before .before .before .before .before .before .before .before .before .before .args .tables)) (now (c .before .before .before .before .before .before .before .before .before .before .before .before .args .slots)) (now (c .before .before .before .before .before .before .before .before .before .before .before .before .args .timers)) (now (c .before .before .before .before .before .before .before .before .before .before .before .before .args .answer)) _ _ (c .before .before .before .before .full-size .ensures) (not-false _ (c .before .before .before .if1 .left))) .answer
 
 same-length : tie.Need-same-length
 same-length c = search needs
 
 returns-2 : tie.Need-returns-2
-unfolding fullSize
 returns-2 c =
-    let a = c .before .before .before .before .before .before .before .before .before .before .before .before .before .before .args in
-    configure-refused
-    (now (a .frame))
-    (now (a .config))
-    (now (a .tables))
-    (now (a .slots))
-    (now (a .timers))
-    (now (a .answer))
-    _
-    _
+    configure-refused (now (c .before .before .before .before .before .before .before .before .before .before .before .before .before .before .before .args .frame)) (now (c .before .before .before .before .before .before .before .before .before .before .before .before .before .before .before .args .config)) (now (c .before .before .before .before .before .before .before .before .before .before .before .before .before .before .before .args .tables)) (now (c .before .before .before .before .before .before .before .before .before .before .before .before .before .before .before .args .slots)) (now (c .before .before .before .before .before .before .before .before .before .before .before .before .before .before .before .args .timers)) (now (c .before .before .before .before .before .before .before .before .before .before .before .before .before .before .before .args .answer)) _ _
     record { config = refl; tables = refl; slots = refl; timers = refl; answer = c .before .before .refuse-configuration .kept .1 .0 }
-    (sym (c .before .before .before .before .before .before .before .full-size .ensures) ∙ not-false _ (c .before .before .before .before .before .before .if1 .left))
+    (full-told _ (c .before .before .before .before .before .before .before .before .controller .ensures) (now (c .before .before .before .before .before .before .before .before .before .before .before .before .before .before .before .args .config)) (now (c .before .before .before .before .before .before .before .before .before .before .before .before .before .before .before .args .tables)) (now (c .before .before .before .before .before .before .before .before .before .before .before .before .before .before .before .args .slots)) (now (c .before .before .before .before .before .before .before .before .before .before .before .before .before .before .before .args .timers)) (now (c .before .before .before .before .before .before .before .before .before .before .before .before .before .before .before .args .answer)) _ _ (c .before .before .before .before .before .before .before .full-size .ensures) (not-false _ (c .before .before .before .before .before .before .if1 .left)))
     (c .before .before .before .before .before .refusal .ensures)
     (c .before .before .before .before .if2 .taken)
     (c .before .before .refuse-configuration .ensures)
 
 begin-requires : tie.Need-begin-requires
-unfolding fullSize
 begin-requires c κs =
-    let a = c .before .before .before .before .before .before .before .before .before .before .before .before .before .before .before .args in
-    let n = full-sizes (memory (now (a .config)) (now (a .tables)) (now (a .slots)) (now (a .timers)) (now (a .answer))) (sym (c .before .before .before .before .before .before .before .before .full-size .ensures) ∙ not-false _ (c .before .before .before .before .before .before .before .if1 .left)) in
+    let n = full-sizes (memory (now (c .before .before .before .before .before .before .before .before .before .before .before .before .before .before .before .before .args .config)) (now (c .before .before .before .before .before .before .before .before .before .before .before .before .before .before .before .before .args .tables)) (now (c .before .before .before .before .before .before .before .before .before .before .before .before .before .before .before .before .args .slots)) (now (c .before .before .before .before .before .before .before .before .before .before .before .before .before .before .before .before .args .timers)) (now (c .before .before .before .before .before .before .before .before .before .before .before .before .before .before .before .before .args .answer))) (full-told _ (c .before .before .before .before .before .before .before .before .before .controller .ensures) (now (c .before .before .before .before .before .before .before .before .before .before .before .before .before .before .before .before .args .config)) (now (c .before .before .before .before .before .before .before .before .before .before .before .before .before .before .before .before .args .tables)) (now (c .before .before .before .before .before .before .before .before .before .before .before .before .before .before .before .before .args .slots)) (now (c .before .before .before .before .before .before .before .before .before .before .before .before .before .before .before .before .args .timers)) (now (c .before .before .before .before .before .before .before .before .before .before .before .before .before .before .before .before .args .answer)) _ _ (c .before .before .before .before .before .before .before .before .full-size .ensures) (not-false _ (c .before .before .before .before .before .before .before .if1 .left))) in
     (sym (c .before .before .before .before .before .before .refusal .ensures) ∙ c .before .before .before .before .before .if2 .left, n .config, n .tables, n .slots, n .timers, n .answer)
 
 same-length-2 : tie.Need-same-length-2
@@ -72,26 +57,11 @@ same-length-6 : tie.Need-same-length-6
 same-length-6 c = search needs
 
 returns-3 : tie.Need-returns-3
-unfolding fullSize
 returns-3 c =
-    let a = c .before .before .before .before .before .before .before .before .before .before .before .before .before .before .before .before .before .before .before .before .before .before .before .before .before .before .args in
     let k = c .before .before .before .before .before .before .before .before .before .before .begin .kept in
-    let full = sym (c .before .before .before .before .before .before .before .before .before .before .before .before .before .before .before .before .before .before .before .full-size .ensures) ∙ not-false _ (c .before .before .before .before .before .before .before .before .before .before .before .before .before .before .before .before .before .before .if1 .left) in
-    configure-accepted
-    (now (a .frame))
-    (now (a .config))
-    (now (a .tables))
-    (now (a .slots))
-    (now (a .timers))
-    (now (a .answer))
-    _
-    _
-    _
-    _
-    _
-    _
+    configure-accepted (now (c .before .before .before .before .before .before .before .before .before .before .before .before .before .before .before .before .before .before .before .before .before .before .before .before .before .before .before .args .frame)) (now (c .before .before .before .before .before .before .before .before .before .before .before .before .before .before .before .before .before .before .before .before .before .before .before .before .before .before .before .args .config)) (now (c .before .before .before .before .before .before .before .before .before .before .before .before .before .before .before .before .before .before .before .before .before .before .before .before .before .before .before .args .tables)) (now (c .before .before .before .before .before .before .before .before .before .before .before .before .before .before .before .before .before .before .before .before .before .before .before .before .before .before .before .args .slots)) (now (c .before .before .before .before .before .before .before .before .before .before .before .before .before .before .before .before .before .before .before .before .before .before .before .before .before .before .before .args .timers)) (now (c .before .before .before .before .before .before .before .before .before .before .before .before .before .before .before .before .before .before .before .before .before .before .before .before .before .before .before .args .answer)) _ _ _ _ _ _
     record { config = k .1 .0; tables = k .1 .1 .0; slots = k .1 .1 .1 .0; timers = k .1 .1 .1 .1 .0; answer = k .1 .1 .1 .1 .1 .0 }
-    full
+    (full-told _ (c .before .before .before .before .before .before .before .before .before .before .before .before .before .before .before .before .before .before .before .before .controller .ensures) (now (c .before .before .before .before .before .before .before .before .before .before .before .before .before .before .before .before .before .before .before .before .before .before .before .before .before .before .before .args .config)) (now (c .before .before .before .before .before .before .before .before .before .before .before .before .before .before .before .before .before .before .before .before .before .before .before .before .before .before .before .args .tables)) (now (c .before .before .before .before .before .before .before .before .before .before .before .before .before .before .before .before .before .before .before .before .before .before .before .before .before .before .before .args .slots)) (now (c .before .before .before .before .before .before .before .before .before .before .before .before .before .before .before .before .before .before .before .before .before .before .before .before .before .before .before .args .timers)) (now (c .before .before .before .before .before .before .before .before .before .before .before .before .before .before .before .before .before .before .before .before .before .before .before .before .before .before .before .args .answer)) _ _ (c .before .before .before .before .before .before .before .before .before .before .before .before .before .before .before .before .before .before .before .full-size .ensures) (not-false _ (c .before .before .before .before .before .before .before .before .before .before .before .before .before .before .before .before .before .before .if1 .left)))
     (c .before .before .before .before .before .before .before .before .before .before .before .before .before .before .before .before .before .refusal .ensures)
     (c .before .before .before .before .before .before .before .before .before .before .before .before .before .before .before .before .if2 .left)
     (c .before .before .before .before .before .before .before .before .before .before .begin .ensures)
@@ -100,6 +70,7 @@ pub mcx11-configure-blocks-spec : {M : Type 1} → statement M
 mcx11-configure-blocks-spec =
     tie.close
     (tie.spec
+    controller-requires
     full-size-requires
     returns
     refusal-requires

@@ -1,0 +1,53 @@
+-- The sum so far and the bytes of the queues from k on are all.
+use Prim.Native.Nat.{_+_, _*_, _-_, _≤_}
+use native.Mathlib.Omega.{arith}
+use mathlib.Core.Path.{_≡_, sym, _∙_}
+use lib.ListN.{drop}
+use denote.Ref.{now}
+use borrow.Author.Needs.{needs}
+use Rattle.configuration.specs.Room.{bytesIn, bytes-on, bytes-end}
+use Rattle.configuration.proofs.frame.taken.Statement.{statement}
+use Rattle.configuration.proofs.frame.taken.Tie as tie
+
+abbrev Inv-loop : tie.InvT-loop
+Inv-loop shapes queues sum₀ k₀ sum k = (k ≤ queues) × (sum ≤ 65025 * k) × (bytesIn shapes ≡ sum + bytesIn (drop (2 * k) shapes))
+
+abbrev μ-loop : tie.MeasureT-loop
+μ-loop shapes queues sum₀ k₀ sum k = queues - k
+
+loop-holds : tie.Need-loop-holds Inv-loop μ-loop
+loop-holds c = (omega arith, omega arith, omega arith)
+
+mul-pair : tie.Need-mul-pair Inv-loop μ-loop
+mul-pair c = omega arith
+
+pair-requires : tie.Need-pair-requires Inv-loop μ-loop
+pair-requires c κs = omega arith
+
+bytes-of-requires : tie.Need-bytes-of-requires Inv-loop μ-loop
+bytes-of-requires c κs = search needs
+
+add-sum : tie.Need-add-sum Inv-loop μ-loop
+add-sum c = omega (arith, c .before .before .before .loop .inv .1, c .bytes-of .ensures .1)
+
+add-k : tie.Need-add-k Inv-loop μ-loop
+add-k c = omega arith
+
+loop-less : tie.Need-loop-less Inv-loop μ-loop
+loop-less c = omega arith
+
+loop-again : tie.Need-loop-again Inv-loop μ-loop
+loop-again c =
+    let l = c .before .before .before .loop in
+    let a = now (c .before .before .before .before .before .args .shapes) in
+    let x = c .before .pair .ensures in
+    (omega arith, omega (arith, l .inv .1, c .bytes-of .ensures .1), l .inv .2 ∙ bytes-on (l .sum) (l .k) a (omega arith) _ (x .0) (x .1) _ (c .bytes-of .ensures .0))
+
+returns : tie.Need-returns Inv-loop μ-loop
+returns c =
+    let l = c .before .loop in
+    let a = now (c .before .before .before .args .shapes) in
+    sym (l .inv .2 ∙ bytes-end (l .sum) (l .k) a (omega arith))
+
+pub taken-spec : {M : Type 1} → statement M
+taken-spec = tie.close (tie.spec Inv-loop μ-loop loop-holds mul-pair pair-requires bytes-of-requires add-sum add-k loop-less loop-again returns)

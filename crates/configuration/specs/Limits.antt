@@ -1,0 +1,24 @@
+-- Limits: what the program's are, and what the tables are made for.
+use Prim.Native.Nat.{ℕ, _+_, _*_, _≤_}
+use native.Mathlib.Omega.{arith}
+use Rattle.ledger.specs.Config as config
+use Rattle.ledger.specs.Config.{controller}
+use Rattle.configuration.specs.declared.limits.Limits.{Limits}
+
+abbrev pub limitsOf : Limits → config.Limits
+limitsOf m = record { tasks = m .tasks; queues = m .queues; timers = m .timers; messages = m .messages; bytes = m .bytes }
+
+-- the longest frame
+abbrev pub longest : config.Limits → ℕ
+longest m = 8 + m .tasks + 2 * m .queues
+
+-- no more than a plane has bits for, and than the controller has
+pub record Made (m : config.Limits) : Type 0 where
+  pub tasks : m .tasks ≤ 126
+  pub queues : m .queues ≤ 32
+  pub timers : m .timers ≤ 64
+  pub messages : m .messages ≤ 64
+  pub bytes : m .bytes ≤ 4096
+
+pub controller-made : Made controller
+controller-made = record { tasks = omega arith; queues = omega arith; timers = omega arith; messages = omega arith; bytes = omega arith }

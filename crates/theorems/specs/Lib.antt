@@ -1,0 +1,6 @@
+pub mod Calls
+pub mod Numbers
+pub mod Follows
+pub mod Same
+pub mod SomeLedger
+pub mod Agree

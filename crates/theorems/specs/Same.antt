@@ -1,0 +1,95 @@
+-- Demand 3, of every list of calls by their contracts: the answers, the numbers and the items are the ledger's, and what is
+-- proved of the ledger holds of them.
+use Prim.Native.Nat.{ℕ, _*_, _≤_}
+use mathlib.Core.Path.{_≡_, ap, ap₂, sym, _∙_, subst}
+use mathlib.Core.Logic.{_⊎_}
+use mathlib.Core.Bool.{true}
+use mathlib.Core.List.{List, [], _∷_, _++_}
+use borrow.Author.Tests.{ne-eqb}
+use lib.ListN.{length, getD, take}
+use Rattle.ledger.specs.Lists.{byte}
+use Rattle.ledger.specs.Config.{Config, configIn, configRefusal}
+use Rattle.ledger.specs.Ledger.{fresh, queue, held}
+use Rattle.ledger.specs.Session.{answer, run, session, refusedConfiguration, items}
+use Rattle.ledger.specs.Theorems.Parts.{Every}
+use Rattle.ledger.specs.Theorems.Lowest.{TaskRuns, NullRuns}
+use Rattle.ledger.specs.Theorems.Shown.{lowest-shown, reissues-shown}
+use Rattle.ledger.specs.Theorems.HandedOut.{handed-out}
+use Rattle.configuration.specs.Block.{configured}
+use Rattle.mcx11.specs.Contract.{Memory, fullSize, lentWell, Displays, answering, Configures}
+use Rattle.theorems.specs.Calls.{FrameCalls}
+use Rattle.mcx11.specs.Answer.{answerOf, answer-is}
+use Rattle.theorems.specs.Numbers.{numbers, Not11, none-11, configuration-never-11}
+use Rattle.mcx11.specs.Displayed.{itemsIn, items-shown}
+use Rattle.theorems.specs.Follows.{Follows, follows}
+
+-- the calls for the configuration g and the frames fs, with these answers and numbers, those of the configuration first, left the
+-- memory m
+pub record Same (g : List ℕ) (fs answered : List (List ℕ)) (returned : List ℕ) (m : Memory) : Type 0 where
+  -- byte by byte, the answers are the ledger's
+  pub answers : answered ≡ session g fs
+  -- each number is the ledger's, and none is 11
+  pub numbers : returned ≡ numbers (configIn g) fs
+  pub none-11 : Every Not11 returned
+  -- the memory shows the ledger after the list: its bytes are, item by item, what the ledger keeps
+  pub shown : Displays (configIn g) (run (configIn g) fs .0) m
+  pub items : items (run (configIn g) fs .0) ≡ itemsIn (configIn g) m
+  -- it is lent well, so that the next frame doesn't meet 11 either
+  pub well : lentWell m ≡ true
+  -- the second byte of answer i, that after i frames, is the runnable task with the lowest number, or 0 if none is runnable
+  pub lowest : (i : ℕ) → i ≤ length fs
+      → let T = configIn g .T in let l = run (configIn g) (take i fs) .0 in let n = byte 1 (getD answered i []) in TaskRuns T l n ⊎ NullRuns T l n
+  -- the third byte of each answer is at most 2T reissues
+  pub bound : (i : ℕ) → i ≤ length fs → byte 2 (getD answered i []) ≤ 2 * configIn g .T
+  -- what a queue handed out, followed by what it holds, is all that was put into it, in order
+  pub fifo : (q : ℕ) → let k = queue (run (configIn g) fs .0) q in k .handedOut ++ held k ≡ k .put
+
+session-is : (g : List ℕ) (fs : List (List ℕ)) → configRefusal g ≡ 0 → run (configIn g) fs .1 ≡ session g fs
+unfolding session
+session-is g fs h = rw h
+
+whole : (g : List ℕ) (fs answered : List (List ℕ)) (returned : List ℕ) (m : Memory) → configRefusal g ≡ 0
+    → answered ≡ run (configIn g) fs .1 → returned ≡ numbers (configIn g) fs → Displays (configIn g) (run (configIn g) fs .0) m → lentWell m ≡ true
+    → Same g fs answered returned m
+whole g fs answered returned m h a n d w =
+    record {
+      answers = a ∙ session-is g fs h;
+      numbers = n;
+      none-11 = rw n (none-11 (configIn g) fs);
+      shown = d;
+      items = items-shown (configIn g) (run (configIn g) fs .0) m d;
+      well = w;
+      lowest = rw a (lowest-shown g h fs);
+      bound = rw a (reissues-shown (configIn g) fs);
+      fifo = handed-out g h fs;
+    }
+
+-- for every accepted configuration, every memory of full size, whatever it held, and every list of frames, refused ones among them
+pub every-list : {g : List ℕ} {m₀ m₁ m : Memory} {r₀ : ℕ} {fs answered : List (List ℕ)} {returned : List ℕ}
+    → configRefusal g ≡ 0 → fullSize m₀ ≡ true → Configures g m₀ m₁ r₀ → FrameCalls m₁ fs answered returned m
+    → Same g fs (answerOf m₁ ∷ answered) (r₀ ∷ returned) m
+unfolding run numbers
+every-list {g} {m₀} {m₁} {m} {r₀} {fs} {answered} {returned} h full s more =
+    let c = configIn g in
+    let a = s .accepted full h in
+    let e : configured (m₁ .config) ≡ c = a .1 in
+    let d : Displays (configured (m₁ .config)) (fresh c) m₁ = subst (λ (k : Config). Displays k (fresh c) m₁) (sym e) (a .3) in
+    let rest : Follows c (fresh c) fs answered returned m = subst (λ (k : Config). Follows k (fresh c) fs answered returned m) e (follows (fresh c) (a .2) d more) in
+    whole g fs (answerOf m₁ ∷ answered) (r₀ ∷ returned) m h
+    (ap₂ _∷_ (answer-is m₁ (answer 0 0 (fresh c)) (m₀ .answer) (a .4)) (rest .answers))
+    (ap₂ _∷_ (a .0) (rest .numbers))
+    (rest .shown)
+    (rest .well)
+
+-- a configuration that is refused gives its number, which isn't 11, and the one answer of the session
+pub record Refused (g answered : List ℕ) (r : ℕ) : Type 0 where
+  pub number : r ≡ configRefusal g
+  pub not-11 : Not11 r
+  pub answers : (fs : List (List ℕ)) → answered ∷ [] ≡ session g fs
+
+pub refused-configuration : {g : List ℕ} {m₀ m₁ : Memory} {r : ℕ} → (configRefusal g ≡ 0 → ⊥) → fullSize m₀ ≡ true → Configures g m₀ m₁ r → Refused g (answerOf m₁) r
+unfolding session answering
+refused-configuration {g} {m₀} {m₁} {r} h full s =
+    let a = s .refused full h in
+    let e : answerOf m₁ ≡ refusedConfiguration (configRefusal g) = answer-is m₁ (refusedConfiguration (configRefusal g)) (m₀ .answer) (ap (λ (m : Memory). m .answer) (a .1)) in
+    record { number = a .0; not-11 = rw (a .0) (configuration-never-11 g); answers = λ fs. rw (e, ne-eqb (configRefusal g) 0 h) }

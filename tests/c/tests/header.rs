@@ -1,0 +1,284 @@
+//! host/mcx11.h: its calls by names feed the frames that they should, its trace hook gets every call, its texts are its names,
+//! and its readers of the state tell what the other implementation has, whatever the memory holds.
+
+mod tools;
+
+use c::damage::damage;
+use c::lent::{Lent, SIZES};
+use c::rules;
+use plain_executive::configuration::Configuration;
+use plain_executive::executive::Executive;
+use plain_executive::generator::{cascade, Generator, Script};
+use plain_executive::items::Items;
+use plain_executive::random::Random;
+use plain_executive::semaphore::Semaphore;
+use plain_executive::tasks::{Block, Blocks};
+use plain_executive::{line, session};
+use std::collections::BTreeSet;
+use std::fmt::Write;
+use std::process::Command;
+use tools::{built, frames_of, languages, printed, repository, run, scratch, stories, text, two_languages};
+
+// ---- the calls by names, and the trace hook
+
+fn sessions() -> Vec<Vec<u8>> {
+    let stories = stories().into_iter().map(|story| frames_of(&story));
+    let random = (0..60).map(|seed| Generator::new(seed).script(1..=20, 300).lines());
+    stories.chain(random).collect()
+}
+
+/// What the hook writes of a session: line, answer and number of each call.
+fn traced(program: &std::path::Path, input: &[u8]) -> String {
+    printed(&mut Command::new(program), input)
+}
+
+/// A frame as the call of its code's name feeds it: the fields that the code does not use are 0.
+fn canonical(frame: &[u8]) -> Vec<u8> {
+    let mut frame = frame.to_vec();
+    if frame.len() < 5 || frame.len() > 5 && frame[0] != 8 {
+        return frame;
+    }
+    let (a, b, x) = match frame[0] {
+        1..=3 | 0x11 => (false, true, false),
+        6..=0xC => (true, false, false),
+        0x10 => (false, false, false),
+        _ => (true, true, true),
+    };
+    for (used, at) in [(a, 1), (b, 2), (x, 3), (x, 4)] {
+        frame[at] *= u8::from(used);
+    }
+    if frame[0] == 0xF && (frame[4] != 0 || frame[2] == 0) {
+        frame[3] = 0;
+        frame[4] = frame[4].min(1);
+    }
+    if frame.len() > 5 + 16 {
+        frame.truncate(5);
+    }
+    frame
+}
+
+#[test]
+fn the_calls_by_names_feed_their_frames_and_are_traced() {
+    let folder = scratch("calls");
+    let programs: Vec<_> = languages().map(|language| built(&folder, "calls.c", language, &[])).collect();
+    let (code_names, numbers) = (names("code"), names("number"));
+    let mut codes = BTreeSet::new();
+    for input in sessions() {
+        let answers = session::run(&input);
+        let mut expected = String::new();
+        for (index, (fed, answer)) in session::lines(&input).zip(session::lines(&answers)).enumerate() {
+            let frame = line::read(fed).expect("a line");
+            let (what, called) = if index == 0 {
+                ("configuration", frame.clone())
+            } else {
+                codes.insert(frame.first().copied());
+                ("frame", canonical(&frame))
+            };
+            let code = if index == 0 { None } else { called.first() };
+            let number = &numbers[usize::from(line::read(&answer[..2]).expect("a refusal")[0])];
+            let code = code.map_or("", |&code| &code_names[usize::from(code)]);
+            let digits = String::from_utf8(line::write(&called).expect("a line")).expect("digits");
+            writeln!(expected, "{digits} {} {number}, {what} {code}", String::from_utf8_lossy(answer)).unwrap();
+        }
+        for program in &programs {
+            assert_eq!(traced(program, &input), expected, "{}", program.display());
+        }
+    }
+    assert!((1..=0x11).all(|code| codes.contains(&Some(code))), "not every code: {codes:?}");
+}
+
+/// Of each value its enumerator in the header's enum, in small letters and without what all names begin with.
+fn names(of: &str) -> Vec<String> {
+    let header = text("host/mcx11.h");
+    let body = header.split(&format!("enum mcx11_{of} {{")).nth(1).and_then(|rest| rest.split("};").next());
+    let mut names = vec!["unknown".to_string(); 256];
+    for line in body.expect("the enum").lines() {
+        let Some((name, number)) = line.trim().strip_prefix("MCX11_").and_then(|line| line.split_once(" = ")) else {
+            continue;
+        };
+        let number = number.split([',', ' ']).next().expect("a number");
+        let number = number.strip_prefix("0x").map_or(number.parse(), |digits| usize::from_str_radix(digits, 16));
+        names[number.expect("a number")] =
+            name.replace("OUTCOME_", "").replace("NUMBER_", "").replace('_', " ").to_lowercase();
+    }
+    names
+}
+
+/// Every name that the header has as a text is the enumerator's, and what has no name is unknown.
+#[test]
+fn the_texts_are_the_enumerators_names() {
+    let folder = scratch("names");
+    let source = "#include \"mcx11.h\"\n#include <stdio.h>\nint main(void)\n{\n    int i;\n    for (i = 0; i < 256; i++)\n        \
+                  printf(\"%s|%s|%s\\n\", mcx11_code_name((uint8_t)i), mcx11_outcome_name((uint8_t)i), \
+                  mcx11_number_name((uint8_t)i));\n    return 0;\n}\n";
+    std::fs::write(folder.join("names.c"), source).unwrap();
+    let program = folder.join("names");
+    let mut compile = Command::new("gcc");
+    compile.args(["-std=c99"]).args(tools::STRICT).arg("-I").arg(repository().join("host"));
+    compile.arg(folder.join("names.c")).arg("-o").arg(&program);
+    printed(&mut compile, b"");
+    let told = printed(&mut Command::new(&program), b"");
+    let all = ["code", "outcome_kind", "number"].map(names);
+    let due = (0..256).map(|value| format!("{}|{}|{}", all[0][value], all[1][value], all[2][value]));
+    assert!(told.lines().eq(due.clone()), "{:?}", told.lines().zip(due).find(|(ours, due)| ours != due));
+}
+
+/// Doxygen finds everything documented.
+#[test]
+#[cfg_attr(not(has_doxygen), ignore = "doxygen is missing")]
+fn doxygen_reads_the_comments() {
+    let told = format!(
+        "INPUT={}\nOUTPUT_DIRECTORY={}\nQUIET=YES\nGENERATE_LATEX=NO\nHAVE_DOT=NO\nEXTRACT_STATIC=YES\n\
+         OPTIMIZE_OUTPUT_FOR_C=YES\nJAVADOC_AUTOBRIEF=YES\nPREDEFINED=MCX11_TRACE=trace\nMACRO_EXPANSION=YES\n",
+        repository().join("host/mcx11.h").display(),
+        scratch("doxygen").display()
+    );
+    let output = run(Command::new("doxygen").arg("-"), told.as_bytes());
+    let warnings = String::from_utf8_lossy(&output.stderr);
+    let of_header: Vec<&str> = warnings.lines().filter(|line| line.contains("mcx11.h")).collect();
+    assert!(output.status.success() && of_header.is_empty(), "{of_header:#?}");
+}
+
+// ---- the readers of the state
+
+/// The items of the state as tests/c/state.c prints what the header reads.
+fn state(items: &Items, configuration: &Configuration) -> String {
+    let mut told = String::new();
+    let ticks_left = configuration.ticks_per_tock - items.ticks;
+    writeln!(told, "tasks {} ticks left {ticks_left} timers {}", items.tasks.len(), items.timers.len()).unwrap();
+    for (index, task) in items.tasks.iter().enumerate() {
+        let number = index as u8 + 1;
+        let (blocks, own) = (bits(task.blocks), configuration.semaphore_of_task(number));
+        let (mailbox, slot) = (items.mailboxes[index].len(), digits(&task.slot));
+        writeln!(told, "task {number} blocks {blocks} own {own} mailbox {mailbox} slot {slot}").unwrap();
+    }
+    for (index, semaphore) in items.semaphores.iter().enumerate() {
+        match semaphore {
+            Semaphore::Pending => Ok(()),
+            Semaphore::Done => writeln!(told, "semaphore {} DONE", index + 1),
+            Semaphore::Waiting(task) => writeln!(told, "semaphore {} WAITING with {task}", index + 1),
+        }
+        .unwrap();
+    }
+    for (index, (held, size)) in items.queues.iter().zip(&configuration.queues).enumerate() {
+        let entries: String = held.iter().map(|entry| format!(" {}", digits(entry))).collect();
+        let (queue, count) = (index + 1, held.len());
+        writeln!(told, "queue {queue} width {} depth {} holds {count}:{entries} none", size.width, size.depth).unwrap();
+    }
+    told + &timers(items) + "\n"
+}
+
+/// By task and semaphore. In damaged memory two may have the same; the first counts.
+fn timers(items: &Items) -> String {
+    let mut timers: Vec<_> = items.timers.iter().collect();
+    timers.sort_by_key(|timer| (timer.task, timer.semaphore));
+    timers.dedup_by_key(|timer| (timer.task, timer.semaphore));
+    let due_or_cyclic = timers.iter().filter(|timer| timer.tocks_left != 0 || timer.period != 0);
+    let line = |timer: &&_| {
+        let plain_executive::items::TimerItem { task, semaphore, tocks_left, period } = **timer;
+        format!("timer {task} {semaphore} left {tocks_left} period {period}\n")
+    };
+    due_or_cyclic.map(|timer| line(timer)).collect()
+}
+
+fn bits(blocks: Blocks) -> u8 {
+    let all = [Block::Idle, Block::Suspended, Block::EventWait, Block::MessageWait];
+    all.into_iter().filter(|&block| blocks.has(block)).map(|block| block as u8).sum()
+}
+
+fn digits(bytes: &[u8]) -> String {
+    bytes.iter().map(|byte| format!("{byte:02X}")).collect()
+}
+
+/// The memories after some frames of a session, and the states that the other implementation has there.
+fn of_session(script: &Script, every: usize, memories: &mut Vec<u8>, states: &mut String) {
+    let mut memory = Lent::new(SIZES, || 0xA5);
+    let mut other = Executive::configure(&script.configuration).expect("accepted");
+    assert_eq!(memory.configure(&script.configuration), 0);
+    for (index, frame) in script.frames.iter().enumerate() {
+        other.frame(frame);
+        memory.frame(frame);
+        if index % every == 0 {
+            memories.extend(memory.blocks().concat());
+            states.push_str(&state(&other.items(), other.configuration()));
+        }
+    }
+}
+
+#[test]
+fn the_readers_tell_the_other_implementations_state() {
+    let (mut memories, mut states) = (Vec::new(), String::new());
+    of_session(&cascade(), 3, &mut memories, &mut states);
+    for seed in 0..100 {
+        let tasks = [1, 2, 5, 20, 126][seed as usize % 5];
+        let script = Generator::new(seed).script(tasks..=tasks, 300);
+        of_session(&script, 20, &mut memories, &mut states);
+    }
+    for word in ["DONE", "WAITING", "holds 2", "mailbox 2", "blocks 4", "blocks 8", "blocks 1 ", "blocks 2 ", "timer"] {
+        assert!(states.contains(word), "never reached: {word}");
+    }
+    let folder = scratch("state");
+    for language in two_languages() {
+        let program = built(&folder, "state.c", language, &["-O2"]);
+        same(&printed(&mut Command::new(&program), &memories), &states);
+    }
+    for language in languages() {
+        built(&folder, "state.c", language, &[]);
+    }
+}
+
+fn same(ours: &str, theirs: &str) {
+    if let Some((ours, theirs)) = ours.lines().zip(theirs.lines()).find(|(ours, theirs)| ours != theirs) {
+        panic!("the header reads\n{ours}\nand the other implementation has\n{theirs}");
+    }
+    assert_eq!(ours.lines().count(), theirs.lines().count());
+}
+
+/// Damaged memory that a frame would go on from means a state, and the readers tell that one; of any other memory they tell
+/// something. They stay inside: the sanitizers of gcc find an index that is outside its block.
+#[test]
+fn the_readers_stay_inside_whatever_the_memory_holds() {
+    let mut random = Random::new(23);
+    let (mut good, mut states, mut bad) = (Vec::new(), String::new(), Vec::new());
+    let mut another = Lent::new(SIZES, || 0);
+    for seed in 0..400 {
+        let script = Generator::new(9000 + seed).script(1..=12, 40);
+        let mut memory = Lent::new(SIZES, || random.byte());
+        assert_eq!(memory.configure(&script.configuration), 0);
+        for frame in &script.frames {
+            memory.frame(frame);
+        }
+        let left = memory.clone();
+        damage(&mut random, &mut memory, &Configuration::read(&script.configuration).expect("accepted"), &another);
+        another = left;
+        if memory.blocks().map(<[u8]>::len) != SIZES {
+            continue;
+        }
+        match rules::configuration(&memory.config) {
+            Some(configuration) if rules::broken(&memory).is_none() => {
+                states.push_str(&state(&memory.items(&configuration), &configuration));
+                good.extend(memory.blocks().concat());
+            }
+            _ => bad.extend(memory.blocks().concat()),
+        }
+        let counts = [140, 256, 40, 70, 70].map(|most| random.below(most) as u8);
+        bad.extend(counts);
+        bad.extend((counts.len()..SIZES.iter().sum()).map(|_| random.byte()));
+    }
+    let size = SIZES.iter().sum::<usize>();
+    assert!(good.len() > 100 * size && bad.len() > 390 * size, "{} good, {} bad", good.len() / size, bad.len() / size);
+    let sanitized = ["-g", "-O1", "-fsanitize=address,undefined", "-fno-sanitize-recover=all"];
+    let program = built(&scratch("inside"), "state.c", two_languages()[0], &sanitized);
+    same(&printed(&mut Command::new(&program), &good), &states);
+    let told = printed(&mut Command::new(&program), &bad);
+    let tasks = told.lines().filter_map(|line| line.strip_prefix("tasks ")?.split(' ').next());
+    assert!(tasks.eq(bad.chunks(size).map(|memory| tasks_of(memory).to_string())));
+}
+
+/// T, where the counts are a configuration's; else there is nothing to read.
+fn tasks_of(memory: &[u8]) -> u8 {
+    let [tasks, named, queues, timers, messages] = *memory.first_chunk().expect("a memory");
+    let semaphores = u32::from(named) + u32::from(tasks) + 2 * u32::from(queues);
+    let counts = tasks <= 126 && queues <= 32 && timers <= 64 && messages <= 64 && semaphores <= 255;
+    tasks * u8::from(counts)
+}

@@ -1,0 +1,52 @@
+//! What the command line asks for.
+
+pub const USAGE: &str = "\
+view words [FILE] [--names NAMES]              each frame and its answer in words
+view page FILE [-o PAGE] [--names NAMES]       one page for a browser
+view page FILE FILE [-o PAGE] [--names NAMES]  two sessions side by side
+FILE is a session: lines of upper-case digits, first the configuration; '-' is standard input.
+NAMES has lines such as 't1 gate', 's2 train-in', 'q1 orders', 'm1 go'. PAGE is page.html if it is not told.
+Ends with 0; with 1 if a configuration is refused; with 2 if the command or a file is wrong; with 3 if the two
+implementations differ, and then no page is written.
+";
+
+#[derive(Debug, PartialEq, Eq)]
+pub enum Task {
+    Help,
+    Words { file: String },
+    Page { files: Vec<String>, page: String },
+}
+
+#[derive(Debug, PartialEq, Eq)]
+pub struct Arguments {
+    pub task: Task,
+    pub names: Option<String>,
+}
+
+pub fn read(words: impl IntoIterator<Item = String>) -> Result<Arguments, String> {
+    let (mut names, mut page, mut plain) = (None, None, Vec::new());
+    let mut words = words.into_iter();
+    while let Some(word) = words.next() {
+        let mut value = || words.next().ok_or_else(|| format!("'{word}' needs a file behind it"));
+        match word.as_str() {
+            "-h" | "--help" => return Ok(Arguments { task: Task::Help, names: None }),
+            "--names" => names = Some(value()?),
+            "-o" => page = Some(value()?),
+            option if option.starts_with('-') && option != "-" => return Err(format!("there is no option '{option}'")),
+            _ => plain.push(word),
+        }
+    }
+    let mut plain = plain.into_iter();
+    let command = plain.next().ok_or("say what to show: 'words' or 'page'")?;
+    let files: Vec<String> = plain.collect();
+    let task = match (command.as_str(), files.len()) {
+        ("words", _) if page.is_some() => return Err("'-o' is for 'page'; words go to standard output".to_string()),
+        ("words", 0) => Task::Words { file: "-".to_string() },
+        ("words", 1) => Task::Words { file: files[0].clone() },
+        ("words", _) => return Err("'words' takes one file".to_string()),
+        ("page", 1 | 2) => Task::Page { files, page: page.unwrap_or_else(|| "page.html".to_string()) },
+        ("page", _) => return Err("'page' takes one file, or two to compare them".to_string()),
+        _ => return Err(format!("there is no command '{command}': say 'words' or 'page'")),
+    };
+    Ok(Arguments { task, names })
+}

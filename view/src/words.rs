@@ -1,0 +1,283 @@
+//! Frames and answers in words.
+
+use plain_executive::answer;
+use plain_executive::command::*;
+use plain_executive::configuration::Configuration;
+use plain_executive::tocks::{tock_value, Tocks};
+use plain_executive::trail::Event;
+
+use crate::names::Names;
+use crate::refusals;
+use crate::replay::Step;
+
+pub struct Words<'a> {
+    pub configuration: &'a Configuration,
+    pub names: &'a Names,
+}
+
+/// "1 byte", "2 bytes".
+pub fn counted(count: usize, what: &str) -> String {
+    format!("{} {what}{}", grouped(count), if count == 1 { "" } else { "s" })
+}
+
+/// With a comma before each three digits.
+pub fn grouped(count: usize) -> String {
+    let digits = count.to_string();
+    let parts: Vec<&str> = digits.as_bytes().rchunks(3).rev().map(|part| std::str::from_utf8(part).unwrap()).collect();
+    parts.join(",")
+}
+
+pub fn hex(bytes: &[u8]) -> String {
+    bytes.iter().map(|byte| format!("{byte:02X}")).collect()
+}
+
+/// Which of a queue's semaphores.
+#[derive(Clone, Copy, PartialEq, Eq)]
+pub enum Side {
+    NotEmpty,
+    NotFull,
+}
+
+/// The queue whose semaphore this is.
+pub fn queue_of(configuration: &Configuration, semaphore: u8) -> Option<(u8, Side)> {
+    let behind = semaphore.checked_sub(configuration.nameable_semaphores())?.checked_sub(1)?;
+    let side = if behind % 2 == 0 { Side::NotEmpty } else { Side::NotFull };
+    (behind / 2 < configuration.queue_count()).then_some((behind / 2 + 1, side))
+}
+
+impl Words<'_> {
+    pub fn task(&self, task: u8) -> String {
+        match self.names.of('t', task) {
+            _ if task == 0 => "the null task".to_string(),
+            Some(name) => name.to_string(),
+            None => format!("task {task}"),
+        }
+    }
+
+    /// Where the word task is clear: its number alone.
+    fn number_of(&self, task: u8) -> String {
+        self.names.of('t', task).map_or_else(|| task.to_string(), str::to_string)
+    }
+
+    pub fn semaphore(&self, number: u8) -> String {
+        if let Some(name) = self.names.of('s', number) {
+            return format!("semaphore {name}");
+        }
+        match queue_of(self.configuration, number) {
+            Some((queue, Side::NotEmpty)) => return format!("not-empty of {}", self.queue(queue)),
+            Some((queue, Side::NotFull)) => return format!("not-full of {}", self.queue(queue)),
+            None => {}
+        }
+        let task = number.checked_sub(self.configuration.named_semaphores);
+        let own = task.and_then(|task| self.names.of('t', task));
+        own.map_or_else(|| format!("semaphore {number}"), |name| format!("{name}'s own semaphore"))
+    }
+
+    /// A semaphore in a sentence about a task: the task's own is its own, where only the task has a name.
+    fn semaphore_of(&self, task: u8, number: u8) -> String {
+        let own = task > 0 && number == self.configuration.semaphore_of_task(task);
+        if own && self.names.of('t', task).is_some() && self.names.of('s', number).is_none() {
+            return "its own semaphore".to_string();
+        }
+        self.semaphore(number)
+    }
+
+    pub fn queue(&self, number: u8) -> String {
+        format!("queue {}", self.names.of('q', number).map_or_else(|| number.to_string(), str::to_string))
+    }
+
+    pub fn message(&self, number: u16) -> String {
+        let name = u8::try_from(number).ok().and_then(|number| self.names.of('m', number));
+        format!("message {}", name.map_or_else(|| number.to_string(), str::to_string))
+    }
+
+    /// The whole line of a step, with its number.
+    pub fn line(&self, step: &Step) -> String {
+        format!("{}  {}: {}", step.number, self.asked(step), self.answered(step))
+    }
+
+    /// What the frame asks for.
+    pub fn asked(&self, step: &Step) -> String {
+        if step.number == 0 {
+            return configured(self.configuration);
+        }
+        match step.frame {
+            None => format!("a line of {}", counted(step.line.len(), "character")),
+            Some(frame @ [code, a, b, high, low, ..]) if (WAIT..=INTERRUPT_EXIT).contains(code) => {
+                let x = u16::from_be_bytes([*high, *low]);
+                let asked =
+                    Asked { words: self, caller: step.caller, code: *code, a: *a, b: *b, x, entry: &frame[5..] };
+                asked.words(step)
+            }
+            Some(frame) => format!("frame {}", hex(frame)),
+        }
+    }
+
+    /// The answer, and what the frame did that the answer does not show.
+    pub fn answered(&self, step: &Step) -> String {
+        let running = self.task(step.running());
+        if step.refusal() != 0 {
+            let rule = refusals::rule(self, step);
+            let on = if step.running() == 0 { "runs" } else { "goes on" };
+            return format!("refused {}, {rule}; {running} {on}", step.refusal());
+        }
+        let mut said = format!("{running} runs{}", self.outcome(step.running(), &step.answer[3..]));
+        if step.answer[2] > 0 {
+            said += &format!("; {} reissued", step.answer[2]);
+        }
+        step.trail.iter().filter_map(|event| self.lost(event)).for_each(|lost| said += &lost);
+        said
+    }
+
+    fn lost(&self, event: &Event) -> Option<String> {
+        let Event::Lost { semaphore } = event else { return None };
+        Some(format!("; {} was DONE, a signal is lost", self.semaphore(*semaphore)))
+    }
+
+    fn outcome(&self, task: u8, outcome: &[u8]) -> String {
+        match outcome {
+            [answer::BEGIN, ..] => ", begins".to_string(),
+            [answer::MESSAGE, message, sender, _] => {
+                format!(", has {} from {}", self.message((*message).into()), self.number_of(*sender))
+            }
+            [answer::ENTRY, entry @ ..] => format!(", has entry {}", hex(entry)),
+            [answer::REFUSED, number] => {
+                format!(", its request met {number}: {}", refusals::SHORT[usize::from(*number)])
+            }
+            [answer::SEMAPHORE, number] => format!(", has {}", self.semaphore_of(task, *number)),
+            _ => String::new(),
+        }
+    }
+}
+
+fn configured(configuration: &Configuration) -> String {
+    let Configuration { tasks, named_semaphores, timers, messages, ticks_per_tock, milliseconds_per_tock, .. } =
+        *configuration;
+    let count = |count: u8, what: &str| counted(count.into(), what);
+    format!(
+        "configuration of {}, {}, {}, {}, {}; a tock is {} and {} ms",
+        count(tasks, "task"),
+        count(named_semaphores, "named semaphore"),
+        count(configuration.queue_count(), "queue"),
+        count(timers, "timer"),
+        count(messages, "message"),
+        count(ticks_per_tock, "tick"),
+        grouped(milliseconds_per_tock.into())
+    )
+}
+
+/// A frame's fields.
+struct Asked<'a> {
+    words: &'a Words<'a>,
+    caller: u8,
+    code: u8,
+    a: u8,
+    b: u8,
+    x: u16,
+    entry: &'a [u8],
+}
+
+impl Asked<'_> {
+    fn words(&self, step: &Step) -> String {
+        let Asked { words, a, x, .. } = self;
+        let own = words.task(self.caller);
+        match self.code {
+            WAIT => format!("{own} waits for {}", self.semaphore(self.caller)),
+            SIGNAL => format!("{own} signals {}", self.semaphore(self.caller)),
+            PEND => format!("{own} pends {}", self.semaphore(self.caller)),
+            SEND => format!("{own} {}", self.sends()),
+            SENDW => format!("{own} {} and waits", self.sends()),
+            RECEIVE if *a == 0 => format!("{own} receives from any task"),
+            RECEIVE => format!("{own} receives from {}", words.task(*a)),
+            DEQUEUE => format!("{own} takes from {}", words.queue(*a)),
+            ENQUEUE => format!("{own} puts {} into {}", hex(self.entry), words.queue(*a)),
+            RESUME => format!("{own} resumes {}", self.task_or("task 0")),
+            SUSPEND => format!("{own} suspends {}", self.task_or("itself")),
+            TERMINATE => format!("{own} terminates {}", self.task_or("itself")),
+            EXECUTE => format!("{own} executes {}", self.task_or("task 0")),
+            DELAY => {
+                format!("{own} delays {} by {} on {}", self.task_or("itself"), tocks(*x), self.semaphore(self.of_a()))
+            }
+            TIMER => self.timer(&own),
+            PURGE => self.purge(&own),
+            TICK => format!("tick{}", self.passed(step)),
+            _ if self.b == 0 => "interrupt exit".to_string(),
+            _ => format!("interrupt exit, signals {}", words.semaphore(self.b)),
+        }
+    }
+
+    /// Semaphore B, 0 is that of a task; the null task has none.
+    fn semaphore(&self, of: u8) -> String {
+        match (self.b, of) {
+            (0, 0) => "its own semaphore".to_string(),
+            (0, of) if of > self.words.configuration.tasks => format!("the own semaphore of task {of}"),
+            (0, of) => self.words.semaphore_of(self.caller, self.words.configuration.semaphore_of_task(of)),
+            (named, _) => self.words.semaphore_of(self.caller, named),
+        }
+    }
+
+    /// Task A, 0 is the caller.
+    fn of_a(&self) -> u8 {
+        if self.a == 0 {
+            self.caller
+        } else {
+            self.a
+        }
+    }
+
+    /// Task A, or what its number 0 means; the caller's own number is the caller.
+    fn task_or(&self, zero: &str) -> String {
+        match self.a {
+            0 => zero.to_string(),
+            own if own == self.caller => "itself".to_string(),
+            other => self.words.task(other),
+        }
+    }
+
+    fn sends(&self) -> String {
+        let Asked { words, a, x, .. } = self;
+        let to = if *a == 0 { "task 0".to_string() } else { words.task(*a) };
+        format!("sends {} to {to} with {}", words.message(*x), self.semaphore(self.caller))
+    }
+
+    fn timer(&self, own: &str) -> String {
+        let whom = if self.of_a() == self.caller { String::new() } else { format!(" for {}", self.words.task(self.a)) };
+        format!("{own} starts a timer{whom} of {} on {}", tocks(self.x), self.semaphore(self.of_a()))
+    }
+
+    fn purge(&self, own: &str) -> String {
+        let is_own = self.of_a() == self.caller;
+        let all = self.x & 0xFF == 0;
+        let whose = self.words.task(self.a);
+        match (is_own, all) {
+            (true, true) => format!("{own} purges all its timers"),
+            (false, true) => format!("{own} purges all timers of {whose}"),
+            (true, false) => format!("{own} purges its timer on {}", self.semaphore(self.caller)),
+            (false, false) => format!("{own} purges the timer of {whose} on {}", self.semaphore(self.a)),
+        }
+    }
+
+    /// Of a tick: the tock, and the timers that were due.
+    fn passed(&self, step: &Step) -> String {
+        let mut said = String::new();
+        if step.tock {
+            said += ", a tock passes";
+        }
+        for event in step.trail {
+            if let Event::Due { task, semaphore } = event {
+                let (task, semaphore) = (self.words.task(*task), self.words.semaphore_of(*task, *semaphore));
+                said += &format!(", a timer of {task} signals {semaphore}");
+            }
+        }
+        said
+    }
+}
+
+/// A tock value.
+pub fn tocks(x: u16) -> String {
+    match tock_value(x) {
+        Err(_) => "0 tocks".to_string(),
+        Ok(Tocks::OneShot(tocks)) => counted(tocks as usize, "tock"),
+        Ok(Tocks::Cyclic(period)) => format!("{} (cyclic)", counted(period as usize, "tock")),
+    }
+}

@@ -1,0 +1,51 @@
+//! The page in a real browser, Debian's chromium without a window.
+
+mod chromium;
+mod expected;
+mod lively;
+mod looks;
+mod pictures;
+mod uses;
+mod value;
+
+use std::fs;
+use std::path::{Path, PathBuf};
+use std::sync::{Mutex, MutexGuard, PoisonError};
+
+use chromium::Browser;
+use view::names::Names;
+use view::page;
+
+pub fn repository() -> PathBuf {
+    Path::new(env!("CARGO_MANIFEST_DIR")).join("..")
+}
+
+pub fn story(name: &str) -> Vec<u8> {
+    fs::read(repository().join("examples").join(name).with_extension("session")).expect("a story")
+}
+
+/// One browser at a time: what is measured in it is not to be disturbed.
+static ONE: Mutex<()> = Mutex::new(());
+
+pub struct Opened {
+    pub browser: Browser,
+    _alone: MutexGuard<'static, ()>,
+}
+
+/// A browser of 1280 by 800 pixels, which must be there.
+pub fn browser(name: &str) -> Opened {
+    let alone = ONE.lock().unwrap_or_else(PoisonError::into_inner);
+    let program =
+        chromium::program().expect("chromium is missing: 'apt-get install chromium', or leave out '--test browser'");
+    let mut browser = Browser::start(&program, name);
+    browser.size(1280, 800);
+    Opened { browser, _alone: alone }
+}
+
+/// Writes the page of some sessions.
+pub fn page_of(name: &str, sessions: &[(&str, &[u8])], names: &str) -> PathBuf {
+    let names = Names::read(names).expect("names");
+    let path = Path::new(env!("CARGO_TARGET_TMPDIR")).join(format!("{name}.html"));
+    fs::write(&path, page::make(sessions, &names).expect("a page").html).expect("written");
+    path
+}

@@ -1,0 +1,220 @@
+//! `view words` as a program: the words of every story, the rule of every refusal, statuses and messages.
+
+use std::collections::BTreeSet;
+use std::fs;
+use std::io::Write;
+use std::path::{Path, PathBuf};
+use std::process::{Command, Output, Stdio};
+use std::time::Instant;
+
+use plain_executive::generator::Generator;
+
+fn repository() -> PathBuf {
+    Path::new(env!("CARGO_MANIFEST_DIR")).join("..")
+}
+
+fn view(arguments: &[&str], input: &[u8]) -> Output {
+    let mut child = Command::new(env!("CARGO_BIN_EXE_view"))
+        .args(arguments)
+        .current_dir(repository())
+        .stdin(Stdio::piped())
+        .stdout(Stdio::piped())
+        .stderr(Stdio::piped())
+        .spawn()
+        .expect("the program");
+    let mut stdin = child.stdin.take().expect("piped");
+    let input = input.to_vec();
+    let feeder = std::thread::spawn(move || stdin.write_all(&input).is_ok());
+    let output = child.wait_with_output().expect("it ends");
+    feeder.join().expect("fed");
+    output
+}
+
+fn text(bytes: &[u8]) -> String {
+    String::from_utf8(bytes.to_vec()).expect("UTF-8")
+}
+
+/// What it prints for an input that it takes.
+fn words(input: &[u8]) -> String {
+    let output = view(&["words"], input);
+    assert_eq!(output.status.code(), Some(0), "{}", text(&output.stderr));
+    text(&output.stdout)
+}
+
+/// A file with this content, for the time of a test.
+fn file(name: &str, content: &str) -> String {
+    let path = Path::new(env!("CARGO_TARGET_TMPDIR")).join(name);
+    fs::write(&path, content).expect("written");
+    path.to_str().expect("a name").to_string()
+}
+
+/// What stands in `examples/`: each story's name, and whether it has names.
+fn stories() -> Vec<(String, bool)> {
+    let entries =
+        fs::read_dir(repository().join("examples")).expect("examples/").map(|entry| entry.expect("a file").path());
+    let sessions = entries.filter(|path| path.extension().is_some_and(|end| end == "session"));
+    let stem = |path: &Path| path.file_stem().unwrap().to_str().unwrap().to_string();
+    sessions.map(|path| (stem(&path), path.with_extension("names").exists())).collect()
+}
+
+#[test]
+fn the_words_of_every_story_are_as_stored() {
+    let folder = Path::new(env!("CARGO_MANIFEST_DIR")).join("tests/words");
+    let mut told = 0;
+    let mut compare = |arguments: &[&str], stored: &str| {
+        let output = view(arguments, b"");
+        let due =
+            fs::read_to_string(folder.join(stored)).unwrap_or_else(|_| panic!("view/tests/words/{stored} is missing"));
+        assert_eq!(text(&output.stdout), due, "{stored}");
+        let refused = due.starts_with("0  configuration: refused ");
+        assert_eq!(output.status.code(), Some(i32::from(refused)), "{stored}");
+        assert_eq!(output.stderr.is_empty(), !refused, "{stored}: {}", text(&output.stderr));
+        told += 1;
+    };
+    for (story, named) in stories() {
+        let session = format!("examples/{story}.session");
+        compare(&["words", &session], &format!("{story}.words"));
+        if named {
+            let names = format!("examples/{story}.names");
+            compare(&["words", &session, "--names", &names], &format!("{story}-named.words"));
+        }
+    }
+    assert!(told > 5 && told == fs::read_dir(&folder).unwrap().count(), "each stored file belongs to a story");
+}
+
+#[test]
+fn a_send_that_ends_a_wait() {
+    let said = words(b"02010000040100640000\n0602000000\n0401020001\n");
+    let due = "2  task 2 sends message 1 to task 1 with semaphore 2: task 1 runs, has message 1 from 2; 1 reissued";
+    assert_eq!(said.lines().last(), Some(due));
+}
+
+/// Sessions with a frame for each number, and what is said of it.
+#[test]
+fn each_refusal_says_its_rule() {
+    let head = "020101010101007D00000101\n";
+    let cases: [(&str, &str); 22] = [
+        ("0701", "refused 2, a frame has at least 5 bytes, not 2; task 1 goes on"),
+        ("070100000", "refused 1, the number of digits is odd; task 1 goes on"),
+        ("07010000zz", "refused 1, character 9 is 'z', which is no digit; task 1 goes on"),
+        ("07010000ff", "refused 1, character 9 is 'f': digits are upper-case; task 1 goes on"),
+        (
+            "0701000000\r",
+            "refused 1, character 11 is a carriage return: let lines end with a line feed alone; task 1 goes on",
+        ),
+        ("070100000000", "refused 2, a frame of code 07 has 5 bytes, not 6; task 1 goes on"),
+        ("08010000004142", "refused 2, an entry of queue 1 has 1 byte, not 2; task 1 goes on"),
+        ("1200000000", "refused 4, there is no code 12 (01 to 11); task 1 goes on"),
+        ("0900000000", "refused 5, task 0 is not allowed here; task 1 goes on"),
+        ("0903000000", "refused 5, there is no task 3 (1 to 2); task 1 goes on"),
+        ("0C01000000", "refused 5, a task does not execute itself; task 1 goes on"),
+        ("0100040000", "refused 6, semaphore 4 is not-empty of queue 1, and nobody names it; task 1 goes on"),
+        ("0100090000", "refused 6, there is no semaphore 9 (0 to 3); task 1 goes on"),
+        ("0702000000", "refused 7, there is no queue 2, only 1; task 1 goes on"),
+        ("0402000002", "refused 8, there is no message 2, only 1; task 1 goes on"),
+        ("0D00000000", "refused 9, the tock value is 0; task 1 goes on"),
+        ("0B02000000\n0D02000001", "refused 25, task 2 is idle; task 1 goes on"),
+        ("0402000001\n0402000001", "refused 22, message 1 still lies in the mailbox of task 2; task 1 goes on"),
+        ("0E00000001\n0E00000001", "refused 24, task 1 has a timer on semaphore 2 already; task 1 goes on"),
+        ("0E00000001\n0E00010001", "refused 23, the only timer is active; task 1 goes on"),
+        ("0100010000\n0300010000", "refused 21, task 1 waits for semaphore 1 already; task 2 goes on"),
+        (
+            "0701000000\n0701000000",
+            "refused 21, queue 1 is empty, and task 1 waits for an entry already; task 2 goes on",
+        ),
+    ];
+    for (frames, rule) in cases {
+        let said = words(format!("{head}{frames}\n").as_bytes());
+        let last = said.lines().last().unwrap();
+        assert!(last.ends_with(rule), "{frames}: {last}");
+    }
+    let none = words(format!("{head}0100010000\n0100000000\n0100000000\n").as_bytes());
+    assert!(none.ends_with("3  the null task waits for its own semaphore: refused 20, no task runs, and the null task asks for no service; the null task runs\n"), "{none}");
+}
+
+/// The words of random sessions, damaged lines too, hold every number of the state and of the input.
+#[test]
+fn random_sessions_are_told_whole() {
+    let mut met = BTreeSet::new();
+    for seed in 0..60 {
+        let tasks = [1, 2, 5, 20, 126][seed as usize % 5];
+        let input = Generator::new(900 + seed).script(tasks..=tasks, 400).lines();
+        let said = words(&input);
+        let answers = plain_executive::session::run(&input);
+        for (line, answer) in said.lines().zip(text(&answers).lines()) {
+            let number = u8::from_str_radix(&answer[..2], 16).unwrap();
+            let (_, told) = line.split_once(": ").unwrap();
+            assert_eq!(number != 0, told.starts_with("refused "), "{line}");
+            assert!(number == 0 || told.starts_with(&format!("refused {number}, ")), "{line}");
+            assert!(!told.contains(", ; ") && !told.contains("  "), "{line}");
+            met.insert(number);
+        }
+        assert_eq!(said.lines().count(), text(&answers).lines().count());
+    }
+    let due: BTreeSet<u8> = [0, 2, 4, 5, 6, 7, 8, 9, 20, 21, 22, 23, 24, 25].into();
+    assert!(met.is_superset(&due), "{met:?}");
+}
+
+#[test]
+fn a_refused_configuration_ends_with_1_and_says_why() {
+    let cases = [
+        ("00010101010100010000", "is refused with 3, so the session ends: T, the number of tasks, is 0, not 1 to 126"),
+        ("0101", "is refused with 2, so the session ends: it has 2 bytes, and the first eight are needed"),
+        ("020101010101007D000001", "is refused with 2, so the session ends: it has 11 bytes, and 8 + T + 2Q is 12"),
+        (
+            "020101010101007D00000001",
+            "is refused with 3, so the session ends: queue 1 has width 0 (1 to 16) and depth 1 (1 to 255)",
+        ),
+        (
+            "020101010101007D00020101",
+            "is refused with 3, so the session ends: the initial state of task 2 is 2, not 0 or 1",
+        ),
+        ("02zz", "is refused with 1, so the session ends: character 3 is 'z', which is no digit"),
+    ];
+    for (line, rule) in cases {
+        let output = view(&["words"], line.as_bytes());
+        assert_eq!(output.status.code(), Some(1), "{line}");
+        assert_eq!(text(&output.stderr), format!("view: -: line 1, the configuration, {rule}\n"));
+        let (_, why) = rule.split_once("ends: ").unwrap();
+        let said = text(&output.stdout);
+        assert!(
+            said.starts_with("0  configuration: refused ") && said.ends_with(&format!(", {why}; the session ends\n"))
+        );
+    }
+}
+
+#[test]
+fn wrong_commands_and_files_end_with_2_and_say_what_to_do() {
+    let bad = file("bad-names.txt", "t1 gate\nx2 lap\n");
+    let far = file("far-names.txt", "t3 third\n");
+    let cases: [(&[&str], &str); 10] = [
+        (&[], "say what to show: 'words' or 'page'"),
+        (&["show"], "there is no command 'show': say 'words' or 'page'"),
+        (&["words", "a", "b"], "'words' takes one file"),
+        (&["page"], "'page' takes one file, or two to compare them"),
+        (&["page", "a", "-o"], "'-o' needs a file behind it"),
+        (&["words", "--colour"], "there is no option '--colour'"),
+        (&["words", "no-such-file"], "no-such-file cannot be read: "),
+        (&["words", "-"], "- is empty: a session begins with the line of its configuration"),
+        (&["words", "examples/station.session", "--names", &bad], "line 2: 'x2 lap': write a line as 't1 gate'"),
+        (&["words", "examples/station.session", "--names", &far], "t3: this session has 2 tasks: take the line out"),
+    ];
+    for (arguments, what) in cases {
+        let output = view(arguments, b"");
+        assert_eq!(output.status.code(), Some(2), "{arguments:?}");
+        assert!(text(&output.stderr).contains(what), "{arguments:?}: {}", text(&output.stderr));
+    }
+    assert_eq!(view(&["--help"], b"").status.code(), Some(0));
+}
+
+#[test]
+fn a_million_frames_in_seconds_with_a_line_on_the_way() {
+    let input = Generator::new(1).script(8..=8, 1_000_000).lines();
+    let began = Instant::now();
+    let output = view(&["words"], &input);
+    let took = began.elapsed();
+    println!("a million frames in words: {took:?}");
+    assert_eq!(text(&output.stdout).lines().count(), plain_executive::session::lines(&input).count());
+    assert!(text(&output.stderr).contains("view: 500,000 frames"), "{}", text(&output.stderr));
+    assert!(took.as_secs() < 60, "{took:?}");
+}
