@@ -27,7 +27,8 @@ fn checked(
     shape: Shape,
     me: u8,
 ) -> u8
-    requires { ⌜ (5 ≤ length (now frame)) × (byte 0 (now frame) ≡ code) × OneOf 17 code × Configures (now config) shape × Fits shape (length (now tables)) × Holds shape (length (now timers)) × (me ≤ shape .tasks) ⌝ }
+    requires { ⌜ (5 ≤ length (now frame)) × (byte 0 (now frame) ≡ code) × OneOf 17 code × Configures (now config) shape
+        × Fits shape (length (now tables)) × Holds shape (length (now timers)) × (me ≤ shape .tasks) ⌝ }
     ensures { λ r. ⌜ Refuses (configured (now (config .entry))) shape (now (frame .entry)) me (now (tables .entry)) (now (timers .entry)) r ⌝ }
 {
     let u = codes::row(code);

@@ -100,7 +100,8 @@ fn timer_refused(timers: &[u8], shape: Shape, a: u8, b: u8) -> u8
 
 fn no_timer(kind: FieldX, timers: &[u8], shape: Shape, a: u8, b: u8) -> u8
     requires { ⌜ Holds shape (length (now timers)) ⌝ }
-    ensures { λ r. ⌜ TellsTimers shape (now (timers .entry)) (λ c L. first ((isTockValue (viewX kind) && haveTimer L a b) ⇒ 24 ∷ (isTockValue (viewX kind) && leb (c .R) (length (L .timers))) ⇒ 23 ∷ [])) r ⌝ }
+    ensures { λ r. ⌜ TellsTimers shape (now (timers .entry))
+        (λ c L. first ((isTockValue (viewX kind) && haveTimer L a b) ⇒ 24 ∷ (isTockValue (viewX kind) && leb (c .R) (length (L .timers))) ⇒ 23 ∷ [])) r ⌝ }
 {
     match kind {
         FieldX::Unused => 0,

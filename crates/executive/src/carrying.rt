@@ -36,8 +36,10 @@ fn by_family(
     timers: &mut [u8],
     shape: Shape,
 )
-    requires { ⌜ (5 ≤ length (now frame)) × OneOf 17 code × Lent (now config) shape (length (now tables)) (length (now slots)) (length (now timers)) × Meant (configured (now config)) shape code me a b (now frame) ⌝ }
-    ensures { λ _. ⌜ Effects (configured (now (config .entry))) shape code me a b (now (frame .entry)) (now (tables .entry)) (now (slots .entry)) (now (timers .entry)) (now (tables .exit)) (now (slots .exit)) (now (timers .exit)) ⌝ }
+    requires { ⌜ (5 ≤ length (now frame)) × OneOf 17 code
+        × Lent (now config) shape (length (now tables)) (length (now slots)) (length (now timers)) × Meant (configured (now config)) shape code me a b (now frame) ⌝ }
+    ensures { λ _. ⌜ Effects (configured (now (config .entry))) shape code me a b (now (frame .entry))
+        (now (tables .entry)) (now (slots .entry)) (now (timers .entry)) (now (tables .exit)) (now (slots .exit)) (now (timers .exit)) ⌝ }
 {
     match code {
         0x00..=0x03 => crate::semaphore::serve(tables, shape, code, me, b),
@@ -52,7 +54,7 @@ fn by_family(
     }
 }
 
-// The effect of an accepted frame of this code.
+// The same, of a frame of this code: the meant fields, the plain outcome, the effect.
 fn carried(
     code: u8,
     me: u8,
@@ -63,8 +65,10 @@ fn carried(
     timers: &mut [u8],
     shape: Shape,
 )
-    requires { ⌜ (5 ≤ length (now frame)) × (byte 0 (now frame) ≡ code) × OneOf 17 code × Lent (now config) shape (length (now tables)) (length (now slots)) (length (now timers)) × Passed (configured (now config)) shape me (now frame) ⌝ }
-    ensures { λ _. ⌜ Carries (configured (now (config .entry))) shape me (now (frame .entry)) (now (tables .entry)) (now (slots .entry)) (now (timers .entry)) (now (tables .exit)) (now (slots .exit)) (now (timers .exit)) ⌝ }
+    requires { ⌜ (5 ≤ length (now frame)) × (byte 0 (now frame) ≡ code) × OneOf 17 code
+        × Lent (now config) shape (length (now tables)) (length (now slots)) (length (now timers)) × Passed (configured (now config)) shape me (now frame) ⌝ }
+    ensures { λ _. ⌜ Carries (configured (now (config .entry))) shape me (now (frame .entry))
+        (now (tables .entry)) (now (slots .entry)) (now (timers .entry)) (now (tables .exit)) (now (slots .exit)) (now (timers .exit)) ⌝ }
 {
     let u = command::codes::row(code);
     let kind = u.a;
@@ -75,7 +79,7 @@ fn carried(
     by_family(code, me, a, b, frame, config, tables, slots, timers, shape);
 }
 
-// One call for each code, so that each is compiled with its own row of the table.
+// The effect of an accepted frame, while task `me` runs.
 pub fn carry_out(
     me: u8,
     frame: &[u8],
@@ -86,26 +90,8 @@ pub fn carry_out(
     shape: Shape,
 )
     requires { ⌜ Lent (now config) shape (length (now tables)) (length (now slots)) (length (now timers)) × Passed (configured (now config)) shape me (now frame) ⌝ }
-    ensures { λ _. ⌜ Carries (configured (now (config .entry))) shape me (now (frame .entry)) (now (tables .entry)) (now (slots .entry)) (now (timers .entry)) (now (tables .exit)) (now (slots .exit)) (now (timers .exit)) ⌝ }
+    ensures { λ _. ⌜ Carries (configured (now (config .entry))) shape me (now (frame .entry))
+        (now (tables .entry)) (now (slots .entry)) (now (timers .entry)) (now (tables .exit)) (now (slots .exit)) (now (timers .exit)) ⌝ }
 {
-    let code = frame[0];
-    match code {
-        0x01 => carried(0x01, me, frame, config, tables, slots, timers, shape),
-        0x02 => carried(0x02, me, frame, config, tables, slots, timers, shape),
-        0x03 => carried(0x03, me, frame, config, tables, slots, timers, shape),
-        0x04 => carried(0x04, me, frame, config, tables, slots, timers, shape),
-        0x05 => carried(0x05, me, frame, config, tables, slots, timers, shape),
-        0x06 => carried(0x06, me, frame, config, tables, slots, timers, shape),
-        0x07 => carried(0x07, me, frame, config, tables, slots, timers, shape),
-        0x08 => carried(0x08, me, frame, config, tables, slots, timers, shape),
-        0x09 => carried(0x09, me, frame, config, tables, slots, timers, shape),
-        0x0A => carried(0x0A, me, frame, config, tables, slots, timers, shape),
-        0x0B => carried(0x0B, me, frame, config, tables, slots, timers, shape),
-        0x0C => carried(0x0C, me, frame, config, tables, slots, timers, shape),
-        0x0D => carried(0x0D, me, frame, config, tables, slots, timers, shape),
-        0x0E => carried(0x0E, me, frame, config, tables, slots, timers, shape),
-        0x0F => carried(0x0F, me, frame, config, tables, slots, timers, shape),
-        0x10 => carried(0x10, me, frame, config, tables, slots, timers, shape),
-        _ => carried(0x11, me, frame, config, tables, slots, timers, shape),
-    }
+    carried(frame[0], me, frame, config, tables, slots, timers, shape);
 }

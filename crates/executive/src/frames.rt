@@ -19,7 +19,8 @@ fn act(
     shape: Shape,
 ) -> Settled
     requires { ⌜ Lent (now config) shape (length (now tables)) (length (now slots)) (length (now timers)) × Passed (configured (now config)) shape me (now frame) ⌝ }
-    ensures { λ r. ⌜ Acts (configured (now (config .entry))) shape me (now (frame .entry)) (now (tables .entry)) (now (slots .entry)) (now (timers .entry)) (now (tables .exit)) (now (slots .exit)) (now (timers .exit)) r ⌝ }
+    ensures { λ r. ⌜ Acts (configured (now (config .entry))) shape me (now (frame .entry))
+        (now (tables .entry)) (now (slots .entry)) (now (timers .entry)) (now (tables .exit)) (now (slots .exit)) (now (timers .exit)) r ⌝ }
 {
     crate::carrying::carry_out(me, frame, config, tables, slots, timers, shape);
     crate::settling::settle(tables, slots, config, shape)
@@ -36,7 +37,9 @@ pub fn step(
     answer: &mut [u8],
 ) -> u8
     requires { ⌜ Lent (now config) shape (length (now tables)) (length (now slots)) (length (now timers)) × (21 ≤ length (now answer)) ⌝ }
-    ensures { λ r. ⌜ Steps (configured (now (config .entry))) shape (now (frame .entry)) (now (tables .entry)) (now (slots .entry)) (now (timers .entry)) (now (answer .entry)) (now (tables .exit)) (now (slots .exit)) (now (timers .exit)) (now (answer .exit)) r ⌝ }
+    ensures { λ r. ⌜ Steps (configured (now (config .entry))) shape (now (frame .entry))
+        (now (tables .entry)) (now (slots .entry)) (now (timers .entry)) (now (answer .entry))
+        (now (tables .exit)) (now (slots .exit)) (now (timers .exit)) (now (answer .exit)) r ⌝ }
 {
     let me = tables::tasks::running(tables, shape);
     let number = command::refusal(frame, config, tables, timers, shape, me);

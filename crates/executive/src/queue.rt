@@ -27,8 +27,10 @@ pub fn ring(config: &[u8], shape: Shape, q: u8) -> Ring
 }
 
 fn dequeue(tables: &mut [u8], slots: &mut [u8], config: &[u8], shape: Shape, me: u8, q: u8)
-    requires { ⌜ Fits shape (length (now tables)) × Configures (now config) shape × (16 * shape .tasks ≤ length (now slots)) × OneOf (shape .tasks) me × OneOf (shape .queues) q ⌝ }
-    ensures { λ _. ⌜ DoesWithSlotsOf (configured (now (config .entry))) shape (now (tables .entry)) (now (slots .entry)) (now (tables .exit)) (now (slots .exit)) (λ c L. ledger_services.issue c me (ledger.dequeue q) L) ⌝ }
+    requires { ⌜ Fits shape (length (now tables)) × Configures (now config) shape × (16 * shape .tasks ≤ length (now slots))
+        × OneOf (shape .tasks) me × OneOf (shape .queues) q ⌝ }
+    ensures { λ _. ⌜ DoesWithSlotsOf (configured (now (config .entry))) shape (now (tables .entry)) (now (slots .entry))
+        (now (tables .exit)) (now (slots .exit)) (λ c L. ledger_services.issue c me (ledger.dequeue q) L) ⌝ }
 {
     let r = ring(config, shape, q);
     services::queue::dequeue(tables, slots, shape, r, me, q);
@@ -36,8 +38,10 @@ fn dequeue(tables: &mut [u8], slots: &mut [u8], config: &[u8], shape: Shape, me:
 
 // The entry is the part of the frame that starts at its sixth byte.
 fn enqueue(tables: &mut [u8], config: &[u8], shape: Shape, me: u8, q: u8, frame: &[u8])
-    requires { ⌜ Fits shape (length (now tables)) × Configures (now config) shape × OneOf (shape .tasks) me × OneOf (shape .queues) q × (length (drop 5 (now frame)) ≡ ledger_services.shape (configured (now config)) q .width) ⌝ }
-    ensures { λ _. ⌜ DoesOf (configured (now (config .entry))) shape (now (tables .entry)) (now (tables .exit)) (λ c L. ledger_services.issue c me (ledger.enqueue q (drop 5 (now (frame .entry)))) L) ⌝ }
+    requires { ⌜ Fits shape (length (now tables)) × Configures (now config) shape × OneOf (shape .tasks) me × OneOf (shape .queues) q
+        × (length (drop 5 (now frame)) ≡ ledger_services.shape (configured (now config)) q .width) ⌝ }
+    ensures { λ _. ⌜ DoesOf (configured (now (config .entry))) shape (now (tables .entry)) (now (tables .exit))
+        (λ c L. ledger_services.issue c me (ledger.enqueue q (drop 5 (now (frame .entry)))) L) ⌝ }
 {
     let r = ring(config, shape, q);
     services::queue::enqueue(tables, shape, r, me, q, &frame[5..]);
@@ -54,8 +58,11 @@ pub fn serve(
     q: u8,
     frame: &[u8],
 )
-    requires { ⌜ Fits shape (length (now tables)) × Configures (now config) shape × (16 * shape .tasks ≤ length (now slots)) × (7 ≤ code) × (code ≤ 8) × Asks shape code me × MeansA shape code q × MeansEntry (configured (now config)) code q (drop 5 (now frame)) ⌝ }
-    ensures { λ _. ⌜ ((b x : ℕ) → DoesWithSlotsOf (configured (now (config .entry))) shape (now (tables .entry)) (now (slots .entry)) (now (tables .exit)) (now (slots .exit)) (λ c L. effect (codeAt code) c me q b x (drop 5 (now (frame .entry))) L)) ⌝ }
+    requires { ⌜ Fits shape (length (now tables)) × Configures (now config) shape × (16 * shape .tasks ≤ length (now slots)) × (7 ≤ code)
+        × (code ≤ 8) × Asks shape code me × MeansA shape code q × MeansEntry (configured (now config)) code q (drop 5 (now frame)) ⌝ }
+    ensures { λ _. ⌜ ((b x : ℕ) → DoesWithSlotsOf (configured (now (config .entry))) shape
+        (now (tables .entry)) (now (slots .entry)) (now (tables .exit)) (now (slots .exit))
+        (λ c L. effect (codeAt code) c me q b x (drop 5 (now (frame .entry))) L)) ⌝ }
 {
     match code {
         0x07 => dequeue(tables, slots, config, shape, me, q),

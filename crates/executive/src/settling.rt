@@ -32,8 +32,10 @@ fn receive_again(tables: &mut [u8], shape: Shape, t: u8, from: u8)
 }
 
 fn dequeue_again(tables: &mut [u8], slots: &mut [u8], config: &[u8], shape: Shape, t: u8, q: u8)
-    requires { ⌜ Fits shape (length (now tables)) × Configures (now config) shape × (16 * shape .tasks ≤ length (now slots)) × OneOf (shape .tasks) t × OneOf (shape .queues) q ⌝ }
-    ensures { λ _. ⌜ DoesWithSlotsOf (configured (now (config .entry))) shape (now (tables .entry)) (now (slots .entry)) (now (tables .exit)) (now (slots .exit)) (λ c L. session.issueAgain c t (ledger.dequeue q) (ledger.setRequest t ledger.none L)) ⌝ }
+    requires { ⌜ Fits shape (length (now tables)) × Configures (now config) shape × (16 * shape .tasks ≤ length (now slots))
+        × OneOf (shape .tasks) t × OneOf (shape .queues) q ⌝ }
+    ensures { λ _. ⌜ DoesWithSlotsOf (configured (now (config .entry))) shape (now (tables .entry)) (now (slots .entry))
+        (now (tables .exit)) (now (slots .exit)) (λ c L. session.issueAgain c t (ledger.dequeue q) (ledger.setRequest t ledger.none L)) ⌝ }
 {
     let r = ring(config, shape, q);
     tables::tasks::store_request(tables, shape, t, Request::None);
@@ -46,7 +48,9 @@ fn dequeue_again(tables: &mut [u8], slots: &mut [u8], config: &[u8], shape: Shap
 
 fn enqueue_again(tables: &mut [u8], config: &[u8], shape: Shape, t: u8, q: u8)
     requires { ⌜ Fits shape (length (now tables)) × Configures (now config) shape × OneOf (shape .tasks) t × OneOf (shape .queues) q ⌝ }
-    ensures { λ _. ⌜ DoesOf (configured (now (config .entry))) shape (now (tables .entry)) (now (tables .exit)) (λ c L. session.issueAgain c t (ledger.enqueue q (take (ledger_services.shape c q .width) (waitingIn shape (now (tables .entry)) t))) (ledger.setRequest t ledger.none L)) ⌝ }
+    ensures { λ _. ⌜ DoesOf (configured (now (config .entry))) shape (now (tables .entry)) (now (tables .exit))
+        (λ c L. session.issueAgain c t (ledger.enqueue q (take (ledger_services.shape c q .width) (waitingIn shape
+        (now (tables .entry)) t))) (ledger.setRequest t ledger.none L)) ⌝ }
 {
     let r = ring(config, shape, q);
     let width = r.width;
@@ -101,7 +105,8 @@ fn settle_open(
     shape: Shape,
     first: u8,
 ) -> Settled
-    requires { ⌜ Fits shape (length (now tables)) × Configures (now config) shape × (16 * shape .tasks ≤ length (now slots)) × OneOf (shape .tasks) first × Runs shape (now tables) first true ⌝ }
+    requires { ⌜ Fits shape (length (now tables)) × Configures (now config) shape × (16 * shape .tasks ≤ length (now slots))
+        × OneOf (shape .tasks) first × Runs shape (now tables) first true ⌝ }
     ensures { λ r. ⌜ Ends (configured (now (config .entry))) shape (now (tables .entry)) (now (slots .entry)) (now (tables .exit)) (now (slots .exit)) r ⌝ }
 {
     let limit = 2 * shape.tasks;

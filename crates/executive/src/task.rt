@@ -15,7 +15,8 @@ ghost use Rattle.executive.specs.Meant.{MeansA};
 // The codes $09 to $0C; `a` is the meant task.
 pub fn serve(tables: &mut [u8], timers: &mut [u8], shape: Shape, code: u8, a: u8)
     requires { ⌜ Fits shape (length (now tables)) × Holds shape (length (now timers)) × (9 ≤ code) × (code ≤ 12) × MeansA shape code a ⌝ }
-    ensures { λ _. ⌜ ((self b x : ℕ) (e : List ℕ) → DoesWithTimers shape (now (tables .entry)) (now (timers .entry)) (now (tables .exit)) (now (timers .exit)) (λ c L. effect (codeAt code) c self a b x e L)) ⌝ }
+    ensures { λ _. ⌜ ((self b x : ℕ) (e : List ℕ) → DoesWithTimers shape (now (tables .entry)) (now (timers .entry))
+        (now (tables .exit)) (now (timers .exit)) (λ c L. effect (codeAt code) c self a b x e L)) ⌝ }
 {
     match code {
         0x09 => services::task::set_suspended(tables, shape, a, false),

@@ -51,7 +51,9 @@ pub fn serve(
     low: u8,
 )
     requires { ⌜ Fits shape (length (now tables)) × Holds shape (length (now timers)) × (13 ≤ code) × (code ≤ 15) × MeansA shape code a × MeansB shape code b ⌝ }
-    ensures { λ _. ⌜ ((self : ℕ) (e : List ℕ) → DoesWithTimersIf shape (now (tables .entry)) (now (timers .entry)) (now (tables .exit)) (now (timers .exit)) (λ c L. GoodX c L (fields (codeAt code) .X) a b (256 * high + low)) (λ c L. effect (codeAt code) c self a b (256 * high + low) e L)) ⌝ }
+    ensures { λ _. ⌜ ((self : ℕ) (e : List ℕ) → DoesWithTimersIf shape (now (tables .entry)) (now (timers .entry))
+        (now (tables .exit)) (now (timers .exit)) (λ c L. GoodX c L (fields (codeAt code) .X) a b (256 * high + low))
+        (λ c L. effect (codeAt code) c self a b (256 * high + low) e L)) ⌝ }
 {
     let v = tocks::tock_value_at(high, low);
     let first = first_tocks(v);
