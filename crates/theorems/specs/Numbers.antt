@@ -10,7 +10,7 @@ use lib.Dec.{eqb}
 use Rattle.ledger.specs.Lists.{Check, first}
 use Rattle.ledger.specs.Config.{Config, configRefusal}
 use Rattle.ledger.specs.Ledger.{Ledger, fresh}
-use Rattle.ledger.specs.Refusals.{refusal}
+use Rattle.ledger.specs.Refusals.{fromInput, fromState, refusal}
 use Rattle.ledger.specs.Session.{step}
 use Rattle.ledger.specs.Theorems.Checks.{and-left, and-right}
 use Rattle.ledger.specs.Theorems.Parts.{Every, nil, cons}
@@ -42,7 +42,7 @@ first-other [] h e = omega arith
 first-other (k ∷ ks) h e = other (k .fails) (k .number) (first ks) (and-left _ (others ks) h) (first-other ks (and-right (not (eqb (k .number) 11)) (others ks) h)) e
 
 pub never-11 : (c : Config) (l : Ledger) (f : List ℕ) → Not11 (refusal c l f)
-unfolding refusal
+unfolding refusal fromInput fromState
 never-11 c l f e = first-other _ refl e
 
 pub configuration-never-11 : (g : List ℕ) → Not11 (configRefusal g)

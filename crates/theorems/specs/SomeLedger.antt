@@ -11,7 +11,7 @@ use Rattle.ledger.specs.Lists.{byte}
 use Rattle.ledger.specs.Config.{Config, controller}
 use Rattle.ledger.specs.Ledger.{Ledger}
 use Rattle.tables.specs.Shows.{Of}
-use Rattle.tables.specs.Some.{some, shows-some}
+use Rattle.tables.specs.AnyMemory.{some, shows-some}
 use Rattle.configuration.specs.Limits.{controller-made}
 use Rattle.configuration.specs.Block.{configured, rule, read, configured-is}
 use Rattle.configuration.specs.Layout.{shapeOf, rule-head, of-shape, end-most}
