@@ -64,8 +64,7 @@ pub inside : (g d z w a : List ℕ) (s : Shape) → lentWell (memory g d z w a) 
     → Lent g s (length d) (length z) (length w) × (21 ≤ length a)
 inside g d z w a s well o =
     let n = full-sizes (memory g d z w a) (well-full (memory g d z w a) well) in
-    let l = o .laid in
-    (
+    let l = o .laid in (
       lent (configures (omega (arith, n .config)) o) (fitting l (omega (arith, end-most (configured g) s o, n .tables))) (omega (arith, n .slots)) (holding (omega (arith, n .timers)) (l .timers)),
       n .answer,
     )

@@ -48,7 +48,14 @@ fn sizes_of(limits: Limits) -> Sizes
 }
 
 // Whether blocks of these lengths have their sizes.
-fn has_sizes(n: Sizes, config: usize, tables: usize, slots: usize, timers: usize, answer: usize) -> bool
+fn has_sizes(
+    n: Sizes,
+    config: usize,
+    tables: usize,
+    slots: usize,
+    timers: usize,
+    answer: usize,
+) -> bool
     ensures { λ r. ⌜ r ≡ (leb (n .config) config && leb (n .tables) tables && leb (n .slots) slots && leb (n .timers) timers && leb (n .answer) answer) ⌝ }
 {
     if config < n.config {
@@ -69,7 +76,14 @@ fn has_sizes(n: Sizes, config: usize, tables: usize, slots: usize, timers: usize
     true
 }
 
-pub fn full_size(limits: Limits, config: usize, tables: usize, slots: usize, timers: usize, answer: usize) -> bool
+pub fn full_size(
+    limits: Limits,
+    config: usize,
+    tables: usize,
+    slots: usize,
+    timers: usize,
+    answer: usize,
+) -> bool
     ensures { λ r. ⌜ r ≡ (leb (sizesOf (limitsOf limits) .config) config && leb (sizesOf (limitsOf limits) .tables) tables && leb (sizesOf (limitsOf limits) .slots) slots && leb (sizesOf (limitsOf limits) .timers) timers && leb (sizesOf (limitsOf limits) .answer) answer) ⌝ }
 {
     has_sizes(sizes_of(limits), config, tables, slots, timers, answer)
@@ -87,18 +101,18 @@ fn with_messages(tables: &[u8], shape: Shape) -> Lent
 }
 
 // The shape of memory that keeps the rules. Of the slots, the timers and the answer the lengths are told.
-pub fn test(limits: Limits, config: &[u8], tables: &[u8], slots: usize, timers: usize, answer: usize) -> Lent
+pub fn test(
+    limits: Limits,
+    config: &[u8],
+    tables: &[u8],
+    slots: usize,
+    timers: usize,
+    answer: usize,
+) -> Lent
     requires { ⌜ Made (limitsOf limits) ⌝ }
     ensures { λ r. ⌜ Tested (limitsOf limits) (now (config .entry)) (now (tables .entry)) slots timers answer r ⌝ }
 {
-    if !full_size(
-        limits,
-        config.len(),
-        tables.len(),
-        slots,
-        timers,
-        answer,
-    ) {
+    if !full_size(limits, config.len(), tables.len(), slots, timers, answer) {
         return Lent::Bad;
     }
     let block = configuration::block::lent(limits, config);

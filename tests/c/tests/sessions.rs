@@ -2,7 +2,7 @@
 //! frame every item of the lent memory. Other seeds, by the variable SEED, give other sessions.
 
 use c::compare::{compare, difference, shortened, Feed};
-use c::lent::{Lent, Regions, SIZES};
+use c::lent::{Lent, Regions, PLANES, SIZES};
 use plain_executive::configuration::Configuration;
 use plain_executive::coverage::Coverage;
 use plain_executive::executive::Executive;
@@ -87,7 +87,7 @@ type Fault = (&'static str, fn(&mut Lent, &Regions));
 
 const FAULTS: [Fault; 19] = [
     ("the ticks", |memory, _| memory.tables[0] = memory.tables[0] % 3 + 1),
-    ("the blocks of task 2", |memory, _| memory.tables[3] ^= 2),
+    ("the blocks of task 2", |memory, _| memory.tables[PLANES] ^= 2),
     ("the outcome of task 3", |memory, at| memory.tables[at.records + 12] ^= 1),
     ("the slot of task 2", |memory, _| memory.slots[16 + 15] ^= 0x80),
     ("the request of task 2", |memory, at| memory.tables[at.records + 6 + 4] ^= 1),
