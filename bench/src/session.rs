@@ -114,7 +114,7 @@ impl Session {
     pub fn breaks(&self) -> Vec<Break> {
         let mut memory = self.memory();
         let [tasks, named, queues] = [0, 1, 2].map(|place| usize::from(self.configuration[place]));
-        let messages = 2 + 7 * tasks + (named + tasks + 2 * queues) + 16 * tasks + 2 * queues;
+        let messages = 66 + 6 * tasks + (named + tasks + 2 * queues) + 16 * tasks + 2 * queues;
         let mut next = |frame: &Frame| {
             let lying = usize::from(memory.tables[1]);
             let number = (lying > 0).then(|| Break::Tables(messages + 4 * (lying - 1) + 1, 0));
