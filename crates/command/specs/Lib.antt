@@ -1,14 +1,9 @@
--- What a command is to the ledger, what its fields satisfy, and what is promised of a frame that was read.
-pub mod Did
-pub mod Valid
-pub mod Reads
--- an answer, and the checks on the way to it
-pub mod Answers
-pub mod Numbers
-pub mod Tests
-pub mod States
-pub mod Rings
+-- The table of codes, as the program has it; a configuration by its shape.
 pub mod Codes
-pub mod Frames
-pub mod Ways
-pub mod Free
+pub mod Configured
+pub mod Table
+pub mod Numbers
+-- the checks of the input and of the state, and what is promised of the number
+pub mod Input
+pub mod State
+pub mod Refused

@@ -1,44 +1,21 @@
-// A frame's fields: what they mean, and whether they may stand there.
+// A frame's fields by the table's columns: whether they may stand there, and what they mean.
+use crate::codes::FieldA;
+use crate::codes::FieldB;
+use crate::codes::FieldX;
+use crate::codes::Follows;
 use tables::shape::Shape;
 ghost use mathlib.Core.Path.{_≡_};
 ghost use mathlib.Core.Bool.{cond, not, _&&_};
+ghost use mathlib.Core.List.{[], _∷_};
 ghost use Prim.Native.Nat.{_+_, _*_, _≤_};
-ghost use lib.Dec.{eqb, leb, ltb};
-ghost use lib.ListN.{length};
-ghost use Rattle.ledger.specs.Lists.{within};
-ghost use Rattle.ledger.specs.Refusals.{isEnqueue};
-ghost use Rattle.command.specs.Answers.{Caller};
-ghost use Rattle.command.specs.Frames.{fieldsIn};
-
-pub struct Fields {
-    pub a: u8,
-    pub b: u8,
-    pub high: u8,
-    pub low: u8,
-}
-
-pub fn fields_of(frame: &[u8]) -> Fields
-    requires { ⌜ 5 ≤ length (now frame) ⌝ }
-    ensures { λ r. ⌜ r ≡ fieldsIn (now (frame .entry)) ⌝ }
-{
-    Fields {
-        a: frame[1],
-        b: frame[2],
-        high: frame[3],
-        low: frame[4],
-    }
-}
-
-// Whether a frame other than enqueue's has bytes behind X.
-pub fn too_long(frame: &[u8]) -> bool
-    requires { ⌜ 5 ≤ length (now frame) ⌝ }
-    ensures { λ r. ⌜ r ≡ (not (isEnqueue (now (frame .entry))) && ltb 5 (length (now (frame .entry)))) ⌝ }
-{
-    if frame[0] == 0x08 {
-        return false;
-    }
-    frame.len() > 5
-}
+ghost use lib.Dec.{eqb, leb};
+ghost use Rattle.ledger.specs.Lists.{first, _⇒_, within};
+ghost use Rattle.ledger.specs.Refusals as ledger;
+ghost use Rattle.ledger.specs.Refusals.{tooLong, wrongTask, wrongSemaphore, wrongQueue, isMessage, isTockValue, meantTask, meantSemaphore};
+ghost use Rattle.tables.specs.Layout.{Fits};
+ghost use Rattle.command.specs.Codes.{viewA, viewB, viewX, viewFollows};
+ghost use Rattle.command.specs.Configured.{Says};
+ghost use Rattle.command.specs.Table.{Owner};
 
 pub fn wide(x: u8) -> usize
     ensures { λ r. ⌜ r ≡ x ⌝ }
@@ -63,39 +40,150 @@ pub fn outside(most: usize, n: usize) -> bool
     n > most
 }
 
-// Whether a number is above those of the tasks; 0 is self or any.
-pub fn no_task(shape: Shape, a: u8) -> bool
-    ensures { λ r. ⌜ r ≡ not (leb a (shape .tasks)) ⌝ }
-{
-    wide(a) > shape.tasks
-}
-
 // Whether a number is above those of the semaphores that callers may name.
-pub fn no_semaphore(shape: Shape, b: u8) -> bool
-    requires { ⌜ shape .named + shape .tasks ≤ 255 ⌝ }
+fn above(shape: Shape, b: u8) -> bool
+    requires { ⌜ Fits shape (shape .end) ⌝ }
     ensures { λ r. ⌜ r ≡ not (leb b (shape .named + shape .tasks)) ⌝ }
 {
     wide(b) > shape.named + shape.tasks
 }
 
+// 2
+pub fn too_long(follows: Follows, size: usize) -> bool
+    ensures { λ r. ⌜ r ≡ tooLong (viewFollows follows) size ⌝ }
+{
+    match follows {
+        Follows::X => size > 5,
+        Follows::XAndEntry => false,
+    }
+}
+
+// A task from 1 on other than the running one.
+fn not_another(shape: Shape, me: u8, a: u8) -> bool
+    ensures { λ r. ⌜ Says shape (λ c. wrongTask c ledger.otherTask me a) r ⌝ }
+{
+    if outside(shape.tasks, wide(a)) {
+        return true;
+    }
+    a == me
+}
+
+// 5
+pub fn wrong_task(kind: FieldA, shape: Shape, me: u8, a: u8) -> bool
+    ensures { λ r. ⌜ Says shape (λ c. wrongTask c (viewA kind) me a) r ⌝ }
+{
+    match kind {
+        FieldA::Unused => false,
+        FieldA::Task => outside(shape.tasks, wide(a)),
+        FieldA::OtherTask => not_another(shape, me, a),
+        FieldA::SelfOrTask => wide(a) > shape.tasks,
+        FieldA::AnyOrTask => wide(a) > shape.tasks,
+        FieldA::Queue => false,
+    }
+}
+
+// 6
+pub fn wrong_semaphore(kind: FieldB, shape: Shape, b: u8) -> bool
+    requires { ⌜ Fits shape (shape .end) ⌝ }
+    ensures { λ r. ⌜ Says shape (λ c. wrongSemaphore c (viewB kind) b) r ⌝ }
+{
+    match kind {
+        FieldB::Unused => false,
+        FieldB::OfSelf => above(shape, b),
+        FieldB::OfTask => above(shape, b),
+        FieldB::OrNone => above(shape, b),
+    }
+}
+
+// 7
+pub fn wrong_queue(kind: FieldA, shape: Shape, a: u8) -> bool
+    ensures { λ r. ⌜ Says shape (λ c. wrongQueue c (viewA kind) a) r ⌝ }
+{
+    match kind {
+        FieldA::Unused => false,
+        FieldA::Task => false,
+        FieldA::OtherTask => false,
+        FieldA::SelfOrTask => false,
+        FieldA::AnyOrTask => false,
+        FieldA::Queue => outside(shape.queues, wide(a)),
+    }
+}
+
+// 8
+fn wrong_message(shape: Shape, x: usize) -> u8
+    ensures { λ r. ⌜ Says shape (λ c. first (not (within 1 (c .G) x) ⇒ 8 ∷ [])) r ⌝ }
+{
+    if outside(shape.messages, x) {
+        return 8;
+    }
+    0
+}
+
+// 9
+fn wrong_tocks(x: usize) -> u8
+    ensures { λ r. ⌜ r ≡ first (eqb x 0 ⇒ 9 ∷ []) ⌝ }
+{
+    if x == 0 {
+        return 9;
+    }
+    0
+}
+
+// 8, or 9
+pub fn wrong_value(kind: FieldX, shape: Shape, x: usize) -> u8
+    ensures { λ r. ⌜ Says shape (λ c. first ((isMessage (viewX kind) && not (within 1 (c .G) x)) ⇒ 8 ∷ (isTockValue (viewX kind) && eqb x 0) ⇒ 9 ∷ [])) r ⌝ }
+{
+    match kind {
+        FieldX::Unused => 0,
+        FieldX::Message => wrong_message(shape, x),
+        FieldX::TockValue => wrong_tocks(x),
+        FieldX::Switch => 0,
+    }
+}
+
 // The task that A means.
-pub fn or_self(shape: Shape, me: usize, a: u8) -> u8
-    requires { ⌜ Caller shape me ⌝ }
+pub fn or_self(me: u8, a: u8) -> u8
     ensures { λ r. ⌜ r ≡ cond (eqb a 0) me a ⌝ }
 {
     if a == 0 {
-        return me as u8;
+        return me;
     }
     a
 }
 
 // The semaphore that B means: 0 is that of task t.
-pub fn or_own(shape: Shape, t: usize, b: u8) -> u8
-    requires { ⌜ Caller shape t ⌝ }
+pub fn or_own(shape: Shape, t: u8, b: u8) -> u8
+    requires { ⌜ Fits shape (shape .end) × (t ≤ shape .tasks) ⌝ }
     ensures { λ r. ⌜ r ≡ cond (eqb b 0) (shape .named + t) b ⌝ }
 {
     if b == 0 {
-        return (shape.named + t) as u8;
+        return (shape.named + wide(t)) as u8;
     }
     b
+}
+
+pub fn meant_task(kind: FieldA, me: u8, a: u8) -> u8
+    ensures { λ r. ⌜ r ≡ meantTask (viewA kind) me a ⌝ }
+{
+    match kind {
+        FieldA::Unused => a,
+        FieldA::Task => a,
+        FieldA::OtherTask => a,
+        FieldA::SelfOrTask => or_self(me, a),
+        FieldA::AnyOrTask => a,
+        FieldA::Queue => a,
+    }
+}
+
+// `a` is the task that A means.
+pub fn meant_semaphore(kind: FieldB, shape: Shape, me: u8, a: u8, b: u8) -> u8
+    requires { ⌜ Fits shape (shape .end) × (me ≤ shape .tasks) × Owner shape (viewB kind) a ⌝ }
+    ensures { λ r. ⌜ Says shape (λ c. meantSemaphore c (viewB kind) me a b) r ⌝ }
+{
+    match kind {
+        FieldB::Unused => b,
+        FieldB::OfSelf => or_own(shape, me, b),
+        FieldB::OfTask => or_own(shape, a, b),
+        FieldB::OrNone => b,
+    }
 }

@@ -1,130 +1,142 @@
--- What a command does once the caller's outcome is plain; both together are what it did.
-use Prim.Native.Nat.{ℕ, zero, suc, _+_, _-_, _≤_}
-use mathlib.Core.Path.{_≡_, refl, sym, ap}
+-- The effect of an accepted frame over the memory, and how its calls come to it.
+use Prim.Native.Nat.{ℕ, zero, suc, _+_, _-_, _*_, _≤_}
+use mathlib.Core.Path.{_≡_, refl, sym, ap, _∙_, subst}
 use mathlib.Core.Bool.{Bool, true, false, cond}
 use mathlib.Core.List.{List}
 use native.Mathlib.Omega.{arith}
 use lib.Dec.{eqb}
 use lib.ListN.{length, take, drop, length-drop}
 use lib.Seq.{take-all}
-use borrow.Author.Tests.{ne-eqb}
-use Rattle.ledger.specs.Lists.{at, put}
+use borrow.Author.Tests.{ne-eqb, ltb-false, not-false}
+use Rattle.ledger.specs.Lists.{at, put, byte, word, first}
 use Rattle.ledger.specs.Config.{Config}
-use Rattle.ledger.specs.Ledger.{PENDING, plain, receive, dequeue, enqueue, Ledger, semaphoreOf, setSemaphore, setSemaphores, setOutcome, setSuspended}
-use Rattle.ledger.specs.Time.{TockValue, tocks, period}
-use Rattle.ledger.specs.Services.{waitFor, wait, signalled, signal, send, issue, terminate, execute, insertTimer, startTimer, tick, shape}
+use Rattle.ledger.specs.Ledger.{plain, Ledger, running, semaphoreOf, setSemaphore, setSemaphores, setTask, setOutcome}
+use Rattle.ledger.specs.Services.{shape, signalled, signal, effect}
+use Rattle.ledger.specs.Refusals.{FieldA, noA, aTask, otherTask, selfOrTask, anyOrTask, aQueue, FieldB, noB, ofSelf, ofTask, orNone, FieldX, noX, aMessage, aTockValue, aSwitch, fields, codeAt, Call, call, inAMailbox, haveTimer, fromInput}
+use Rattle.ledger.specs.Session.{accept}
+use Rattle.ledger.specs.Theorems.Items.{Numbered}
+use Rattle.ledger.specs.Theorems.Checks.{within-numbered, passes}
+use Rattle.ledger.specs.Theorems.Accepted.{GoodA, GoodB, GoodX, GoodNumber, GoodEntry, Good, good, Accepted}
 use Rattle.tables.specs.declared.shape.Shape.{Shape}
-use Rattle.tables.specs.Shows.{Shows}
+use Rattle.tables.specs.Layout.{OneOf, Fits, fitting}
+use Rattle.tables.specs.Shows.{Of, Shows, moved}
 use Rattle.queues.specs.declared.Ring.{Ring}
 use Rattle.queues.specs.Rings.{ringOf, RingFits, width-is}
-use Rattle.services.specs.Arms.{moved}
-use Rattle.clock.specs.Does.{purged}
-use Rattle.command.specs.declared.Command.{Command}
-use Rattle.command.specs.declared.Command.the-variants.{Refused, Wait, Signal, Pend, Send, Sendw, Receive, Dequeue, Enqueue, Resume, Suspend, Terminate, Execute, Delay, Timer, Purge, Tick, Exit}
-use Rattle.command.specs.Did.{started, did}
-use Rattle.command.specs.Reads.{Asker}
+use Rattle.command.specs.Table.{value-word, behind-drop, semaphore-in}
+use Rattle.executive.specs.Meant.{InA, InB, InX, MeansA, MeansB, MeansX, MeansEntry, Asks}
 
-abbrev pub serves : Command → Bool
-serves (Refused n) = false
-serves (Wait b) = true
-serves (Signal b) = true
-serves (Pend b) = true
-serves (Send a b x) = true
-serves (Sendw a b x) = true
-serves (Receive a) = true
-serves (Dequeue q) = true
-serves (Enqueue q) = true
-serves (Resume a) = true
-serves (Suspend a) = true
-serves (Terminate a) = true
-serves (Execute a) = true
-serves (Delay a b n p) = true
-serves (Timer a b n p) = true
-serves (Purge a b all) = true
-serves Tick = false
-serves (Exit b) = false
+-- the meant fields, by the row of the code
+pub record Meant (c : Config) (s : Shape) (code self a b : ℕ) (f : List ℕ) : Type 0 where
+  pub asks : Asks s code self
+  pub task : MeansA s code a
+  pub semaphore : MeansB s code b
+  pub value : MeansX s code (256 * byte 3 f + byte 4 f)
+  pub entry : MeansEntry c code a (drop 5 f)
 
-unfoldable pub prepared : Command → (self : ℕ) → Ledger → Ledger
-prepared r self l = cond (serves r) (setOutcome self plain l) l
+-- the code's effect, where the ledger has room for it
+abbrev pub Effects : Config → Shape → (code self a b : ℕ) (f d z w d' z' w' : List ℕ) → Type 0
+Effects c s code self a b f d z w d' z' w' =
+    (L : Ledger) → GoodX c L (fields (codeAt code) .X) a b (256 * byte 3 f + byte 4 f) → Shows c s L d z w
+    → Shows c s (effect (codeAt code) c self a b (256 * byte 3 f + byte 4 f) (drop 5 f) L) d' z' w'
 
-unfoldable pub served : Command → Config → (self : ℕ) → (entry : List ℕ) → Ledger → Ledger
-served (Refused n) c self e l = l
-served (Wait b) c self e l = wait self b l
-served (Signal b) c self e l = signal b l
-served (Pend b) c self e l = setSemaphore b PENDING l
-served (Send a b x) c self e l = send self a b x l
-served (Sendw a b x) c self e l = waitFor self b (send self a b x l)
-served (Receive a) c self e l = issue c self (receive a) l
-served (Dequeue q) c self e l = issue c self (dequeue q) l
-served (Enqueue q) c self e l = issue c self (enqueue q e) l
-served (Resume a) c self e l = setSuspended a false l
-served (Suspend a) c self e l = setSuspended a true l
-served (Terminate a) c self e l = terminate a l
-served (Execute a) c self e l = execute a l
-served (Delay a b n p) c self e l = waitFor a b (started a b n p l)
-served (Timer a b n p) c self e l = started a b n p l
-served (Purge a b all) c self e l = purged a all b l
-served Tick c self e l = tick c l
-served (Exit b) c self e l = signal b l
+-- what the frame itself says has been passed, while task `self` runs
+pub record Passed (c : Config) (s : Shape) (self : ℕ) (f : List ℕ) : Type 0 where
+  pub low : self ≤ s .tasks
+  pub input : first (fromInput c self f) ≡ 0
+
+-- the accepted frame's effect
+abbrev pub Carries : Config → Shape → (self : ℕ) (f d z w d' z' w' : List ℕ) → Type 0
+Carries c s self f d z w d' z' w' = (L : Ledger) → self ≡ running L → Accepted c L (call c self f) → Shows c s L d z w → Shows c s (accept c f L) d' z' w'
+
+-- ---- what the services require, from what the frame has passed
+module _ {c : Config} {s : Shape} (o : Of c s) where
+  one-task : (t : ℕ) → Numbered (c .T) t → OneOf (s .tasks) t
+  one-task t n = (omega (arith, n .from), omega (arith, n .upto, o .tasks))
+
+  in-a : (A : FieldA) (a : ℕ) → GoodA c A a → InA s A a
+  in-a noA a g = tt
+  in-a aTask a g = one-task a g
+  in-a otherTask a g = one-task a g
+  in-a selfOrTask a g = one-task a g
+  in-a anyOrTask a g = tt
+  in-a aQueue a g = (omega (arith, g .from), omega (arith, g .upto, o .queues))
+
+  in-b : (B : FieldB) (b : ℕ) → GoodB c B b → InB s B b
+  in-b noB b g = tt
+  in-b ofSelf b g = semaphore-in o b g
+  in-b ofTask b g = semaphore-in o b g
+  in-b orNone b g = tt
+
+  in-x : (X : FieldX) (x : ℕ) → GoodNumber c X x → InX s X x
+  in-x noX x g = tt
+  in-x aMessage x g = (omega (arith, g .from), omega (arith, g .upto, o .messages))
+  in-x aTockValue x g = tt
+  in-x aSwitch x g = tt
+
+  pub meant-of : (self : ℕ) (f : List ℕ) → Good c (call c self f) → (code a b : ℕ) → byte 0 f ≡ code → a ≡ call c self f .a → b ≡ call c self f .b → Meant c s code self a b f
+  unfolding call
+  meant-of self f g code a b e ea eb =
+      let k = call c self f in
+      let u = fields (codeAt (byte 0 f)) in
+      let x : InX s (u .X) (256 * byte 3 f + byte 4 f) = subst (InX s (u .X)) (value-word (u .follows) f) (in-x (u .X) (k .x) (g .X)) in
+      let y : GoodEntry c (u .follows) a (drop 5 f) = subst (λ (t : ℕ). GoodEntry c (u .follows) t (drop 5 f)) (sym ea) (subst (GoodEntry c (u .follows) (k .a)) (behind-drop (u .follows) f) (g .entry)) in
+      subst (λ (n : ℕ). Meant c s n self a b f) e (record {
+        asks = λ v. one-task self (g .self v);
+        task = subst (InA s (u .A)) (sym ea) (in-a (u .A) (k .a) (g .A));
+        semaphore = subst (InB s (u .B)) (sym eb) (in-b (u .B) (k .b) (g .B));
+        value = x;
+        entry = y;
+      })
+
+-- ---- a plain outcome leaves the messages and the timers
+free-prepared : (c : Config) (self : ℕ) (L : Ledger) (z : Bool) (X : FieldX) (a b x : ℕ) → GoodX c L X a b x → GoodX c (cond z (setOutcome self plain L) L) X a b x
+unfolding setOutcome setTask inAMailbox haveTimer
+free-prepared c self L false X a b x g = g
+free-prepared c self L true noX a b x g = tt
+free-prepared c self L true aMessage a b x g = record { number = g .number; nowhere = g .nowhere }
+free-prepared c self L true aTockValue a b x g = record { some = g .some; single = g .single; free = g .free }
+free-prepared c self L true aSwitch a b x g = tt
+
+-- ---- the accepted frame's effect is that of its code, behind the plain outcome
+abbrev acceptBy : Config → (self : ℕ) → List ℕ → Ledger → Ledger
+acceptBy c self f L = let k = call c self f in effect (k .code) c (k .self) (k .a) (k .b) (k .x) (k .bytes) (cond (fields (k .code) .service) (setOutcome (k .self) plain L) L)
+
+module _ (c : Config) (self : ℕ) (f : List ℕ) (L : Ledger) (q : self ≡ running L) (code a b : ℕ) (e : byte 0 f ≡ code) (ea : a ≡ call c self f .a) (eb : b ≡ call c self f .b) where
+  pub accept-is : effect (codeAt code) c self a b (256 * byte 3 f + byte 4 f) (drop 5 f) (cond (fields (codeAt code) .service) (setOutcome self plain L) L) ≡ accept c f L
+  unfolding accept call
+  accept-is =
+      let u = fields (codeAt (byte 0 f)) in
+      (λ i. effect (codeAt (sym e i)) c self (ea i) (eb i) (sym (value-word (u .follows) f) i) (sym (behind-drop (u .follows) f) i) (cond (fields (codeAt (sym e i)) .service) (setOutcome self plain L) L))
+      ∙ ap (λ (t : ℕ). acceptBy c t f L) q
+
+  pub free-is : Accepted c L (call c self f) → GoodX c (cond (fields (codeAt code) .service) (setOutcome self plain L) L) (fields (codeAt code) .X) a b (256 * byte 3 f + byte 4 f)
+  unfolding call
+  free-is g =
+      let k = call c self f in
+      let u = fields (codeAt (byte 0 f)) in
+      let x : GoodX c L (u .X) (k .a) (k .b) (256 * byte 3 f + byte 4 f) = subst (GoodX c L (u .X) (k .a) (k .b)) (value-word (u .follows) f) (g .X) in
+      let y : GoodX c L (u .X) a b (256 * byte 3 f + byte 4 f) = subst (λ (t : ℕ). GoodX c L (u .X) a t (256 * byte 3 f + byte 4 f)) (sym eb) (subst (λ (t : ℕ). GoodX c L (u .X) t (k .b) (256 * byte 3 f + byte 4 f)) (sym ea) x) in
+      let w = free-prepared c self L (u .service) (u .X) a b (256 * byte 3 f + byte 4 f) y in
+      subst (λ (n : ℕ). GoodX c (cond (fields (codeAt n) .service) (setOutcome self plain L) L) (fields (codeAt n) .X) a b (256 * byte 3 f + byte 4 f)) e w
+
+-- ---- an arm: the code is the one that the match found
+pub by-code : (c : Config) (s : Shape) (self a b x : ℕ) (e : List ℕ) (L : Ledger) (code k : ℕ) {d z w : List ℕ} → code ≡ k
+    → Shows c s (effect (codeAt k) c self a b x e L) d z w → Shows c s (effect (codeAt code) c self a b x e L) d z w
+by-code c s self a b x e L code k q h = moved (ap (λ (n : ℕ). effect (codeAt n) c self a b x e L) (sym q)) h
 
 -- semaphore 0 is signalled to nobody
-exit-is : (b : ℕ) (l : Ledger) → cond (eqb b 0) l (signal b l) ≡ signal b l
+pub exit-is : (b : ℕ) (l : Ledger) → signal b l ≡ cond (eqb b 0) l (signal b l)
 unfolding signal signalled setSemaphore setSemaphores semaphoreOf at put
 exit-is zero l = refl
 exit-is (suc b) l = rw (ne-eqb (suc b) 0 (λ e. omega arith))
 
-pub did-is : (r : Command) (c : Config) (self : ℕ) (e : List ℕ) (l : Ledger) → did r c self e l ≡ served r c self e (prepared r self l)
-unfolding prepared served
-did-is (Refused n) c self e l = refl
-did-is (Wait b) c self e l = refl
-did-is (Signal b) c self e l = refl
-did-is (Pend b) c self e l = refl
-did-is (Send a b x) c self e l = refl
-did-is (Sendw a b x) c self e l = refl
-did-is (Receive a) c self e l = refl
-did-is (Dequeue q) c self e l = refl
-did-is (Enqueue q) c self e l = refl
-did-is (Resume a) c self e l = refl
-did-is (Suspend a) c self e l = refl
-did-is (Terminate a) c self e l = refl
-did-is (Execute a) c self e l = refl
-did-is (Delay a b n p) c self e l = refl
-did-is (Timer a b n p) c self e l = refl
-did-is (Purge a b all) c self e l = refl
-did-is Tick c self e l = refl
-did-is (Exit b) c self e l = exit-is b l
+-- a message's number is the low byte of X
+pub low-is : {s : Shape} {n : ℕ} → Fits s n → (high low : ℕ) → OneOf (s .messages) (256 * high + low) → low ≡ 256 * high + low
+low-is (fitting l r) high low (lo, hi) = omega arith
 
--- ---- an arm: the command is the one that the match found
-pub served-as : (c : Config) (s : Shape) (self : ℕ) (e : List ℕ) (L : Ledger) {r v : Command} {d z w : List ℕ} → r ≡ v → Shows c s (served v c self e L) d z w → Shows c s (served r c self e L) d z w
-served-as c s self e L p h = moved (ap (λ (x : Command). served x c self e L) (sym p)) h
-
--- a timer of a tock value
-pub paced : (a b n p : ℕ) (v : TockValue) (L : Ledger) → tocks v ≡ n → period v ≡ p → startTimer a b v L ≡ started a b n p L
-unfolding startTimer started
-paced a b n p v L en ep = λ i. insertTimer (record { task = a; semaphore = b; due = L .N + en i; period = ep i }) L
-
-pub never : {P : Type 0} → false ≡ true → P
-never e = let z : _≡_ {A = ℕ} 0 1 = cc in absurd (omega arith)
-
-pub asked-by : {self : ℕ} (r : Command) → serves r ≡ true → Asker r self → 1 ≤ self
-asked-by (Refused n) e h = never e
-asked-by (Wait b) e h = h
-asked-by (Signal b) e h = h
-asked-by (Pend b) e h = h
-asked-by (Send a b x) e h = h
-asked-by (Sendw a b x) e h = h
-asked-by (Receive a) e h = h
-asked-by (Dequeue q) e h = h
-asked-by (Enqueue q) e h = h
-asked-by (Resume a) e h = h
-asked-by (Suspend a) e h = h
-asked-by (Terminate a) e h = h
-asked-by (Execute a) e h = h
-asked-by (Delay a b n p) e h = h
-asked-by (Timer a b n p) e h = h
-asked-by (Purge a b all) e h = h
-asked-by Tick e h = never e
-asked-by (Exit b) e h = never e
+-- what is done with the low byte is done with X
+pub sent-low : {c : Config} {s : Shape} {d z w : List ℕ} {low x : ℕ} → low ≡ x → (P : ℕ → Type 0) (f : ℕ → Ledger) → P x → (P low → Shows c s (f low) d z w) → Shows c s (f x) d z w
+sent-low {c} {s} {d} {z} {w} e P f p k = subst (λ (n : ℕ). Shows c s (f n) d z w) e (k (subst P (sym e) p))
 
 -- ---- the part of the frame that starts at its sixth byte
 pub frame-long : (c : Config) (s : Shape) (q : ℕ) (r : Ring) (f : List ℕ) → 1 ≤ q → r ≡ ringOf c s q → RingFits s r → length (drop 5 f) ≡ shape c q .width → 5 ≤ length f
@@ -132,3 +144,15 @@ frame-long c s q r f lo er fit e = omega (arith, length-drop 5 f, fit .wide, ap 
 
 pub sixth : (f : List ℕ) → take (length f - 5) (drop 5 f) ≡ drop 5 f
 sixth f = take-all (length f - 5) (drop 5 f) (omega (arith, length-drop 5 f))
+
+-- ---- an accepted frame has five bytes, and its code is in the table
+pub long-passed : (c : Config) (self : ℕ) (f : List ℕ) → first (fromInput c self f) ≡ 0 → 5 ≤ length f
+unfolding fromInput
+long-passed c self f e = let (short, rest) = passes _ refl e in ltb-false (length f) 5 short
+
+pub code-passed : (c : Config) (self : ℕ) (f : List ℕ) → first (fromInput c self f) ≡ 0 → OneOf 17 (byte 0 f)
+unfolding fromInput
+code-passed c self f e =
+    let (short, (code, rest)) = passes _ refl e in
+    let n = within-numbered 17 (byte 0 f) (not-false _ code) in
+    (n .from, n .upto)

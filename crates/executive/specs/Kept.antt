@@ -5,8 +5,7 @@ use mathlib.Core.List.{List}
 use Prim.Native.Nat.{ℕ, _+_, _*_, _≤_}
 use native.Mathlib.Omega.{arith}
 use Rattle.tables.specs.declared.shape.Shape.{Shape}
-use Rattle.tables.specs.Shows.{Shows, Tells}
-use Rattle.services.specs.Arms.{moved}
+use Rattle.tables.specs.Shows.{Shows, Tells, moved}
 use Rattle.ledger.specs.Config.{Config}
 use Rattle.ledger.specs.Ledger.{Ledger, task, running}
 use Rattle.ledger.specs.Session as session

@@ -1,6 +1,11 @@
+-- The lent blocks, and what it is to do over them what the ledger does.
 pub mod Lent
+-- the effect of a frame
+pub mod Meant
 pub mod Carried
-pub mod Stepped
+-- settling
 pub mod Turns
 pub mod Meeting
 pub mod Kept
+-- the step
+pub mod Stepped

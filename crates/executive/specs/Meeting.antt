@@ -1,61 +1,29 @@
--- A request issued again: whether it meets 21, and what it then is.
+-- A request issued again: refused by 21 or issued; and a task's request as the memory has it.
 use mathlib.Core.Path.{_≡_, refl, sym, ap, _∙_, subst}
 use mathlib.Core.Bool.{Bool, true, false, cond}
 use mathlib.Core.List.{List}
 use Prim.Native.Nat.{ℕ, _-_, _<_, _≤_}
 use native.Mathlib.Omega.{arith}
-use lib.Dec.{eqb}
 use lib.ListN.{length, getD, take, drop, length-take}
 use Rattle.rows.specs.Rows.{rowAt}
-use Rattle.tables.specs.Layout.{regions}
-use borrow.Author.Tests.{eq-eqb, ne-eqb}
+use Rattle.tables.specs.Layout.{OneOf, regions}
 use Rattle.tables.specs.declared.shape.Shape.{Shape}
 use Rattle.tables.specs.declared.tasks.Request.{Request}
 use Rattle.tables.specs.declared.tasks.Request.the-variants.{Dequeue, Enqueue}
 use Rattle.tables.specs.Decode.{viewRequest, viewTask, recordOf}
-use Rattle.tables.specs.Back.{Asked}
-use Rattle.tables.specs.Shows.{recordIn, waitingIn, Shows}
+use Rattle.tables.specs.Planes.{blocksAt}
+use Rattle.tables.specs.Encoded.{AsksFor}
+use Rattle.tables.specs.Shows.{recordIn, waitingIn, Shows, moved}
 use Rattle.tables.specs.Stored.{shown-task}
-use Rattle.queues.specs.declared.Ring.{Ring}
-use Rattle.queues.specs.Rings.{ringOf, countIn}
-use Rattle.services.specs.Parts.{notFullOf}
-use Rattle.services.specs.Arms.{moved}
-use Rattle.services.specs.Issued.{full-is, empty-is, holding, deep, full-so, room-so}
 use Rattle.ledger.specs.Lists.{at}
 use Rattle.ledger.specs.Config.{Config}
 use Rattle.ledger.specs.Ledger as ledger
-use Rattle.ledger.specs.Ledger.{Ledger, task, running, queue, held, semaphoreOf, setOutcome, setRequest, none, refused}
-use Rattle.ledger.specs.Services.{empty, full, issue}
-use Rattle.ledger.specs.Refusals.{wouldWaitOn, isWaiting, meets21}
+use Rattle.ledger.specs.Ledger.{Ledger, task, running, setOutcome, setRequest, none, refused}
+use Rattle.ledger.specs.Services.{issue}
 use Rattle.ledger.specs.Session.{openRequest, isOpen, refused21, issueAgain, reissue}
-use Rattle.executive.specs.Carried.{never}
 
-module _ (c : Config) (s : Shape) (L : Ledger) (d z w : List ℕ) (h : Shows c s L d z w) (q : ℕ) (lo : 1 ≤ q) (hi : q ≤ s .queues) (r : Ring) (er : r ≡ ringOf c s q)
-    (b many : ℕ) (eb : b ≡ notFullOf s q) (em : many ≡ countIn s r d (q - 1)) where
-  holds : length (held (queue L q)) ≡ many
-  holds = holding c s L d z w h q lo hi r er 0 b many eb em
-
-  pub empty-no : (many ≡ 0 → ⊥) → false ≡ refused21 c (ledger.dequeue q) L
-  unfolding refused21 meets21 wouldWaitOn empty semaphoreOf at isWaiting
-  empty-no ne = let f : eqb (length (held (queue L q))) 0 ≡ false = ne-eqb _ _ (λ g. ne (sym holds ∙ g)) in rw f
-
-  pub empty-yes : (x : Bool) → many ≡ 0 → x ≡ isWaiting (semaphoreOf L (b - 1)) → x ≡ refused21 c (ledger.dequeue q) L
-  unfolding refused21 meets21 wouldWaitOn empty
-  empty-yes x e p =
-      let f : eqb (length (held (queue L q))) 0 ≡ true = eq-eqb _ _ (holds ∙ e) in
-      rw f (p ∙ ap (λ (k : ℕ). isWaiting (semaphoreOf L k)) (empty-is c s L d z w h q lo hi r er 0 b many eb em))
-
-  pub full-no : (e : List ℕ) → many < r .depth → false ≡ refused21 c (ledger.enqueue q e) L
-  unfolding refused21 meets21 wouldWaitOn semaphoreOf at isWaiting
-  full-no e l =
-      let f : full c L q ≡ false = room-so c L q (omega (arith, holds, deep c s L d z w h q lo hi r er 0 b many eb em)) in
-      rw f
-
-  pub full-yes : (e : List ℕ) (x : Bool) → r .depth ≤ many → x ≡ isWaiting (semaphoreOf L b) → x ≡ refused21 c (ledger.enqueue q e) L
-  unfolding refused21 meets21 wouldWaitOn
-  full-yes e x l p =
-      let f : full c L q ≡ true = full-so c L q (omega (arith, holds, deep c s L d z w h q lo hi r er 0 b many eb em)) in
-      rw f (p ∙ ap (λ (k : ℕ). isWaiting (semaphoreOf L k)) (full-is c s L d z w h q lo hi r er 0 b many eb em))
+pub never : {P : Type 0} → false ≡ true → P
+never e = let z : _≡_ {A = ℕ} 0 1 = cc in absurd (omega arith)
 
 -- ---- issued again
 pub again-yes : (c : Config) (t : ℕ) (r : ledger.Request) (L : Ledger) (x : Bool) → x ≡ refused21 c r L → x ≡ true → setOutcome t (refused 21) L ≡ issueAgain c t r L
@@ -76,14 +44,14 @@ pub null-closed : (L : Ledger) (t : ℕ) → t ≡ 0 → false ≡ isOpen (task 
 unfolding task at isOpen
 null-closed L t n = ap (λ (k : ℕ). isOpen (task L k .request)) (sym n)
 
-pub request-is : (c : Config) (s : Shape) (L : Ledger) (d z w : List ℕ) → Shows c s L d z w → (t : ℕ) (x v : Request) → 1 ≤ t → t ≤ s .tasks → x ≡ recordIn s d t .request → x ≡ v
+pub request-is : (c : Config) (s : Shape) (L : Ledger) (d z w : List ℕ) → Shows c s L d z w → (t : ℕ) (x v : Request) → OneOf (s .tasks) t → x ≡ recordIn s d t .request → x ≡ v
     → viewRequest c v (waitingIn s d t) ≡ task L t .request
 unfolding recordIn recordOf viewTask waitingIn
-request-is c s L d z w h t x v lo l p q =
+request-is c s L d z w h t x v one p q =
     let k = regions s d in
     ap (λ (y : Request). viewRequest c y (waitingIn s d t)) (sym q ∙ p)
-    ∙ ap (λ (Q : ℕ). viewRequest c (recordOf Q (getD (k .blocks) (t - 1) 0) (rowAt 6 (t - 1) (k .records)) .request) (waitingIn s d t)) (h .of .queues)
-    ∙ sym (ap (λ (y : ledger.Task). y .request) (shown-task c s L d z w h t lo l))
+    ∙ ap (λ (Q : ℕ). viewRequest c (recordOf Q (blocksAt (k .blocks) (t - 1)) (rowAt 6 (t - 1) (k .records)) .request) (waitingIn s d t)) (h .of .queues)
+    ∙ sym (ap (λ (y : ledger.Task). y .request) (shown-task c s L d z w h t one))
 
 pub reissue-is : (c : Config) (L : Ledger) (t : ℕ) (r : ledger.Request) → t ≡ running L → r ≡ openRequest L → issueAgain c t r (setRequest t none L) ≡ reissue c L
 unfolding reissue
@@ -95,10 +63,10 @@ pub entry-is : (E x : List ℕ) (width n : ℕ) → x ≡ E → width ≡ n → 
 entry-is E x width n e k = let m : width - 0 ≡ n = omega arith in ap (λ (j : ℕ). take j x) m ∙ ap (take n) e
 
 -- ---- a turn: the running task's request was open, and the arm's call issued it again
-module _ (c : Config) (s : Shape) (L : Ledger) (d z w : List ℕ) (h : Shows c s L d z w) (t : ℕ) (x v : Request) (lo : 1 ≤ t) (l : t ≤ s .tasks) (p : x ≡ recordIn s d t .request) (q : x ≡ v) (e : t ≡ running L) where
+module _ (c : Config) (s : Shape) (L : Ledger) (d z w : List ℕ) (h : Shows c s L d z w) (t : ℕ) (x v : Request) (one : OneOf (s .tasks) t) (p : x ≡ recordIn s d t .request) (q : x ≡ v) (e : t ≡ running L) where
   open-is : viewRequest c v (waitingIn s d t) ≡ openRequest L
   unfolding openRequest
-  open-is = request-is c s L d z w h t x v lo l p q ∙ ap (λ (k : ℕ). task L k .request) e
+  open-is = request-is c s L d z w h t x v one p q ∙ ap (λ (k : ℕ). task L k .request) e
 
   pub turn-none : {P : Type 0} → viewRequest c v (waitingIn s d t) ≡ none → true ≡ isOpen (openRequest L) → P
   unfolding isOpen
@@ -107,11 +75,11 @@ module _ (c : Config) (s : Shape) (L : Ledger) (d z w : List ℕ) (h : Shows c s
   pub turn-open : {d' z' : List ℕ} → Shows c s (issueAgain c t (viewRequest c v (waitingIn s d t)) (setRequest t none L)) d' z' w → Shows c s (reissue c L) d' z' w
   turn-open g = moved (reissue-is c L t (viewRequest c v (waitingIn s d t)) e open-is) g
 
-pub asked : {Q q : ℕ} {x : Request} → x ≡ Dequeue q → Asked Q x → (1 ≤ q) × (q ≤ Q)
-asked {Q} e w = subst (Asked Q) e w
+pub asked : {Q q : ℕ} {x : Request} → x ≡ Dequeue q → AsksFor Q x → OneOf Q q
+asked {Q} e w = subst (AsksFor Q) e w
 
-pub asked-put : {Q q : ℕ} {x : Request} → x ≡ Enqueue q → Asked Q x → (1 ≤ q) × (q ≤ Q)
-asked-put {Q} e w = subst (Asked Q) e w
+pub asked-put : {Q q : ℕ} {x : Request} → x ≡ Enqueue q → AsksFor Q x → OneOf Q q
+asked-put {Q} e w = subst (AsksFor Q) e w
 
 pub entry-long : (x : List ℕ) (width : ℕ) → length x ≡ 16 → width ≤ 16 → length (take (width - 0) x) ≡ width
 entry-long x width e l = simp length-take (omega arith)

@@ -1,106 +1,60 @@
-// The effect of a command.
-use command::Command;
-use tables::semaphores::Semaphore;
+// The effect of an accepted frame.
 use tables::shape::Shape;
 use tables::tasks::Outcome;
 ghost use mathlib.Core.Path.{_≡_};
-ghost use mathlib.Core.List.{List};
-ghost use Prim.Native.Nat.{ℕ, _*_, _≤_};
-ghost use lib.ListN.{length, drop};
-ghost use Rattle.clock.specs.Held.{Holds};
-ghost use Rattle.tables.specs.Layout.{Fits};
-ghost use Rattle.tables.specs.Shows.{Shows, Does};
+ghost use mathlib.Core.Bool.{cond, true};
+ghost use Prim.Native.Nat.{_≤_};
+ghost use lib.ListN.{length};
+ghost use Rattle.ledger.specs.Lists.{byte};
+ghost use Rattle.ledger.specs.Ledger.{plain, setOutcome};
+ghost use Rattle.tables.specs.Layout.{Fits, OneOf};
+ghost use Rattle.tables.specs.Shows.{Does};
 ghost use Rattle.configuration.specs.Block.{configured};
-ghost use Rattle.command.specs.Did.{numberOf};
-ghost use Rattle.command.specs.Valid.{Valid};
-ghost use Rattle.command.specs.Reads.{Asker};
-ghost use Rattle.command.specs.Free.{Free};
-ghost use Rattle.ledger.specs.Ledger as ledger;
-ghost use Rattle.ledger.specs.Ledger.{Ledger};
-ghost use Rattle.ledger.specs.Services as ledger_services;
-ghost use Rattle.executive.specs.Lent.{Lends};
-ghost use Rattle.executive.specs.Carried.{serves, prepared, served};
-
-pub fn number_of(c: Command) -> u8
-    ensures { λ r. ⌜ r ≡ numberOf c ⌝ }
-{
-    match c {
-        Command::Refused(n) => n,
-        Command::Wait(_) => 0,
-        Command::Signal(_) => 0,
-        Command::Pend(_) => 0,
-        Command::Send(_, _, _) => 0,
-        Command::Sendw(_, _, _) => 0,
-        Command::Receive(_) => 0,
-        Command::Dequeue(_) => 0,
-        Command::Enqueue(_) => 0,
-        Command::Resume(_) => 0,
-        Command::Suspend(_) => 0,
-        Command::Terminate(_) => 0,
-        Command::Execute(_) => 0,
-        Command::Delay(_, _, _, _) => 0,
-        Command::Timer(_, _, _, _) => 0,
-        Command::Purge(_, _, _) => 0,
-        Command::Tick => 0,
-        Command::Exit(_) => 0,
-    }
-}
-
-fn is_service(c: Command) -> bool
-    ensures { λ r. ⌜ r ≡ serves c ⌝ }
-{
-    match c {
-        Command::Refused(_) => false,
-        Command::Wait(_) => true,
-        Command::Signal(_) => true,
-        Command::Pend(_) => true,
-        Command::Send(_, _, _) => true,
-        Command::Sendw(_, _, _) => true,
-        Command::Receive(_) => true,
-        Command::Dequeue(_) => true,
-        Command::Enqueue(_) => true,
-        Command::Resume(_) => true,
-        Command::Suspend(_) => true,
-        Command::Terminate(_) => true,
-        Command::Execute(_) => true,
-        Command::Delay(_, _, _, _) => true,
-        Command::Timer(_, _, _, _) => true,
-        Command::Purge(_, _, _) => true,
-        Command::Tick => false,
-        Command::Exit(_) => false,
-    }
-}
+ghost use Rattle.executive.specs.Lent.{Lent};
+ghost use Rattle.executive.specs.Carried.{Meant, Effects, Passed, Carries};
 
 // An accepted service first sets the caller's outcome to plain.
-pub fn prepare(tables: &mut [u8], shape: Shape, me: usize, c: Command)
-    requires { ⌜ Fits shape (length (now tables)) × Asker c me × (me ≤ shape .tasks) ⌝ }
-    ensures { λ _. ⌜ Does shape (now (tables .entry)) (now (tables .exit)) (λ g L. prepared c me L) ⌝ }
+fn prepare(tables: &mut [u8], shape: Shape, me: u8, service: bool)
+    requires { ⌜ Fits shape (length (now tables)) × (service ≡ true → OneOf (shape .tasks) me) ⌝ }
+    ensures { λ _. ⌜ Does shape (now (tables .entry)) (now (tables .exit)) (λ c L. cond service (setOutcome me plain L) L) ⌝ }
 {
-    if is_service(c) {
+    if service {
         tables::tasks::store_outcome(tables, shape, me, Outcome::Plain);
     }
 }
 
-fn dequeue(tables: &mut [u8], slots: &mut [u8], config: &[u8], shape: Shape, me: u8, q: u8)
-    requires { ⌜ Fits shape (length (now tables)) × Lends (now config) shape × (16 * shape .tasks ≤ length (now slots)) × (1 ≤ me) × (me ≤ shape .tasks) × (1 ≤ q) × (q ≤ shape .queues) ⌝ }
-    ensures { λ _. ⌜ ((L : Ledger) (w : List ℕ) → Shows (configured (now (config .entry))) shape L (now (tables .entry)) (now (slots .entry)) w → Shows (configured (now (config .entry))) shape (ledger_services.issue (configured (now (config .entry))) me (ledger.dequeue q) L) (now (tables .exit)) (now (slots .exit)) w) ⌝ }
+// The effect of a code, by its family; `a` and `b` are the meant task or queue and semaphore. No code is 0.
+fn by_family(
+    code: u8,
+    me: u8,
+    a: u8,
+    b: u8,
+    frame: &[u8],
+    config: &[u8],
+    tables: &mut [u8],
+    slots: &mut [u8],
+    timers: &mut [u8],
+    shape: Shape,
+)
+    requires { ⌜ (5 ≤ length (now frame)) × OneOf 17 code × Lent (now config) shape (length (now tables)) (length (now slots)) (length (now timers)) × Meant (configured (now config)) shape code me a b (now frame) ⌝ }
+    ensures { λ _. ⌜ Effects (configured (now (config .entry))) shape code me a b (now (frame .entry)) (now (tables .entry)) (now (slots .entry)) (now (timers .entry)) (now (tables .exit)) (now (slots .exit)) (now (timers .exit)) ⌝ }
 {
-    let r = crate::settling::ring(config, shape, q);
-    services::entries::dequeue(tables, slots, shape, r, me, q);
+    match code {
+        0x00..=0x03 => crate::semaphore::serve(tables, shape, code, me, b),
+        0x04..=0x06 => crate::message::serve(tables, shape, code, me, a, b, frame[3], frame[4]),
+        0x07..=0x08 => crate::queue::serve(tables, slots, config, shape, code, me, a, frame),
+        0x09..=0x0C => crate::task::serve(tables, timers, shape, code, a),
+        0x0D..=0x0F => crate::timer::serve(tables, timers, shape, code, a, b, frame[3], frame[4]),
+        0x10 => services::timer::tick(tables, timers, shape),
+        _ => {
+            services::semaphore::signal(tables, shape, b);
+        }
+    }
 }
 
-// The entry is handed on as the part of the frame that starts at its sixth byte.
-fn enqueue(tables: &mut [u8], config: &[u8], shape: Shape, me: u8, q: u8, frame: &[u8])
-    requires { ⌜ Fits shape (length (now tables)) × Lends (now config) shape × (1 ≤ me) × (me ≤ shape .tasks) × (1 ≤ q) × (q ≤ shape .queues) × (length (drop 5 (now frame)) ≡ ledger_services.shape (configured (now config)) q .width) ⌝ }
-    ensures { λ _. ⌜ ((L : Ledger) (z w : List ℕ) → Shows (configured (now (config .entry))) shape L (now (tables .entry)) z w → Shows (configured (now (config .entry))) shape (ledger_services.issue (configured (now (config .entry))) me (ledger.enqueue q (drop 5 (now (frame .entry)))) L) (now (tables .exit)) z w) ⌝ }
-{
-    let r = crate::settling::ring(config, shape, q);
-    services::entries::enqueue(tables, shape, r, me, q, &frame[5..]);
-}
-
-// One call for each command.
-pub fn carry_out(
-    c: Command,
+// The effect of an accepted frame of this code.
+fn carried(
+    code: u8,
     me: u8,
     frame: &[u8],
     config: &[u8],
@@ -109,61 +63,49 @@ pub fn carry_out(
     timers: &mut [u8],
     shape: Shape,
 )
-    requires { ⌜ Fits shape (length (now tables)) × Lends (now config) shape × (16 * shape .tasks ≤ length (now slots)) × Holds shape (length (now timers)) × Asker c me × (me ≤ shape .tasks) × Valid (configured (now config)) shape (now frame) c ⌝ }
-    ensures { λ _. ⌜ ((L : Ledger) → Free c (configured (now (config .entry))) L → Shows (configured (now (config .entry))) shape L (now (tables .entry)) (now (slots .entry)) (now (timers .entry)) → Shows (configured (now (config .entry))) shape (served c (configured (now (config .entry))) me (drop 5 (now (frame .entry))) L) (now (tables .exit)) (now (slots .exit)) (now (timers .exit))) ⌝ }
+    requires { ⌜ (5 ≤ length (now frame)) × (byte 0 (now frame) ≡ code) × OneOf 17 code × Lent (now config) shape (length (now tables)) (length (now slots)) (length (now timers)) × Passed (configured (now config)) shape me (now frame) ⌝ }
+    ensures { λ _. ⌜ Carries (configured (now (config .entry))) shape me (now (frame .entry)) (now (tables .entry)) (now (slots .entry)) (now (timers .entry)) (now (tables .exit)) (now (slots .exit)) (now (timers .exit)) ⌝ }
 {
-    match c {
-        Command::Refused(_) => {}
-        Command::Wait(b) => {
-            services::waits::wait(tables, shape, me, b);
-        }
-        Command::Signal(b) => {
-            services::waits::signal(tables, shape, b as usize);
-        }
-        Command::Pend(b) => {
-            tables::semaphores::store(tables, shape, b as usize, Semaphore::Pending);
-        }
-        Command::Send(a, b, x) => {
-            services::mail::send(tables, shape, me, a, b, x);
-        }
-        Command::Sendw(a, b, x) => {
-            services::mail::sendw(tables, shape, me, a, b, x);
-        }
-        Command::Receive(a) => {
-            services::mail::receive(tables, shape, me, a);
-        }
-        Command::Dequeue(q) => {
-            dequeue(tables, slots, config, shape, me, q);
-        }
-        Command::Enqueue(q) => {
-            enqueue(tables, config, shape, me, q, frame);
-        }
-        Command::Resume(a) => {
-            services::blocks::set_suspended(tables, shape, a as usize, false);
-        }
-        Command::Suspend(a) => {
-            services::blocks::set_suspended(tables, shape, a as usize, true);
-        }
-        Command::Terminate(a) => {
-            services::control::terminate(tables, timers, shape, a);
-        }
-        Command::Execute(a) => {
-            services::control::execute(tables, shape, a);
-        }
-        Command::Delay(a, b, n, p) => {
-            services::time::delay(tables, timers, shape, a, b, n, p);
-        }
-        Command::Timer(a, b, n, p) => {
-            clock::start(timers, shape, a, b, n, p);
-        }
-        Command::Purge(a, b, all) => {
-            clock::purge(timers, shape, a, all, b);
-        }
-        Command::Tick => {
-            services::time::tick(tables, timers, shape);
-        }
-        Command::Exit(b) => {
-            services::waits::signal(tables, shape, b as usize);
-        }
+    let u = command::codes::row(code);
+    let kind = u.a;
+    let a = command::fields::meant_task(kind, me, frame[1]);
+    let kind = u.b;
+    let b = command::fields::meant_semaphore(kind, shape, me, a, frame[2]);
+    prepare(tables, shape, me, u.service);
+    by_family(code, me, a, b, frame, config, tables, slots, timers, shape);
+}
+
+// One call for each code, so that each is compiled with its own row of the table.
+pub fn carry_out(
+    me: u8,
+    frame: &[u8],
+    config: &[u8],
+    tables: &mut [u8],
+    slots: &mut [u8],
+    timers: &mut [u8],
+    shape: Shape,
+)
+    requires { ⌜ Lent (now config) shape (length (now tables)) (length (now slots)) (length (now timers)) × Passed (configured (now config)) shape me (now frame) ⌝ }
+    ensures { λ _. ⌜ Carries (configured (now (config .entry))) shape me (now (frame .entry)) (now (tables .entry)) (now (slots .entry)) (now (timers .entry)) (now (tables .exit)) (now (slots .exit)) (now (timers .exit)) ⌝ }
+{
+    let code = frame[0];
+    match code {
+        0x01 => carried(0x01, me, frame, config, tables, slots, timers, shape),
+        0x02 => carried(0x02, me, frame, config, tables, slots, timers, shape),
+        0x03 => carried(0x03, me, frame, config, tables, slots, timers, shape),
+        0x04 => carried(0x04, me, frame, config, tables, slots, timers, shape),
+        0x05 => carried(0x05, me, frame, config, tables, slots, timers, shape),
+        0x06 => carried(0x06, me, frame, config, tables, slots, timers, shape),
+        0x07 => carried(0x07, me, frame, config, tables, slots, timers, shape),
+        0x08 => carried(0x08, me, frame, config, tables, slots, timers, shape),
+        0x09 => carried(0x09, me, frame, config, tables, slots, timers, shape),
+        0x0A => carried(0x0A, me, frame, config, tables, slots, timers, shape),
+        0x0B => carried(0x0B, me, frame, config, tables, slots, timers, shape),
+        0x0C => carried(0x0C, me, frame, config, tables, slots, timers, shape),
+        0x0D => carried(0x0D, me, frame, config, tables, slots, timers, shape),
+        0x0E => carried(0x0E, me, frame, config, tables, slots, timers, shape),
+        0x0F => carried(0x0F, me, frame, config, tables, slots, timers, shape),
+        0x10 => carried(0x10, me, frame, config, tables, slots, timers, shape),
+        _ => carried(0x11, me, frame, config, tables, slots, timers, shape),
     }
 }

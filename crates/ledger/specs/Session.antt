@@ -7,7 +7,7 @@ use lib.Dec.{eqb}
 use Rattle.ledger.specs.Config.{Config, configIn, configRefusal}
 use Rattle.ledger.specs.Ledger.{Semaphore, Task, Message, Timer, held, Outcome, plain, begin, message, entry, refused, semaphore, Request, none, receive, dequeue, enqueue, Ledger, task, running, setOutcome, setRequest, fresh}
 use Rattle.ledger.specs.Services.{effect, issue}
-use Rattle.ledger.specs.Refusals.{call, refusal, isService, onNotEmpty, onNotFull, meets21}
+use Rattle.ledger.specs.Refusals.{fields, call, refusal, onNotEmpty, onNotFull, meets21}
 
 -- ---- settling
 
@@ -73,8 +73,8 @@ answer n r l = n ∷ running l ∷ r ∷ shown (task l (running l) .outcome)
 -- accepted services first set the caller's outcome to plain
 unfoldable pub accept : Config → List ℕ → Ledger → Ledger
 accept c f l =
-    let k = call c l f in
-    effect (k .code) c (k .self) (k .a) (k .b) (k .x) (k .bytes) (cond (isService f) (setOutcome (k .self) plain l) l)
+    let k = call c (running l) f in
+    effect (k .code) c (k .self) (k .a) (k .b) (k .x) (k .bytes) (cond (fields (k .code) .service) (setOutcome (k .self) plain l) l)
 
 pub record Stepped : Type 0 where
   pub ledger : Ledger

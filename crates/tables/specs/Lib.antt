@@ -1,6 +1,7 @@
 pub mod Layout
 pub mod Bits
 pub mod Planes
+pub mod Examples
 pub mod Words
 pub mod OneBit
 pub mod Decode

@@ -5,62 +5,17 @@ use mathlib.Core.Logic.{_⊎_, inl, inr}
 use mathlib.Core.Bool.{Bool, true, false, cond, not, _&&_}
 use mathlib.Core.List.{List, [], _∷_, map}
 use native.Mathlib.Omega.{arith}
-use borrow.Author.Tests.{leb-true, leb-false, eqb-true, eqb-false, not-false}
+use borrow.Author.Tests.{leb-true, leb-false, eqb-true, eqb-false, ne-eqb, not-false}
 use lib.Dec.{eqb, leb}
 use lib.ListN.{length, getD, List·getD-map}
-use Rattle.ledger.specs.Lists.{within, byte}
+use Rattle.ledger.specs.Lists.{Check, first, within, byte}
 use Rattle.ledger.specs.Config.{Config}
 use Rattle.ledger.specs.Ledger.{Ledger, running}
 use Rattle.ledger.specs.Services.{Code, WAIT, SIGNAL, PEND, SEND, SENDW, RECEIVE, DEQUEUE, ENQUEUE, RESUME, SUSPEND, TERMINATE, EXECUTE, DELAY, TIMER, PURGE, TICK, EXIT, codes, shape}
-use Rattle.ledger.specs.Refusals.{FieldA, noA, aTask, otherTask, selfOrTask, anyOrTask, aQueue, FieldB, noB, ofSelf, ofTask, orNone, FieldX, noX, aMessage, aTockValue, aSwitch, Fields, fields, Call, meantTask, meantSemaphore, codeOf, call, isService, isEnqueue, isDelay, wrongTask, wrongSemaphore, wrongQueue, isMessage, isTockValue, meets21, inAMailbox, haveTimer, idleOrWaiting, refusal}
+use Rattle.ledger.specs.Refusals.{FieldA, noA, aTask, otherTask, selfOrTask, anyOrTask, aQueue, FieldB, noB, ofSelf, ofTask, orNone, FieldX, noX, aMessage, aTockValue, aSwitch, Fields, fields, Follows, xAlone, xAndEntry, Call, meantTask, meantSemaphore, codeAt, call, wrongTask, wrongSemaphore, wrongQueue, isMessage, isTockValue, wrongEntry, meets25, meets21, inAMailbox, haveTimer, fromInput, fromState, refusal}
 use Rattle.ledger.specs.Theorems.Items.{Numbered}
-use Rattle.ledger.specs.Theorems.Checks.{or-left, asked, within-numbered, passes}
+use Rattle.ledger.specs.Theorems.Checks.{or-left, asked, within-numbered, passes, passes-joined, Numbers}
 use Rattle.ledger.specs.Theorems.Lowest.{TaskRuns, NullRuns, lowest-runs}
-
--- ---- the codes by their numbers
-
-abbrev pub numberOf : Code → ℕ
-numberOf WAIT = 0x01
-numberOf SIGNAL = 0x02
-numberOf PEND = 0x03
-numberOf SEND = 0x04
-numberOf SENDW = 0x05
-numberOf RECEIVE = 0x06
-numberOf DEQUEUE = 0x07
-numberOf ENQUEUE = 0x08
-numberOf RESUME = 0x09
-numberOf SUSPEND = 0x0A
-numberOf TERMINATE = 0x0B
-numberOf EXECUTE = 0x0C
-numberOf DELAY = 0x0D
-numberOf TIMER = 0x0E
-numberOf PURGE = 0x0F
-numberOf TICK = 0x10
-numberOf EXIT = 0x11
-
-abbrev pub serves : Code → Bool
-serves k = within 0x01 0x0F (numberOf k)
-
-from : ℕ → ℕ → List ℕ
-from n zero = []
-from n (suc k) = n ∷ from (suc n) k
-
-getD-from : (n k i d : ℕ) → i < k → getD (from n k) i d ≡ n + i
-unfolding from
-getD-from n zero i d h = absurd (omega arith)
-getD-from n (suc k) zero d h = omega arith
-getD-from n (suc k) (suc i) d h = omega (arith, getD-from (suc n) k i d (omega arith))
-
-numbered-codes : map numberOf codes ≡ from 1 17
-unfolding from
-numbered-codes = refl
-
-number-of-code : (f : List ℕ) → Numbered 0x11 (byte 0 f) → byte 0 f ≡ numberOf (codeOf f)
-unfolding codeOf
-number-of-code f h =
-    let i = byte 0 f - 1 in
-    let e : numberOf (getD codes i TICK) ≡ 1 + i = sym (List·getD-map numberOf codes i TICK) ∙ ap (λ ns. getD ns i 0x10) numbered-codes ∙ getD-from 1 17 i 0x10 (omega arith) in
-    omega arith
 
 -- ---- what a field means, once it is accepted
 
@@ -94,14 +49,33 @@ GoodX c l aMessage a b x = GoodMessage c l x
 GoodX c l aTockValue a b x = GoodTocks c l a b x
 GoodX c l aSwitch a b x = Unit {0}
 
--- not 20; 5, 6 and 7; 8, 22, 9, 24 and 23; enqueue's 2; 25; 21
+abbrev pub GoodEntry : Config → Follows → (q : ℕ) → List ℕ → Type 0
+GoodEntry c xAlone q e = Unit {0}
+GoodEntry c xAndEntry q e = length e ≡ shape c q .width
+
+-- a message's number, a tock value other than 0
+abbrev pub GoodNumber : Config → FieldX → ℕ → Type 0
+GoodNumber c noX x = Unit {0}
+GoodNumber c aMessage x = Numbered (c .G) x
+GoodNumber c aTockValue x = x ≡ 0 → ⊥
+GoodNumber c aSwitch x = Unit {0}
+
+-- what the frame and the running task's number say: not 20; 5, 6 and 7; 8 and 9; an entry's 2
+pub record Good (c : Config) (k : Call) : Type 0 where
+  pub self : fields (k .code) .service ≡ true → Numbered (c .T) (k .self)
+  pub A : GoodA c (fields (k .code) .A) (k .a)
+  pub B : GoodB c (fields (k .code) .B) (k .b)
+  pub X : GoodNumber c (fields (k .code) .X) (k .x)
+  pub entry : GoodEntry c (fields (k .code) .follows) (k .a) (k .bytes)
+
+-- and what the ledger says: not 22, 24 and 23; 25; 21
 pub record Accepted (c : Config) (l : Ledger) (k : Call) : Type 0 where
-  pub self : serves (k .code) ≡ true → TaskRuns (c .T) l (k .self)
+  pub self : fields (k .code) .service ≡ true → TaskRuns (c .T) l (k .self)
   pub A : GoodA c (fields (k .code) .A) (k .a)
   pub B : GoodB c (fields (k .code) .B) (k .b)
   pub X : GoodX c l (fields (k .code) .X) (k .a) (k .b) (k .x)
-  pub entry : eqb (numberOf (k .code)) 0x08 ≡ true → length (k .bytes) ≡ shape c (k .a) .width
-  pub delay : eqb (numberOf (k .code)) 0x0D ≡ true → idleOrWaiting l (k .a) ≡ false
+  pub entry : GoodEntry c (fields (k .code) .follows) (k .a) (k .bytes)
+  pub not25 : meets25 l (fields (k .code) .waits) (k .a) ≡ false
   pub not21 : meets21 c l (fields (k .code) .waits) (k .a) (k .b) ≡ false
 
 -- ---- each from its checks
@@ -150,7 +124,7 @@ module _ (c : Config) (self a b : ℕ) where
       → wrongTask c (u .A) self a ≡ false → wrongQueue c (u .A) a ≡ false → wrongSemaphore c (u .B) b ≡ false → Used u
   service u s o t q w = record { A = goodA c (u .A) self a s t q; B = goodB c (u .B) self (meantTask (u .A) self a) b o w }
 
-  used : (k : Code) → (serves k ≡ true → Numbered (c .T) self)
+  used : (k : Code) → (fields k .service ≡ true → Numbered (c .T) self)
       → wrongTask c (fields k .A) self a ≡ false → wrongQueue c (fields k .A) a ≡ false → wrongSemaphore c (fields k .B) b ≡ false → Used (fields k)
   unfolding fields
   used WAIT s t q w = service (fields WAIT) (s refl) (s refl) t q w
@@ -171,14 +145,32 @@ module _ (c : Config) (self a b : ℕ) where
   used TICK s t q w = record { A = tt; B = tt }
   used EXIT s t q w = record { A = tt; B = goodB c orNone self (meantTask noA self a) b tt w }
 
-goodX : (c : Config) (l : Ledger) (X : FieldX) (a b x : ℕ)
-    → (isMessage X && not (within 1 (c .G) x)) ≡ false → (isMessage X && inAMailbox l x) ≡ false
-    → (isTockValue X && eqb x 0) ≡ false → (isTockValue X && haveTimer l a b) ≡ false → (isTockValue X && leb (c .R) (length (l .timers))) ≡ false → GoodX c l X a b x
+goodNumber : (c : Config) (X : FieldX) (x : ℕ) → (isMessage X && not (within 1 (c .G) x)) ≡ false → (isTockValue X && eqb x 0) ≡ false → GoodNumber c X x
 unfolding isMessage isTockValue
-goodX c l noX a b x m n t p r = tt
-goodX c l aMessage a b x m n t p r = record { number = within-numbered (c .G) x (not-false _ m); nowhere = n }
-goodX c l aTockValue a b x m n t p r = record { some = eqb-false x 0 t; single = p; free = leb-false (c .R) (length (l .timers)) r }
-goodX c l aSwitch a b x m n t p r = tt
+goodNumber c noX x m t = tt
+goodNumber c aMessage x m t = within-numbered (c .G) x (not-false _ m)
+goodNumber c aTockValue x m t = eqb-false x 0 t
+goodNumber c aSwitch x m t = tt
+
+goodEntry : (c : Config) (u : Follows) (q : ℕ) (e : List ℕ) → wrongEntry c u q e ≡ false → GoodEntry c u q e
+unfolding wrongEntry
+goodEntry c xAlone q e h = tt
+goodEntry c xAndEntry q e h = eqb-true _ _ (not-false _ h)
+
+goodX : (c : Config) (l : Ledger) (X : FieldX) (a b x : ℕ) → GoodNumber c X x
+    → (isMessage X && inAMailbox l x) ≡ false → (isTockValue X && haveTimer l a b) ≡ false → (isTockValue X && leb (c .R) (length (l .timers))) ≡ false → GoodX c l X a b x
+unfolding isMessage isTockValue
+goodX c l noX a b x g n p r = tt
+goodX c l aMessage a b x g n p r = record { number = g; nowhere = n }
+goodX c l aTockValue a b x g n p r = record { some = g; single = p; free = leb-false (c .R) (length (l .timers)) r }
+goodX c l aSwitch a b x g n p r = tt
+
+running-low : (c : Config) (l : Ledger) → length (l .tasks) ≡ c .T → running l ≤ c .T
+running-low c l h = go (lowest-runs (c .T) l h)
+  where
+    go : TaskRuns (c .T) l (running l) ⊎ NullRuns (c .T) l (running l) → running l ≤ c .T
+    go (inl r) = r .number .upto
+    go (inr r) = omega (arith, r .null)
 
 runs : (c : Config) (l : Ledger) → length (l .tasks) ≡ c .T → eqb (running l) 0 ≡ false → TaskRuns (c .T) l (running l)
 runs c l h e = go (lowest-runs (c .T) l h)
@@ -187,25 +179,34 @@ runs c l h e = go (lowest-runs (c .T) l h)
     go (inl r) = r
     go (inr r) = absurd (eqb-false (running l) 0 e (r .null))
 
-pub accepted-service : (c : Config) (l : Ledger) (f : List ℕ) → refusal c l f ≡ 0 → isService f ≡ serves (codeOf f)
-unfolding refusal isService
-accepted-service c l f e =
-    let (short, (code, rest)) = passes _ refl e in
-    rw (number-of-code f (within-numbered 0x11 (byte 0 f) (not-false _ code)))
+-- ---- by the input, and by the ledger too
 
-pub accepted : (c : Config) (l : Ledger) (f : List ℕ) → length (l .tasks) ≡ c .T → refusal c l f ≡ 0 → Accepted c l (call c l f)
-unfolding refusal call isService isEnqueue isDelay
+input-numbers : (c : Config) (self : ℕ) (f : List ℕ) → Numbers (fromInput c self f) ≡ true
+unfolding fromInput
+input-numbers c self f = refl
+
+pub good : (c : Config) (self : ℕ) (f : List ℕ) → self ≤ c .T → first (fromInput c self f) ≡ 0 → Good c (call c self f)
+unfolding fromInput call
+good c self f h e =
+    let (short, (code, (long, (null, (task, (sem, (queue, (message, (tocks, (width, done)))))))))) = passes _ refl e in
+    let k = codeAt (byte 0 f) in
+    let s : fields k .service ≡ true → Numbered (c .T) self = λ v. record { from = omega (arith, eqb-false self 0 (asked (fields k .service) _ null v)); upto = h } in
+    let u = used c self (byte 1 f) (byte 2 f) k s task queue sem in
+    record { self = s; A = u .A; B = u .B; X = goodNumber c _ _ message tocks; entry = goodEntry c _ _ _ width }
+
+pub accepted : (c : Config) (l : Ledger) (f : List ℕ) → length (l .tasks) ≡ c .T → refusal c l f ≡ 0 → Accepted c l (call c (running l) f)
+unfolding refusal fromState call
 accepted c l f h e =
-    let (short, (code, (long, (null, (task, (sem, (queue, (message, (tocks, (width, (delay, (lies, (waits, (timer, (full, done))))))))))))))) = passes _ refl e in
-    let n = number-of-code f (within-numbered 0x11 (byte 0 f) (not-false _ code)) in
-    let s : serves (codeOf f) ≡ true → TaskRuns (c .T) l (running l) = λ v. runs c l h (asked (isService f) _ null (rw n v)) in
-    let u = used c (running l) (byte 1 f) (byte 2 f) (codeOf f) (λ v. s v .number) task queue sem in
+    let k = call c (running l) f in
+    let p = passes-joined (fromInput c (running l) f) (fromState c l k) (input-numbers c (running l) f) e in
+    let g = good c (running l) f (running-low c l h) (p .0) in
+    let (busy, (lies, (waits, (timer, (full, done))))) = passes _ refl (p .1) in
     record {
-      self = s;
-      A = u .A;
-      B = u .B;
-      X = goodX c l _ _ _ _ message lies tocks timer full;
-      entry = λ v. eqb-true _ _ (not-false _ (asked (isEnqueue f) _ width (rw n v)));
-      delay = λ v. asked (isDelay f) _ delay (rw n v);
+      self = λ v. runs c l h (ne-eqb (running l) 0 (λ z. omega (arith, g .self v)));
+      A = g .A;
+      B = g .B;
+      X = goodX c l _ _ _ _ (g .X) lies timer full;
+      entry = g .entry;
+      not25 = busy;
       not21 = waits;
     }

@@ -1,10 +1,10 @@
 -- The laws of checks: a list of checks that gives 0 has none that fails; and what a test says of its parts.
 use Prim.Native.Nat.{ℕ, zero, suc, _<_}
-use mathlib.Core.Path.{_≡_, refl}
+use mathlib.Core.Path.{_≡_, refl, sym, _∙_}
 use mathlib.Core.Bool.{Bool, true, false, cond, not, _&&_, _||_}
-use mathlib.Core.List.{List, [], _∷_}
+use mathlib.Core.List.{List, [], _∷_, _++_}
 use native.Mathlib.Omega.{arith}
-use borrow.Author.Tests.{leb-true, eqb-false}
+use borrow.Author.Tests.{leb-true, eqb-true, eqb-false}
 use lib.Dec.{eqb, leb}
 use lib.ListN.{length, getD}
 use Rattle.ledger.specs.Lists.{Check, first, at, all, within}
@@ -44,20 +44,46 @@ abbrev pub Passes : List Check → Type 0
 Passes [] = Unit {0}
 Passes (k ∷ ks) = (k .fails ≡ false) × Passes ks
 
-abbrev numbers : List Check → Bool
-numbers [] = true
-numbers (k ∷ ks) = not (eqb (k .number) 0) && numbers ks
+-- none has number 0
+abbrev pub Numbers : List Check → Bool
+Numbers [] = true
+Numbers (k ∷ ks) = not (eqb (k .number) 0) && Numbers ks
 
 passes-one : (b : Bool) (n r : ℕ) → not (eqb n 0) ≡ true → cond b n r ≡ 0 → (b ≡ false) × (r ≡ 0)
 passes-one true n r h e = absurd (eqb-false n 0 (cc) e)
 passes-one false n r h e = (refl, e)
 
-pub passes : (ks : List Check) → numbers ks ≡ true → first ks ≡ 0 → Passes ks
+pub passes : (ks : List Check) → Numbers ks ≡ true → first ks ≡ 0 → Passes ks
 unfolding first
 passes [] h e = tt
 passes (k ∷ ks) h e =
-    let p = passes-one (k .fails) (k .number) (first ks) (and-left _ (numbers ks) h) e in
-    (p .0, passes ks (and-right (not (eqb (k .number) 0)) (numbers ks) h) (p .1))
+    let p = passes-one (k .fails) (k .number) (first ks) (and-left _ (Numbers ks) h) e in
+    (p .0, passes ks (and-right (not (eqb (k .number) 0)) (Numbers ks) h) (p .1))
+
+-- ---- two lists of checks, one behind the other: the first that fails, else the second's
+
+pub joined-fails : (ks ls : List Check) → (first ks ≡ 0 → ⊥) → first (ks ++ ls) ≡ first ks
+unfolding first
+joined-fails [] ls h = absurd (h refl)
+joined-fails (k ∷ ks) ls h = go (k .fails) refl (joined-fails ks ls)
+  where
+    go : (b : Bool) → k .fails ≡ b → ((first ks ≡ 0 → ⊥) → first (ks ++ ls) ≡ first ks) → cond (k .fails) (k .number) (first (ks ++ ls)) ≡ cond (k .fails) (k .number) (first ks)
+    go true e ih = rw e
+    go false e ih = rw e (ih (λ z. h (rw e z)))
+
+pub joined-passes : (ks ls : List Check) → Numbers ks ≡ true → first ks ≡ 0 → first (ks ++ ls) ≡ first ls
+unfolding first
+joined-passes [] ls n e = refl
+joined-passes (k ∷ ks) ls n e =
+    let p = passes-one (k .fails) (k .number) (first ks) (and-left _ (Numbers ks) n) e in
+    rw (p .0) (joined-passes ks ls (and-right (not (eqb (k .number) 0)) (Numbers ks) n) (p .1))
+
+pub passes-joined : (ks ls : List Check) → Numbers ks ≡ true → first (ks ++ ls) ≡ 0 → (first ks ≡ 0) × (first ls ≡ 0)
+passes-joined ks ls n e = go (eqb (first ks) 0) refl
+  where
+    go : (b : Bool) → eqb (first ks) 0 ≡ b → (first ks ≡ 0) × (first ls ≡ 0)
+    go true z = let p = eqb-true (first ks) 0 z in (p, sym (joined-passes ks ls n p) ∙ e)
+    go false z = let p = eqb-false (first ks) 0 z in absurd (p (sym (joined-fails ks ls p) ∙ e))
 
 module _ {A : Type 0} where
   getD-all : (p : A → Bool) (xs : List A) (i : ℕ) (d : A) → all p xs ≡ true → i < length xs → p (getD xs i d) ≡ true

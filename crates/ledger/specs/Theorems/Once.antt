@@ -12,7 +12,7 @@ use Rattle.ledger.specs.Lists.{at, put, any, insertBy}
 use Rattle.ledger.specs.Config.{Config}
 use Rattle.ledger.specs.Ledger.{Semaphore, PENDING, DONE, WAITING, plain, refused, Request, none, receive, dequeue, enqueue, Message, Timer, Ledger, semaphoreOf, mailbox, running, setOutcome, setRequest, setSuspended, setMessageWait, fresh}
 use Rattle.ledger.specs.Services.{signalled, signal, woken, wakeWaiter, waited, wait, send, wanted, notEmpty, notFull, takeEntry, putEntry, received, dequeued, enqueued, issue, terminate, execute, purge, insertAgain, expire, expireAll, tock, tick, Code, WAIT, SIGNAL, PEND, SEND, SENDW, RECEIVE, DEQUEUE, ENQUEUE, RESUME, SUSPEND, TERMINATE, EXECUTE, DELAY, TIMER, PURGE, TICK, EXIT, effect}
-use Rattle.ledger.specs.Refusals.{fields, call, isService, isMessage, inAMailbox, refusal}
+use Rattle.ledger.specs.Refusals.{fields, call, isMessage, inAMailbox, fromInput, fromState, refusal}
 use Rattle.ledger.specs.Session.{openRequest, isOpen, refused21, issueAgain, reissue, settle, accept, step}
 use Rattle.ledger.specs.Theorems.Items.{Numbered}
 use Rattle.ledger.specs.Theorems.Checks.{asked, within-numbered, cond-both, passes}
@@ -151,8 +151,8 @@ module _ (c : Config) where
 
   -- ---- a frame
 
-  accepted-sends : (f : List ℕ) (l : Ledger) → refusal c l f ≡ 0 → Sends (call c l f .code) (call c l f .x) l
-  unfolding refusal
+  accepted-sends : (f : List ℕ) (l : Ledger) → refusal c l f ≡ 0 → Sends (call c (running l) f .code) (call c (running l) f .x) l
+  unfolding refusal fromInput fromState
   accepted-sends f l e m =
       let (short, (code, (long, (null, (task, (sem, (queue, (message, (tocks, (width, (delay, (lies, (waits, (timer, (full, done))))))))))))))) = passes _ refl e in
       (within-numbered (c .G) _ (not-false _ (asked _ _ message m)), asked _ _ lies m)
@@ -160,9 +160,9 @@ module _ (c : Config) where
   once-accept : (f : List ℕ) (l : Ledger) → refusal c l f ≡ 0 → Once c (boxes l) → Once c (boxes (accept c f l))
   unfolding updates accept inAMailbox
   once-accept f l e h =
-      let k = call c l f in
-      let m : Ledger = cond (isService f) (setOutcome (k .self) plain l) l in
-      let same : boxes m ≡ boxes l = cond-both (λ m. boxes m ≡ boxes l) (isService f) (setOutcome (k .self) plain l) l (plainly (k .self) l) refl in
+      let k = call c (running l) f in
+      let m : Ledger = cond (fields (k .code) .service) (setOutcome (k .self) plain l) l in
+      let same : boxes m ≡ boxes l = cond-both (λ m. boxes m ≡ boxes l) (fields (k .code) .service) (setOutcome (k .self) plain l) l (plainly (k .self) l) refl in
       once-effect (k .code) (k .self) (k .a) (k .b) (k .x) (k .bytes) m
       (λ q. let g = accepted-sends f l e q in (g .0, subst (λ (v : List (List Message)). any (any (λ (n : Message). eqb (n .number) (k .x))) v ≡ false) (sym same) (g .1)))
       (as-before same h)

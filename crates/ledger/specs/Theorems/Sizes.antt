@@ -11,7 +11,7 @@ use Rattle.ledger.specs.Config.{Config}
 use Rattle.ledger.specs.Ledger.{Semaphore, PENDING, DONE, WAITING, Outcome, plain, refused, Request, none, receive, dequeue, enqueue, Task, Message, Queue, Timer, Ledger, semaphoreOf, running, setTask, setSemaphores, setSemaphore, setMailbox, setQueue, setTimers, setClock, setBlocks, setOutcome, setSlot, setRequest, setSuspended, setEventWait, setMessageWait, fresh}
 use Rattle.ledger.specs.Services.{waitFor, signalled, signal, woken, wakeWaiter, waited, wait, withdrawWait, send, takeEntry, putEntry, received, dequeued, enqueued, issue, terminate, execute, insertTimer, startTimer, purge, insertAgain, expire, expireAll, tock, tick, Code, WAIT, SIGNAL, PEND, SEND, SENDW, RECEIVE, DEQUEUE, ENQUEUE, RESUME, SUSPEND, TERMINATE, EXECUTE, DELAY, TIMER, PURGE, TICK, EXIT, effect}
 use Rattle.ledger.specs.Lists.{byte}
-use Rattle.ledger.specs.Refusals.{isService, refusal}
+use Rattle.ledger.specs.Refusals.{fields, call, refusal}
 use Rattle.ledger.specs.Session.{Settles, openRequest, isOpen, refused21, issueAgain, reissue, settle, answer, accept, Stepped, step, runFrom, run}
 use Rattle.ledger.specs.Theorems.Items.{put-length}
 use Rattle.ledger.specs.Theorems.Checks.{cond-both}
@@ -171,7 +171,7 @@ of-effect EXIT c s a b x e l = cond-both (λ m. sizes m ≡ sizes l) (eqb b 0) l
 
 pub of-accept : (c : Config) (f : List ℕ) (l : Ledger) → sizes (accept c f l) ≡ sizes l
 unfolding accept
-of-accept c f l = of-effect _ c _ _ _ _ _ _ ∙ cond-both (λ m. sizes m ≡ sizes l) (isService f) _ l (of-outcome _ plain l) refl
+of-accept c f l = of-effect _ c _ _ _ _ _ _ ∙ cond-both (λ m. sizes m ≡ sizes l) (fields (call c (running l) f .code) .service) _ l (of-outcome _ plain l) refl
 
 pub of-reissue : (c : Config) (l : Ledger) → sizes (reissue c l) ≡ sizes l
 unfolding reissue issueAgain

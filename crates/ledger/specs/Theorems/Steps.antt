@@ -1,6 +1,6 @@
 -- Every accepted frame, and every issue in settling, is a chain of changes: the walk through the services that all rules about the ledger share.
 use Prim.Native.Nat.{ℕ, suc, _+_, _≤_}
-use mathlib.Core.Path.{_≡_, refl, _∙_, ap}
+use mathlib.Core.Path.{_≡_, refl, _∙_, ap, subst}
 use mathlib.Core.Bool.{Bool, true, false, cond}
 use mathlib.Core.List.{List, [], _∷_}
 use mathlib.Core.Option.{Option, none as nothing, some}
@@ -11,13 +11,13 @@ use Rattle.ledger.specs.Lists.{at, find, word}
 use Rattle.ledger.specs.Config.{Config}
 use Rattle.ledger.specs.Ledger.{Semaphore, PENDING, DONE, WAITING, Outcome, plain, begin, message, entry, refused, semaphore, Request, none, receive, dequeue, enqueue, Task, Message, Timer, Ledger, nullTask, task, semaphoreOf, mailbox, queue, held, runnable, running, setTask, setSemaphores, setMailbox, setTimers, setClock, setBlocks, setOutcome, setRequest, setSuspended, setMessageWait}
 use Rattle.ledger.specs.Services.{signalled, signal, woken, wakeWaiter, waited, wait, withdrawWait, send, wanted, notEmpty, notFull, empty, full, received, dequeued, enqueued, issue, terminate, execute, insertTimer, startTimer, purge, tock, tick, Code, WAIT, SIGNAL, PEND, SEND, SENDW, RECEIVE, DEQUEUE, ENQUEUE, RESUME, SUSPEND, TERMINATE, EXECUTE, DELAY, TIMER, PURGE, TICK, EXIT, effect}
-use Rattle.ledger.specs.Refusals.{Call, fields, wouldWaitOn, isWaiting, meets21, inAMailbox, idleOrWaiting, onNotEmpty, onNotFull, call, refusal}
+use Rattle.ledger.specs.Refusals.{Follows, xAlone, xAndEntry, Call, fields, valueX, meets25, wouldWaitOn, isWaiting, meets21, inAMailbox, idleOrWaiting, onNotEmpty, onNotFull, call, refusal}
 use Rattle.ledger.specs.Session.{openRequest, isOpen, refused21, issueAgain, reissue, accept}
 use Rattle.ledger.specs.Theorems.Items.{Numbered, at-put-part}
 use Rattle.ledger.specs.Theorems.Checks.{and-left, and-right, or-left, or-right}
 use Rattle.ledger.specs.Theorems.Parts.{Every, nil, cons, part-nil, part-keep, part-without, every-part}
 use Rattle.ledger.specs.Theorems.Tocks.{signalAll, tock-is}
-use Rattle.ledger.specs.Theorems.Accepted.{serves, Accepted, accepted, accepted-service}
+use Rattle.ledger.specs.Theorems.Accepted.{Accepted, accepted}
 use Rattle.ledger.specs.Theorems.Named.{Timed, Named}
 use Rattle.ledger.specs.Theorems.Settling.{running-named, running-runs}
 use Rattle.ledger.specs.Theorems.Changes.{Asks, Sent, alters, restarts, pends, finishes, wakes, waits, delivers, removes, putsEntry, takesEntry, startsTimer, stopsTimers, ticks, tocks, Changes, start, _⨾_}
@@ -147,7 +147,7 @@ module _ (c : Config) (X : ℕ → Type 0) (self a b x : ℕ) (e : List ℕ) (l 
   called k = record { code = k; self = self; a = a; b = b; x = x; bytes = e }
 
   abbrev Effect : Code → Type 0
-  Effect k = Changes c X l (effect k c self a b x e (cond (serves k) (setOutcome self plain l) l))
+  Effect k = Changes c X l (effect k c self a b x e (cond (fields k .service) (setOutcome self plain l) l))
 
   plainly : Changes c X l (setOutcome self plain l)
   plainly = shows self plain l refl start
@@ -156,7 +156,7 @@ module _ (c : Config) (X : ℕ → Type 0) (self a b x : ℕ) (e : List ℕ) (l 
   unfolding setOutcome
   unwaiting t w = waiting-alters self t _ l refl ∙ w
 
-  self-unwaiting : (k : Code) → serves k ≡ true → Accepted c l (called k) → waiting (setOutcome self plain l) self ≡ false
+  self-unwaiting : (k : Code) → fields k .service ≡ true → Accepted c l (called k) → waiting (setOutcome self plain l) self ≡ false
   self-unwaiting k s g = unwaiting self (runs-unwaiting (task l self) (g .self s .runs))
 
   unless-0 : (z : Bool) → b ≤ c .S + c .T → Changes c X l (cond z l (signal b l))
@@ -164,7 +164,7 @@ module _ (c : Config) (X : ℕ → Type 0) (self a b x : ℕ) (e : List ℕ) (l 
   unless-0 false h = signals b l h start
 
   effects : (k : Code) → X x → Named c l → Accepted c l (called k) → Effect k
-  unfolding effect fields wait terminate execute withdrawWait setSemaphores setTimers setMailbox setTask setOutcome semaphoreOf startTimer insertTimer purge meets21 wouldWaitOn refused21 empty full queue inAMailbox send setMessageWait setBlocks task
+  unfolding effect fields meets25 wait terminate execute withdrawWait setSemaphores setTimers setMailbox setTask setOutcome semaphoreOf startTimer insertTimer purge meets21 wouldWaitOn refused21 empty full queue inAMailbox send setMessageWait setBlocks task
   effects WAIT h n g = shows self (semaphore b) _ refl (waited-by (semaphoreOf l b) self b _ refl (g .self refl .number) (self-unwaiting WAIT refl g) plainly)
   effects SIGNAL h n g = signals b _ (g .B .upto) plainly
   effects PEND h n g = plainly ⨾ pends b (g .not21)
@@ -174,24 +174,29 @@ module _ (c : Config) (X : ℕ → Type 0) (self a b x : ℕ) (e : List ℕ) (l 
       ⨾ waits self b (g .self refl .number) (send-unwaiting self a b x self (setOutcome self plain l) (self-unwaiting SENDW refl g)) (g .not21)
   effects RECEIVE h n g = issues self (receive a) _ (g .A) (g .self refl .number) (self-unwaiting RECEIVE refl g) refl plainly
   effects DEQUEUE h n g = issues self (dequeue a) _ (g .A) (g .self refl .number) (self-unwaiting DEQUEUE refl g) (g .not21) plainly
-  effects ENQUEUE h n g = issues self (enqueue a e) _ (g .A, g .entry refl) (g .self refl .number) (self-unwaiting ENQUEUE refl g) (g .not21) plainly
+  effects ENQUEUE h n g = issues self (enqueue a e) _ (g .A, g .entry) (g .self refl .number) (self-unwaiting ENQUEUE refl g) (g .not21) plainly
   effects RESUME h n g = suspends a false _ plainly
   effects SUSPEND h n g = suspends a true _ plainly
   effects TERMINATE h n g =
       plainly ⨾ restarts a _ (record { slot = refl; outcome = λ e o. no-entry plain e refl o; request = refl }) ⨾ removes a [] (part-nil _) ⨾ stopsTimers _ (part-keep _ _)
   effects EXECUTE h n g = plainly ⨾ restarts a _ (record { slot = refl; outcome = λ e o. no-entry begin e refl o; request = refl })
   effects DELAY h n g =
-      plainly ⨾ startsTimer a b x (g .A) (g .B) h (g .X .some) (g .X .free) ⨾ waits a b (g .A) (unwaiting a (idle-unwaiting l a (g .delay refl))) (g .not21)
+      plainly ⨾ startsTimer a b x (g .A) (g .B) h (g .X .some) (g .X .free) ⨾ waits a b (g .A) (unwaiting a (idle-unwaiting l a (g .not25))) (g .not21)
   effects TIMER h n g = plainly ⨾ startsTimer a b x (g .A) (g .B) h (g .X .some) (g .X .free)
   effects PURGE h n g = plainly ⨾ stopsTimers _ (part-keep _ _)
   effects TICK h n g = ticked l (n .timers) start
   effects EXIT h n g = unless-0 (eqb b 0) (g .B)
 
+value-word : (u : Follows) (f : List ℕ) → word 3 f ≡ valueX u f
+unfolding valueX
+value-word xAlone f = refl
+value-word xAndEntry f = refl
+
 pub accepts : (c : Config) (X : ℕ → Type 0) (f : List ℕ) (l : Ledger) → X (word 3 f) → Named c l → refusal c l f ≡ 0 → Changes c X l (accept c f l)
 unfolding accept call
 accepts c X f l h n e =
-    let k = call c l f in
-    rw (accepted-service c l f e) (effects c X (k .self) (k .a) (k .b) (k .x) (k .bytes) l (k .code) h n (accepted c l f (n .tasks) e))
+    let k = call c (running l) f in
+    effects c X (k .self) (k .a) (k .b) (k .x) (k .bytes) l (k .code) (subst X (value-word (fields (k .code) .follows) f) h) n (accepted c l f (n .tasks) e)
 
 -- ---- an issue in settling
 

@@ -1,12 +1,7 @@
--- `or_self` goes by the definition's test, and a task's number fits a byte.
-use native.Mathlib.Omega.{arith}
+-- `or_self` goes by the definition's test.
 use borrow.Author.Tests.{eq-eqb, ne-eqb}
-use Rattle.command.specs.Numbers.{few}
 use Rattle.command.proofs.fields.or_self.Statement.{statement}
 use Rattle.command.proofs.fields.or_self.Tie as tie
-
-cast-result : tie.Need-cast-result
-cast-result c = omega (arith, few (c .before .pre))
 
 returns : tie.Need-returns
 returns c = rw (eq-eqb _ _ (c .if1 .taken))
@@ -15,4 +10,4 @@ returns-2 : tie.Need-returns-2
 returns-2 c = rw (ne-eqb _ _ (c .if1 .left))
 
 pub or-self-spec : {M : Type 1} → statement M
-or-self-spec = tie.close (tie.spec cast-result returns returns-2)
+or-self-spec = tie.close (tie.spec returns returns-2)

@@ -9,9 +9,7 @@ returns : tie.Need-returns
 returns c = rw (c .if1 .taken)
 
 returns-2 : tie.Need-returns-2
-returns-2 c =
-    let a = c .before .args in
-    rw (le-leb 1 (a .n) (omega arith)) (above (a .n) (a .most))
+returns-2 c = let a = c .before .args in rw (le-leb 1 (a .n) (omega arith)) (above (a .n) (a .most))
 
 pub outside-spec : {M : Type 1} → statement M
 outside-spec = tie.close (tie.spec returns returns-2)

@@ -1,22 +1,22 @@
--- `step` reads the command; refused, it writes the answer for the task that runs; accepted, it acts, and answers for the task that then runs.
+-- `step` asks for the number; refused, it answers for the task that runs; accepted, it acts, and answers for the task that then runs.
 use native.Mathlib.Omega.{arith}
 use denote.Ref.{now}
-use Rattle.tables.specs.Layout.{still-fits, few}
 use Rattle.configuration.specs.Block.{configured}
-use Rattle.executive.specs.Lent.{long, of}
+use Rattle.tables.specs.Layout.{still-fits, few}
+use Rattle.executive.specs.Lent.{configuration, tables, slots, timers}
 use Rattle.executive.specs.Stepped.{step-refused, step-accepted}
 use borrow.Author.Needs.{needs}
 use Rattle.executive.proofs.frames.step.Statement.{statement}
 use Rattle.executive.proofs.frames.step.Tie as tie
 
-read-requires : tie.Need-read-requires
-read-requires c κs = let s = c .before .before .before .before .before .before .before .before in (long (s .pre .1), of (s .pre .1), s .pre .0, s .pre .3)
+running-requires : tie.Need-running-requires
+running-requires c κs = tables (c .before .before .before .before .before .before .before .pre .0)
 
-number-of-requires : tie.Need-number-of-requires
-number-of-requires c κs = search needs
+refusal-requires : tie.Need-refusal-requires
+refusal-requires c κs = let s = c .before .before .before .before .before .before .before .before .before .before in let l = s .pre .0 in (configuration l, tables l, timers l, c .before .before .running .ensures .0)
 
 write-requires : tie.Need-write-requires
-write-requires c κs = search needs
+write-requires c κs = let s = c .before .before .before .before .before .before .before .before .before .before .before .before .before .before .before in let l = s .pre .0 in (tables l, slots l, s .pre .1, c .before .before .before .before .before .before .before .running .ensures .0)
 
 same-length : tie.Need-same-length
 same-length c = search needs
@@ -31,22 +31,16 @@ same-length-4 : tie.Need-same-length-4
 same-length-4 c = search needs
 
 returns : tie.Need-returns
-returns c =
-    let a = c .before .before .before .before .before .before .before .before .before .before .before .before .before .before .before .before .before .args in
-    step-refused (now (a .config)) (now (a .frame)) (now (a .tables)) (now (a .slots)) (now (a .timers)) (now (a .answer)) (a .shape) _ (c .before .before .before .before .before .before .before .before .read .ensures) _ (c .before .before .before .before .before .before .before .number-of .ensures) _ (c .before .before .before .before .before .before .if1 .taken)
-    (λ L h r. c .before .before .write .ensures (configured (now (a .config))) L _ h r)
+returns c = let a = c .before .before .before .before .before .before .before .before .before .before .before .before .before .before .before .before .before .before .args in let g = configured (now (a .config)) in step-refused g (a .shape) (now (a .frame)) (now (a .tables)) (now (a .slots)) (now (a .timers)) (now (a .answer)) _ _ (c .before .before .before .before .before .before .before .before .before .before .running .ensures .1) (c .before .before .before .before .before .before .before .refusal .ensures) _ (c .before .before .before .before .before .before .if1 .taken) (λ L h r. c .before .before .write .ensures g L _ h r)
 
 act-requires : tie.Need-act-requires
-act-requires c κs = search needs
+act-requires c κs = let s = c .before .before .before .before .before .before .before .before .before .before .before .before .before .before .before in let l = s .pre .0 in (l, record { low = c .before .before .before .before .before .before .before .running .ensures .0; input = c .before .before .before .before .refusal .ensures .good (c .before .before .before .if1 .left) })
 
 cast-reissues : tie.Need-cast-reissues
-cast-reissues c = omega (arith, few (c .before .before .before .before .before .before .before .before .before .before .before .before .before .before .before .before .before .before .before .before .before .before .pre .0), c .before .before .before .before .before .before .before .act .ensures .1)
+cast-reissues c = omega (arith, few (tables (c .before .before .before .before .before .before .before .before .before .before .before .before .before .before .before .before .before .before .before .before .before .before .before .pre .0)), c .before .before .before .before .before .before .before .act .ensures .few)
 
 write-requires-2 : tie.Need-write-requires-2
-write-requires-2 c κs =
-    let s = c .before .before .before .before .before .before .before .before .before .before .before .before .before .before .before .before .before .before .before .before .before .before .before .before .before in
-    let t = c .before .before .before .before .before .before .before .before .before .before .act in
-    (still-fits (s .pre .0) (omega (arith, t .kept .1 .1 .1 .1 .0)), omega (arith, s .pre .2, t .kept .1 .1 .1 .1 .1 .0), s .pre .4, t .ensures .0)
+write-requires-2 c κs = let s = c .before .before .before .before .before .before .before .before .before .before .before .before .before .before .before .before .before .before .before .before .before .before .before .before .before .before in let l = s .pre .0 in let t = c .before .before .before .before .before .before .before .before .before .before .act in (still-fits (tables l) (omega (arith, t .kept .1 .1 .1 .0)), omega (arith, slots l, t .kept .1 .1 .1 .1 .0), s .pre .1, t .ensures .low)
 
 same-length-5 : tie.Need-same-length-5
 same-length-5 c = search needs
@@ -61,17 +55,14 @@ same-length-8 : tie.Need-same-length-8
 same-length-8 c = search needs
 
 returns-2 : tie.Need-returns-2
-returns-2 c =
-    let a = c .before .before .before .before .before .before .before .before .before .before .before .before .before .before .before .before .before .before .before .before .before .before .before .before .before .before .before .before .args in
-    step-accepted (now (a .config)) (now (a .frame)) (now (a .tables)) (now (a .slots)) (now (a .timers)) (now (a .answer)) (a .shape) _ (c .before .before .before .before .before .before .before .before .before .before .before .before .before .before .before .before .before .before .before .read .ensures) _ (c .before .before .before .before .before .before .before .before .before .before .before .before .before .before .before .before .before .before .number-of .ensures) _ _ _ _ _ (c .before .before .before .before .before .before .before .before .before .before .before .before .before .before .before .before .before .if1 .left)
-    (c .before .before .before .before .before .before .before .before .before .before .before .before .before .act .ensures .2) (λ M h r. c .before .before .write2 .ensures (configured (now (a .config))) M _ h r)
+returns-2 c = let a = c .before .before .before .before .before .before .before .before .before .before .before .before .before .before .before .before .before .before .before .before .before .before .before .before .before .before .before .before .before .args in let g = configured (now (a .config)) in step-accepted g (a .shape) (now (a .frame)) (now (a .tables)) (now (a .slots)) (now (a .timers)) (now (a .answer)) _ _ (c .before .before .before .before .before .before .before .before .before .before .before .before .before .before .before .before .before .before .before .before .before .running .ensures .1) (c .before .before .before .before .before .before .before .before .before .before .before .before .before .before .before .before .before .before .refusal .ensures) _ _ _ _ _ (c .before .before .before .before .before .before .before .before .before .before .before .before .before .before .before .before .before .if1 .left) (c .before .before .before .before .before .before .before .before .before .before .before .before .before .act .ensures) (λ M h r. c .before .before .write2 .ensures g M _ h r)
 
 pub step-spec : {M : Type 1} → statement M
 step-spec =
     tie.close
     (tie.spec
-    read-requires
-    number-of-requires
+    running-requires
+    refusal-requires
     write-requires
     same-length
     same-length-2

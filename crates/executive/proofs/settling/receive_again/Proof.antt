@@ -3,7 +3,7 @@ use native.Mathlib.Omega.{arith}
 use Rattle.tables.specs.Layout.{still-fits}
 use Rattle.tables.specs.Decode.{viewRequest}
 use Rattle.ledger.specs.Ledger.{setRequest, none}
-use Rattle.services.specs.Arms.{moved}
+use Rattle.tables.specs.Shows.{moved}
 use Rattle.executive.specs.Meeting.{receive-again}
 use borrow.Author.Needs.{needs}
 use Rattle.executive.proofs.settling.receive_again.Statement.{statement}
@@ -13,7 +13,7 @@ store-request-requires : tie.Need-store-request-requires
 store-request-requires c κs = search needs
 
 receive-requires : tie.Need-receive-requires
-receive-requires c κs = let s = c .before .before .before .before .before .before in (still-fits (s .pre .0) (omega arith), s .pre .1, s .pre .2)
+receive-requires c κs = let s = c .before .before .before .before .before .before in (still-fits (s .pre .0) (omega arith), s .pre .1)
 
 same-length : tie.Need-same-length
 same-length c = search needs

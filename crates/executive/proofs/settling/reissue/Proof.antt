@@ -1,8 +1,6 @@
 -- `reissue` goes by the request in the running task's record, which is the ledger's open request: closed and issued again.
-use native.Mathlib.Omega.{arith}
 use mathlib.Core.Path.{refl, ap}
 use denote.Ref.{now}
-use Rattle.tables.specs.Layout.{few}
 use Rattle.tables.specs.Decode.{viewRequest}
 use Rattle.configuration.specs.Block.{configured}
 use Rattle.executive.specs.Meeting.{turn-none, turn-open, asked, asked-put}
@@ -19,35 +17,26 @@ enum-told c = search needs
 enum-known-request : tie.Need-enum-known-request
 enum-known-request c = search needs
 
-cast-receive-again : tie.Need-cast-receive-again
-cast-receive-again c = let s = c .before .before .before .before .before .before .before .before .before in omega (arith, few (s .pre .0), s .pre .4)
-
 receive-again-requires : tie.Need-receive-again-requires
 receive-again-requires c κs = search needs
 
 enum-known-request-2 : tie.Need-enum-known-request-2
 enum-known-request-2 c = search needs
 
-cast-dequeue-again : tie.Need-cast-dequeue-again
-cast-dequeue-again c = let s = c .before .before .before .before .before .before .before .before .before .before in omega (arith, few (s .pre .0), s .pre .4)
-
 dequeue-again-requires : tie.Need-dequeue-again-requires
 dequeue-again-requires c κs =
     let s = c .before .before .before .before .before .before .before .before .before .before in
     let v = asked (c .before .before .before .request2 .given .1) (c .before .before .before .before .before .load .ensures .1) in
-    (s .pre .0, s .pre .1, s .pre .2, s .pre .3, s .pre .4, v .0, v .1)
+    (s .pre .0, s .pre .1, s .pre .2, s .pre .3, v)
 
 enum-known-request-3 : tie.Need-enum-known-request-3
 enum-known-request-3 c = search needs
-
-cast-enqueue-again : tie.Need-cast-enqueue-again
-cast-enqueue-again c = let s = c .before .before .before .before .before .before .before .before .before in omega (arith, few (s .pre .0), s .pre .4)
 
 enqueue-again-requires : tie.Need-enqueue-again-requires
 enqueue-again-requires c κs =
     let s = c .before .before .before .before .before .before .before .before .before in
     let v = asked-put (c .before .before .request3 .given .1) (c .before .before .before .before .load .ensures .1) in
-    (s .pre .0, s .pre .1, s .pre .3, s .pre .4, v .0, v .1)
+    (s .pre .0, s .pre .1, s .pre .3, v)
 
 same-length : tie.Need-same-length
 same-length c = search needs
@@ -58,7 +47,7 @@ returns c =
     let s = c .before .before .before .before .before .before .before in
     let a = s .args in
     λ L w h e o. let g = configured (now (a .config)) in
-    turn-none g (a .shape) L (now (a .tables)) (now (a .slots)) w h (a .running) _ _ (s .pre .3) (s .pre .4) (ap (λ k. k .request) (c .before .before .load .ensures .0)) (c .enum-told .given .1) e refl o
+    turn-none g (a .shape) L (now (a .tables)) (now (a .slots)) w h (a .running) _ _ (s .pre .3) (ap (λ k. k .request) (c .before .before .load .ensures .0)) (c .enum-told .given .1) e refl o
 
 same-length-2 : tie.Need-same-length-2
 same-length-2 c = search needs
@@ -69,7 +58,7 @@ returns-2 c =
     let s = c .before .before .before .before .before .before .before .before .before .before .before .before in
     let a = s .args in
     λ L w h e o. let g = configured (now (a .config)) in
-    turn-open g (a .shape) L (now (a .tables)) (now (a .slots)) w h (a .running) _ _ (s .pre .3) (s .pre .4) (ap (λ k. k .request) (c .before .before .before .before .before .before .before .load .ensures .0)) (c .before .before .before .before .before .request .given .1) e (c .before .before .receive-again .ensures g L (now (a .slots)) w h)
+    turn-open g (a .shape) L (now (a .tables)) (now (a .slots)) w h (a .running) _ _ (s .pre .3) (ap (λ k. k .request) (c .before .before .before .before .before .before .before .load .ensures .0)) (c .before .before .before .before .before .request .given .1) e (c .before .before .receive-again .ensures g L (now (a .slots)) w h)
 
 same-length-3 : tie.Need-same-length-3
 same-length-3 c = search needs
@@ -83,7 +72,7 @@ returns-3 c =
     let s = c .before .before .before .before .before .before .before .before .before .before .before .before .before .before .before in
     let a = s .args in
     λ L w h e o. let g = configured (now (a .config)) in
-    turn-open g (a .shape) L (now (a .tables)) (now (a .slots)) w h (a .running) _ _ (s .pre .3) (s .pre .4) (ap (λ k. k .request) (c .before .before .before .before .before .before .before .before .before .before .load .ensures .0)) (c .before .before .before .before .before .before .before .before .request2 .given .1) e (c .before .before .before .before .dequeue-again .ensures L w h)
+    turn-open g (a .shape) L (now (a .tables)) (now (a .slots)) w h (a .running) _ _ (s .pre .3) (ap (λ k. k .request) (c .before .before .before .before .before .before .before .before .before .before .load .ensures .0)) (c .before .before .before .before .before .before .before .before .request2 .given .1) e (c .before .before .before .before .dequeue-again .ensures L w h)
 
 same-length-5 : tie.Need-same-length-5
 same-length-5 c = search needs
@@ -94,7 +83,7 @@ returns-4 c =
     let s = c .before .before .before .before .before .before .before .before .before .before .before .before in
     let a = s .args in
     λ L w h e o. let g = configured (now (a .config)) in
-    turn-open g (a .shape) L (now (a .tables)) (now (a .slots)) w h (a .running) _ _ (s .pre .3) (s .pre .4) (ap (λ k. k .request) (c .before .before .before .before .before .before .before .load .ensures .0)) (c .before .before .before .before .before .request3 .given .1) e (c .before .before .enqueue-again .ensures L (now (a .slots)) w h)
+    turn-open g (a .shape) L (now (a .tables)) (now (a .slots)) w h (a .running) _ _ (s .pre .3) (ap (λ k. k .request) (c .before .before .before .before .before .before .before .load .ensures .0)) (c .before .before .before .before .before .request3 .given .1) e (c .before .before .enqueue-again .ensures L (now (a .slots)) w h)
 
 pub reissue-spec : {M : Type 1} → statement M
 reissue-spec =
@@ -103,13 +92,10 @@ reissue-spec =
     load-requires
     enum-told
     enum-known-request
-    cast-receive-again
     receive-again-requires
     enum-known-request-2
-    cast-dequeue-again
     dequeue-again-requires
     enum-known-request-3
-    cast-enqueue-again
     enqueue-again-requires
     same-length
     returns

@@ -31,7 +31,7 @@ settle-open-requires c κs =
     let r = c .before .before .before .before .before .running in
     let o = c .before .before .before .is-open in
     let e = not-false _ (c .before .before .if1 .left) in
-    (s .pre .0, s .pre .1, s .pre .2, o .ensures .0 e, r .ensures .0, runs-so (s .args .shape) (now (s .args .tables)) _ _ _ (r .ensures .1) (o .ensures .1) e)
+    (s .pre .0, s .pre .1, s .pre .2, (o .ensures .0 e, r .ensures .0), runs-so (s .args .shape) (now (s .args .tables)) _ _ _ (r .ensures .1) (o .ensures .1) e)
 
 same-length-2 : tie.Need-same-length-2
 same-length-2 c = search needs

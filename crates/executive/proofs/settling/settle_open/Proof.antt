@@ -6,7 +6,7 @@ use mathlib.Core.Bool.{true}
 use mathlib.Core.Path.{_≡_, refl}
 use denote.Ref.{now}
 use lib.ListN.{length}
-use Rattle.tables.specs.Layout.{still-fits, few}
+use Rattle.tables.specs.Layout.{OneOf, still-fits, few}
 use Rattle.configuration.specs.Block.{configured}
 use Rattle.executive.specs.Kept.{Runs, Kept, runs-so, kept-start, kept-next, kept-stop, kept-out}
 use Rattle.executive.proofs.settling.settle_open.Statement.{statement}
@@ -14,7 +14,7 @@ use Rattle.executive.proofs.settling.settle_open.Tie as tie
 
 abbrev Inv-loop : tie.InvT-loop
 Inv-loop tables₀ slots₀ config shape first limit n₀ running₀ tables slots n running =
-    (n ≤ limit) × (length tables ≡ length tables₀) × (length slots ≡ length slots₀) × (1 ≤ running) × (running ≤ shape .tasks) × Runs shape tables running true × Kept (configured config) shape tables₀ slots₀ tables slots n
+    (n ≤ limit) × (length tables ≡ length tables₀) × (length slots ≡ length slots₀) × OneOf (shape .tasks) running × Runs shape tables running true × Kept (configured config) shape tables₀ slots₀ tables slots n
 
 abbrev μ-loop : tie.MeasureT-loop
 μ-loop tables₀ slots₀ config shape first limit n₀ running₀ tables slots n running = limit - n
@@ -26,13 +26,13 @@ loop-holds : tie.Need-loop-holds Inv-loop μ-loop
 loop-holds c =
     let s = c .before .before .before .before in
     let a = s .args in
-    (omega arith, refl, refl, s .pre .3, s .pre .4, s .pre .5, kept-start (configured (now (a .config))) (a .shape) (now (a .tables)) (now (a .slots)))
+    (omega arith, refl, refl, s .pre .3, s .pre .4, kept-start (configured (now (a .config))) (a .shape) (now (a .tables)) (now (a .slots)))
 
 reissue-requires : tie.Need-reissue-requires Inv-loop μ-loop
 reissue-requires c κs =
     let s = c .before .before .before .before .before .before .before .before in
     let i = c .before .before .before .loop .inv in
-    (still-fits (s .pre .0) (omega (arith, i .1)), s .pre .1, omega (arith, s .pre .2, i .2), i .3, i .4)
+    (still-fits (s .pre .0) (omega (arith, i .1)), s .pre .1, omega (arith, s .pre .2, i .2), i .3)
 
 add-n : tie.Need-add-n Inv-loop μ-loop
 add-n c = omega arith
@@ -53,7 +53,7 @@ returns : tie.Need-returns Inv-loop μ-loop
 returns c =
     let a = c .before .before .before .before .before .before .before .before .before .before .before .before .before .before .before .before .before .before .args in
     let l = c .before .before .before .before .before .before .before .before .before .before .before .before .before .loop in
-    let k = kept-next (configured (now (a .config))) (a .shape) (now (a .tables)) (now (a .slots)) (l .tables) (l .slots) (l .n) (l .inv .6) (l .running) (l .inv .5) _ _ (c .before .before .before .before .before .before .before .before .before .reissue .ensures) in
+    let k = kept-next (configured (now (a .config))) (a .shape) (now (a .tables)) (now (a .slots)) (l .tables) (l .slots) (l .n) (l .inv .5) (l .running) (l .inv .4) _ _ (c .before .before .before .before .before .before .before .before .before .reissue .ensures) in
     let r = c .before .before .before .running in
     kept-stop (configured (now (a .config))) (a .shape) (now (a .tables)) (now (a .slots)) _ _ _ k _
     (runs-so (a .shape) _ _ _ _ (r .ensures .1) (c .before .is-open .ensures .1) (not-true _ (c .if1 .taken))) (r .ensures .0) (omega arith)
@@ -70,10 +70,9 @@ loop-again c =
       omega arith,
       omega (arith, l .inv .1, c .before .before .before .before .before .before .before .before .before .reissue .kept),
       omega (arith, l .inv .2, c .before .before .before .before .before .before .before .before .before .reissue .kept),
-      o .ensures .0 (not-false _ (c .if1 .left)),
-      r .ensures .0,
+      (o .ensures .0 (not-false _ (c .if1 .left)), r .ensures .0),
       runs-so (a .shape) _ _ _ _ (r .ensures .1) (o .ensures .1) (not-false _ (c .if1 .left)),
-      kept-next (configured (now (a .config))) (a .shape) (now (a .tables)) (now (a .slots)) (l .tables) (l .slots) (l .n) (l .inv .6) (l .running) (l .inv .5) _ _ (c .before .before .before .before .before .before .before .before .before .reissue .ensures),
+      kept-next (configured (now (a .config))) (a .shape) (now (a .tables)) (now (a .slots)) (l .tables) (l .slots) (l .n) (l .inv .5) (l .running) (l .inv .4) _ _ (c .before .before .before .before .before .before .before .before .before .reissue .ensures),
     )
 
 same-length-3 : tie.Need-same-length-3 Inv-loop μ-loop
@@ -86,7 +85,7 @@ returns-2 : tie.Need-returns-2 Inv-loop μ-loop
 returns-2 c =
     let a = c .before .before .before .before .before .before .args in
     let l = c .before .loop in
-    kept-out (configured (now (a .config))) (a .shape) (now (a .tables)) (now (a .slots)) (l .tables) (l .slots) (l .n) (l .inv .6) (l .running) (l .inv .5) (l .inv .4) (omega arith) (omega arith)
+    kept-out (configured (now (a .config))) (a .shape) (now (a .tables)) (now (a .slots)) (l .tables) (l .slots) (l .n) (l .inv .5) (l .running) (l .inv .4) (l .inv .3 .1) (omega arith) (omega arith)
 
 pub settle-open-spec : {M : Type 1} → statement M
 settle-open-spec =

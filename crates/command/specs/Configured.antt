@@ -1,0 +1,32 @@
+-- What a configuration says, by its shape.
+use Prim.Native.Nat.{ℕ, _≤_}
+use mathlib.Core.Path.{_≡_}
+use mathlib.Core.List.{List}
+use native.Mathlib.Omega.{arith}
+use lib.ListN.{length}
+use Rattle.ledger.specs.Config.{Config}
+use Rattle.tables.specs.declared.shape.Shape.{Shape}
+use Rattle.tables.specs.Layout.{Fits, fitting}
+use Rattle.tables.specs.Shows.{Of}
+use Rattle.configuration.specs.Block.{configured}
+
+-- the value r is what f gives for every configuration of this shape
+abbrev pub Says : {A : Type 0} → Shape → (Config → A) → A → Type 0
+Says s f r = (c : Config) → Of c s → r ≡ f c
+
+-- what `ring_of` asks of the block's length
+abbrev pub Room : List ℕ → Type 0
+Room g = 198 ≤ length g
+
+-- the block g holds a configuration, whose bytes are there, and the shape is its. (No record, so that its many parts stay out of sight where one fact of it is wanted)
+pub data Configures (g : List ℕ) (s : Shape) : Type 0 where
+  configures : Room g → Of (configured g) s → Configures g s
+
+pub bytes : {g : List ℕ} {s : Shape} → Configures g s → Room g
+bytes (configures l o) = l
+
+pub of : {g : List ℕ} {s : Shape} → Configures g s → Of (configured g) s
+of (configures l o) = o
+
+pub fits : {g : List ℕ} {s : Shape} → Configures g s → Fits s (s .end)
+fits (configures l o) = fitting (o .laid) (omega arith)

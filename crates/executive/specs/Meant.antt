@@ -1,0 +1,46 @@
+-- What the meant fields of an accepted frame are, by the row of its code: the plain facts that the services require.
+use Prim.Native.Nat.{ℕ, _+_, _≤_}
+use mathlib.Core.Path.{_≡_}
+use mathlib.Core.Bool.{true}
+use mathlib.Core.List.{List}
+use Rattle.ledger.specs.Config.{Config}
+use Rattle.ledger.specs.Refusals.{FieldA, noA, aTask, otherTask, selfOrTask, anyOrTask, aQueue, FieldB, noB, ofSelf, ofTask, orNone, FieldX, noX, aMessage, aTockValue, aSwitch, fields, codeAt}
+use Rattle.ledger.specs.Theorems.Accepted.{GoodEntry}
+use Rattle.tables.specs.declared.shape.Shape.{Shape}
+use Rattle.tables.specs.Layout.{OneOf}
+
+abbrev pub InA : Shape → FieldA → ℕ → Type 0
+InA s noA a = Unit {0}
+InA s aTask a = OneOf (s .tasks) a
+InA s otherTask a = OneOf (s .tasks) a
+InA s selfOrTask a = OneOf (s .tasks) a
+InA s anyOrTask a = Unit {0}
+InA s aQueue a = OneOf (s .queues) a
+
+abbrev pub InB : Shape → FieldB → ℕ → Type 0
+InB s noB b = Unit {0}
+InB s ofSelf b = OneOf (s .semaphores) b
+InB s ofTask b = OneOf (s .semaphores) b
+InB s orNone b = Unit {0}
+
+abbrev pub InX : Shape → FieldX → ℕ → Type 0
+InX s noX x = Unit {0}
+InX s aMessage x = OneOf (s .messages) x
+InX s aTockValue x = Unit {0}
+InX s aSwitch x = Unit {0}
+
+abbrev pub MeansA : Shape → (code a : ℕ) → Type 0
+MeansA s k a = InA s (fields (codeAt k) .A) a
+
+abbrev pub MeansB : Shape → (code b : ℕ) → Type 0
+MeansB s k b = InB s (fields (codeAt k) .B) b
+
+abbrev pub MeansX : Shape → (code x : ℕ) → Type 0
+MeansX s k x = InX s (fields (codeAt k) .X) x
+
+abbrev pub MeansEntry : Config → (code q : ℕ) → List ℕ → Type 0
+MeansEntry c k q e = GoodEntry c (fields (codeAt k) .follows) q e
+
+-- a service is asked for by a task
+abbrev pub Asks : Shape → (code self : ℕ) → Type 0
+Asks s k self = fields (codeAt k) .service ≡ true → OneOf (s .tasks) self
