@@ -61,20 +61,24 @@ fn stories() -> Vec<(String, bool)> {
 fn the_words_of_every_story_are_as_stored() {
     let folder = Path::new(env!("CARGO_MANIFEST_DIR")).join("tests/words");
     let mut told = 0;
-    let mut compare = |arguments: &[&str], stored: &str| {
+    // a story whose configuration is refused ends with 1
+    let mut compare = |arguments: &[&str], stored: &str, refused: bool| {
         let output = view(arguments, b"");
         let due =
             fs::read_to_string(folder.join(stored)).unwrap_or_else(|_| panic!("view/tests/words/{stored} is missing"));
         assert_eq!(text(&output.stdout), due, "{stored}");
-        assert_eq!((output.status.code(), text(&output.stderr)), (Some(0), String::new()), "{stored}");
+        assert_eq!(output.status.code(), Some(refused.into()), "{stored}");
+        assert_eq!(output.stderr.is_empty(), !refused, "{stored}");
         told += 1;
     };
     for (story, named) in stories() {
         let session = format!("examples/{story}.session");
-        compare(&["words", &session], &format!("{story}.words"));
+        let answers = fs::read_to_string(repository().join(format!("examples/{story}.answers"))).expect("its answers");
+        let refused = answers.lines().next().is_some_and(|first| !first.starts_with("00"));
+        compare(&["words", &session], &format!("{story}.words"), refused);
         if named {
             let names = format!("examples/{story}.names");
-            compare(&["words", &session, "--names", &names], &format!("{story}-named.words"));
+            compare(&["words", &session, "--names", &names], &format!("{story}-named.words"), refused);
         }
     }
     assert!(told > 5 && told == fs::read_dir(&folder).unwrap().count(), "each stored file belongs to a story");
