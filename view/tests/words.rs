@@ -84,6 +84,36 @@ fn the_words_of_every_story_are_as_stored() {
     assert!(told > 5 && told == fs::read_dir(&folder).unwrap().count(), "each stored file belongs to a story");
 }
 
+/// The commands of README and of view/README.md, with the program in place of `view/run`, which builds and runs it.
+#[test]
+fn the_commands_run_as_printed() {
+    let folder = Path::new(env!("CARGO_TARGET_TMPDIR")).join("printed");
+    let _ = fs::remove_dir_all(&folder);
+    fs::create_dir_all(folder.join("examples")).expect("a folder");
+    let copy = |from: String, to: &str| fs::copy(repository().join(from), folder.join(to)).expect("copied");
+    for (story, named) in stories() {
+        copy(format!("examples/{story}.session"), &format!("examples/{story}.session"));
+        if named {
+            copy(format!("examples/{story}.names"), &format!("examples/{story}.names"));
+        }
+    }
+    copy("examples/station.session".to_string(), "a.session");
+    copy("examples/queue.session".to_string(), "b.session");
+    for page in ["README.md", "view/README.md"] {
+        let page = fs::read_to_string(repository().join(page)).expect("the page");
+        let commands: Vec<&str> = page.lines().filter_map(|line| line.strip_prefix("    view/run ")).collect();
+        assert!(commands.len() >= 2, "two commands");
+        for command in commands {
+            let words: Vec<&str> = command.split_whitespace().take_while(|word| *word != "#").collect();
+            let output =
+                Command::new(env!("CARGO_BIN_EXE_view")).args(&words).current_dir(&folder).output().expect("run");
+            assert_eq!(output.status.code(), Some(0), "{command}: {}", text(&output.stderr));
+            let page = words.iter().skip_while(|word| **word != "-o").nth(1);
+            assert!(page.map_or(!output.stdout.is_empty(), |page| folder.join(page).exists()), "{command}");
+        }
+    }
+}
+
 #[test]
 fn a_send_that_ends_a_wait() {
     let said = words(b"02010000040100640000\n0602000000\n0401020001\n");
