@@ -94,8 +94,8 @@ pub fn configuration_rule(text: &[u8], number: Number) -> String {
         .or_else(|| told(queues <= 32, format!("Q, the number of queues, is {queues}, not 0 to 32")))
         .or_else(|| told(timers <= 64, format!("R, the number of timers, is {timers}, not 0 to 64")))
         .or_else(|| told(messages <= 64, format!("G, the number of messages, is {messages}, not 0 to 64")))
-        .or_else(|| told(ticks > 0, "K, the ticks of a tock, is 0".to_string()))
-        .or_else(|| told(high > 0 || low > 0, "a tock has 0 milliseconds".to_string()))
+        .or_else(|| told(ticks > 0, "K, the ticks of a tock, is 0, not 1 to 255".to_string()))
+        .or_else(|| told(high > 0 || low > 0, "a tock has 0 milliseconds, not 1 to 65,535".to_string()))
         .or_else(|| told(sum <= 255, format!("S + T + 2Q is {sum}, not at most 255")))
         .unwrap_or_else(|| states_and_sizes(states, tasks.into()))
 }

@@ -61,25 +61,57 @@ fn stories() -> Vec<(String, bool)> {
 fn the_words_of_every_story_are_as_stored() {
     let folder = Path::new(env!("CARGO_MANIFEST_DIR")).join("tests/words");
     let mut told = 0;
-    let mut compare = |arguments: &[&str], stored: &str| {
+    // a story whose configuration is refused ends with 1
+    let mut compare = |arguments: &[&str], stored: &str, refused: bool| {
         let output = view(arguments, b"");
         let due =
             fs::read_to_string(folder.join(stored)).unwrap_or_else(|_| panic!("view/tests/words/{stored} is missing"));
         assert_eq!(text(&output.stdout), due, "{stored}");
-        let refused = due.starts_with("0  configuration: refused ");
-        assert_eq!(output.status.code(), Some(i32::from(refused)), "{stored}");
-        assert_eq!(output.stderr.is_empty(), !refused, "{stored}: {}", text(&output.stderr));
+        assert_eq!(output.status.code(), Some(refused.into()), "{stored}");
+        assert_eq!(output.stderr.is_empty(), !refused, "{stored}");
         told += 1;
     };
     for (story, named) in stories() {
         let session = format!("examples/{story}.session");
-        compare(&["words", &session], &format!("{story}.words"));
+        let answers = fs::read_to_string(repository().join(format!("examples/{story}.answers"))).expect("its answers");
+        let refused = answers.lines().next().is_some_and(|first| !first.starts_with("00"));
+        compare(&["words", &session], &format!("{story}.words"), refused);
         if named {
             let names = format!("examples/{story}.names");
-            compare(&["words", &session, "--names", &names], &format!("{story}-named.words"));
+            compare(&["words", &session, "--names", &names], &format!("{story}-named.words"), refused);
         }
     }
     assert!(told > 5 && told == fs::read_dir(&folder).unwrap().count(), "each stored file belongs to a story");
+}
+
+/// The commands of README and of view/README.md, with the program in place of `view/run`, which builds and runs it.
+#[test]
+fn the_commands_run_as_printed() {
+    let folder = Path::new(env!("CARGO_TARGET_TMPDIR")).join("printed");
+    let _ = fs::remove_dir_all(&folder);
+    fs::create_dir_all(folder.join("examples")).expect("a folder");
+    let copy = |from: String, to: &str| fs::copy(repository().join(from), folder.join(to)).expect("copied");
+    for (story, named) in stories() {
+        copy(format!("examples/{story}.session"), &format!("examples/{story}.session"));
+        if named {
+            copy(format!("examples/{story}.names"), &format!("examples/{story}.names"));
+        }
+    }
+    copy("examples/station.session".to_string(), "a.session");
+    copy("examples/queue.session".to_string(), "b.session");
+    for page in ["README.md", "view/README.md"] {
+        let page = fs::read_to_string(repository().join(page)).expect("the page");
+        let commands: Vec<&str> = page.lines().filter_map(|line| line.strip_prefix("    view/run ")).collect();
+        assert!(commands.len() >= 2, "two commands");
+        for command in commands {
+            let words: Vec<&str> = command.split_whitespace().take_while(|word| *word != "#").collect();
+            let output =
+                Command::new(env!("CARGO_BIN_EXE_view")).args(&words).current_dir(&folder).output().expect("run");
+            assert_eq!(output.status.code(), Some(0), "{command}: {}", text(&output.stderr));
+            let page = words.iter().skip_while(|word| **word != "-o").nth(1);
+            assert!(page.map_or(!output.stdout.is_empty(), |page| folder.join(page).exists()), "{command}");
+        }
+    }
 }
 
 #[test]
