@@ -101,7 +101,7 @@ fn the_commands_run_as_printed() {
     copy("examples/queue.session".to_string(), "b.session");
     for page in ["README.md", "view/README.md"] {
         let page = fs::read_to_string(repository().join(page)).expect("the page");
-        let commands: Vec<&str> = page.lines().filter_map(|line| line.strip_prefix("    view/run ")).collect();
+        let commands: Vec<&str> = page.lines().filter_map(|line| line.trim_start().strip_prefix("view/run ")).collect();
         assert!(commands.len() >= 2, "two commands");
         for command in commands {
             let words: Vec<&str> = command.split_whitespace().take_while(|word| *word != "#").collect();
