@@ -4,7 +4,7 @@ use mathlib.Core.Bool.{Bool, true, false, _&&_}
 use mathlib.Core.List.{List, [], _∷_, map}
 use Prim.Native.Nat.{ℕ, zero, suc, _+_, _-_, _*_, _<_}
 use native.Mathlib.Omega.{arith}
-use lib.Dec.{leb}
+use lib.Dec.{leb, eqb}
 use lib.ListN.{length, take, drop}
 use lib.Seq.{getD-take, take-nil, take-take, take-all}
 use Rattle.rows.specs.Splice.{cut}
@@ -34,6 +34,10 @@ goodQueues m c = goodShapes m (c .shapes)
 
 unfoldable pub rule : Limits → Config → Bool
 rule m c = goodHead m c && goodQueues m c
+
+-- of the frame that the block holds: it is as long as it says
+unfoldable pub frameRule : Limits → List ℕ → Bool
+frameRule m f = eqb (length f) (8 + byte 0 f + 2 * byte 2 f) && rule m (configIn f)
 
 pub and-no : (a : Bool) → (a && false) ≡ false
 and-no true = refl

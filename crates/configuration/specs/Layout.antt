@@ -1,13 +1,13 @@
 -- The shape of the tables that a configuration asks for.
 use mathlib.Core.Path.{_≡_, refl}
 use mathlib.Core.Bool.{true, false}
-use mathlib.Core.List.{map}
+use mathlib.Core.List.{List, map}
 use Prim.Native.Nat.{ℕ, _+_, _-_, _*_, _≤_}
 use native.Mathlib.Omega.{arith}
 use lib.ListN.{length}
 use borrow.Author.Tests.{leb-true}
 use Rattle.ledger.specs.Lists.{sum, all}
-use Rattle.ledger.specs.Config.{Config, Limits, goodHead}
+use Rattle.ledger.specs.Config.{Config, Limits, configIn, goodHead}
 use Rattle.ledger.specs.Services.{shape}
 use Rattle.ledger.specs.Theorems.Checks.{and-left, and-right, at-all}
 use Rattle.tables.specs.declared.shape.Shape.{Shape}
@@ -15,7 +15,7 @@ use Rattle.tables.specs.Layout.{recordsAt, Laid}
 use Rattle.tables.specs.Shows.{bytesOf, Of}
 use Rattle.configuration.specs.declared.Lent.{Lent}
 use Rattle.configuration.specs.declared.Lent.the-variants.{Bad, Good}
-use Rattle.configuration.specs.Block.{shaped, product, goodShapes, goodQueues, rule}
+use Rattle.configuration.specs.Block.{shaped, product, goodShapes, goodQueues, rule, frameRule}
 use Rattle.configuration.specs.Limits.{Made}
 use Rattle.configuration.specs.Head.{Head, head-says}
 use Rattle.configuration.specs.Room.{Sized, sized}
@@ -64,10 +64,10 @@ laid-out m made t s q r g k ms n h b =
 unfoldable pub shapeOf : Config → Shape
 shapeOf c = laidOut (c .T) (c .S) (c .Q) (c .R) (c .G) (c .K) (sum (map product (c .shapes)))
 
--- what a block is
-abbrev pub Lends : Limits → Config → Lent → Type 0
-Lends m c Bad = rule m c ≡ false
-Lends m c (Good s) = (rule m c ≡ true) × Of c s
+-- what a frame in the block is
+abbrev pub Lends : Limits → List ℕ → Lent → Type 0
+Lends m f Bad = frameRule m f ≡ false
+Lends m f (Good s) = (frameRule m f ≡ true) × Of (configIn f) s
 
 -- ---- the shape of a configuration that keeps the rule
 module _ (m : Limits) (made : Made m) (c : Config) (h : rule m c ≡ true) where

@@ -25,10 +25,8 @@ use Rattle.configuration.specs.Written.{splice-in, lent-part}
 abbrev pub timersBytes : Shape → ℕ
 timersBytes s = 1 + 10 * s .timers
 
--- the block holds the frame's configuration and keeps the rule; the memory shows the fresh ledger, in the shape that the block has
-pub record Started (f g d z w : List ℕ) : Type 0 where
-  pub holds : configured g ≡ configIn f
-  pub keeps : rule controller (configured g) ≡ true
+-- the memory shows the fresh ledger, in the shape that the frame asks for
+pub record Started (f d z w : List ℕ) : Type 0 where
   pub shows : (s : Shape) → Of (configIn f) s → Shows (configIn f) s (fresh (configIn f)) d z w
 
 module _ (f : List ℕ) (zero : configRefusal f ≡ 0) where
@@ -83,13 +81,10 @@ module _ (f : List ℕ) (zero : configRefusal f ≡ 0) where
             ∙ splice-in z ys 0 (omega (arith, length-ys, lz)) i (omega (arith, length-ys, o .tasks)) ∙ ap (λ (x : List ℕ). getD x i 0) ey
             ∙ getD-replicate (length (cut z 0 (16 * s .tasks))) i 0 0 (omega (arith, o .tasks))
 
-        pub started : (g₀ g : List ℕ) → g ≡ splice g₀ 0 f → Started f g d z' (set w 0 0)
-        started g₀ g eg =
+        pub started : Started f d z' (set w 0 0)
+        started =
             let c : Config = configIn f in
-            let h : configured g ≡ c = configured-in f ok g (drop (0 + length f) g₀) eg in
             record {
-              holds = h;
-              keeps = ap (rule controller) h ∙ ok .rule;
               shows = λ u p.
                   let e : u ≡ s = of-one c u p ∙ sym (of-one c s o) in
                   fresh-shows c u p d z' (set w 0 0) (accepted-states f ok) (ok .states) (fresh-here u p)

@@ -1,4 +1,4 @@
-// What the lent configuration block says. It holds the accepted frame at its front; the bytes behind are free.
+// What the frame in the lent configuration block says.
 use crate::Lent;
 use crate::frame::good_head;
 use crate::frame::room;
@@ -14,7 +14,7 @@ ghost use lib.ListN.{length};
 ghost use Rattle.ledger.specs.Config.{configIn, configRefusal};
 ghost use Rattle.tables.specs.Shows.{Of};
 ghost use Rattle.queues.specs.Rings.{ringOf};
-ghost use Rattle.configuration.specs.Limits.{limitsOf, longest, Made};
+ghost use Rattle.configuration.specs.Limits.{limitsOf, Made};
 ghost use Rattle.configuration.specs.Block.{configured};
 ghost use Rattle.configuration.specs.Layout.{frameBytes, laidOut, Lends};
 
@@ -71,28 +71,34 @@ pub fn shape_of(frame: &[u8]) -> Shape
     )
 }
 
-// The structure rule of number 11, and the shape of a block that keeps it.
-pub fn lent(limits: Limits, config: &[u8]) -> Lent
-    requires { ⌜ Made (limitsOf limits) × (longest (limitsOf limits) ≤ length (now config)) ⌝ }
-    ensures { λ r. ⌜ Lends (limitsOf limits) (configured (now (config .entry))) r ⌝ }
+// The structure rule of number 11, and the shape of a frame that keeps it. Its initial states are not read again.
+pub fn lent(limits: Limits, frame: &[u8]) -> Lent
+    requires { ⌜ Made (limitsOf limits) ⌝ }
+    ensures { λ r. ⌜ Lends (limitsOf limits) (now (frame .entry)) r ⌝ }
 {
-    if !good_head(limits, config) {
+    if frame.len() < 8 {
         return Lent::Bad;
     }
-    let queues = wide(config[2]);
-    let at = 8 + wide(config[0]);
+    if !good_head(limits, frame) {
+        return Lent::Bad;
+    }
+    let queues = wide(frame[2]);
+    let at = 8 + wide(frame[0]);
     let end = at + 2 * queues;
-    let sum = room(&config[at..end], queues);
+    if frame.len() != end {
+        return Lent::Bad;
+    }
+    let sum = room(&frame[at..end], queues);
     if sum > limits.bytes {
         return Lent::Bad;
     }
     let shape = lay(
-        config[0],
-        config[1],
-        config[2],
-        config[3],
-        config[4],
-        config[5],
+        frame[0],
+        frame[1],
+        frame[2],
+        frame[3],
+        frame[4],
+        frame[5],
         sum as usize,
     );
     Lent::Good(shape)

@@ -83,19 +83,17 @@ fn fresh_tables(states: &[u8], ticks: u8, tables: &mut [u8], shape: Shape)
     tables[TICKS_AT] = ticks;
 }
 
-// Writes an accepted frame into the front of the block, and the fresh tables. The bytes that they do not need stay.
+// The fresh tables, slots and timers of an accepted frame.
 pub fn start(
     frame: &[u8],
-    config: &mut [u8],
     tables: &mut [u8],
     slots: &mut [u8],
     timers: &mut [u8],
     shape: Shape,
 )
-    requires { ⌜ (configRefusal (now frame) ≡ 0) × Of (configIn (now frame)) shape × (length (now frame) ≤ length (now config)) × (shape .end ≤ length (now tables)) × (16 * shape .tasks ≤ length (now slots)) × (timersBytes shape ≤ length (now timers)) ⌝ }
-    ensures { λ _. ⌜ Started (now (frame .entry)) (now (config .exit)) (now (tables .exit)) (now (slots .exit)) (now (timers .exit)) ⌝ }
+    requires { ⌜ (configRefusal (now frame) ≡ 0) × Of (configIn (now frame)) shape × (shape .end ≤ length (now tables)) × (16 * shape .tasks ≤ length (now slots)) × (timersBytes shape ≤ length (now timers)) ⌝ }
+    ensures { λ _. ⌜ Started (now (frame .entry)) (now (tables .exit)) (now (slots .exit)) (now (timers .exit)) ⌝ }
 {
-    rows::copy_in(frame, config, 0);
     let at = 8 + shape.tasks;
     fresh_tables(&frame[8..at], frame[5], tables, shape);
     let end = 16 * shape.tasks;

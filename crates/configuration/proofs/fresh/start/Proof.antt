@@ -7,11 +7,8 @@ use borrow.Author.Needs.{needs}
 use Rattle.configuration.proofs.fresh.start.Statement.{statement}
 use Rattle.configuration.proofs.fresh.start.Tie as tie
 
-copy-in-requires : tie.Need-copy-in-requires
-copy-in-requires c κs = omega (arith, c .before .before .before .before .before .before .pre .2)
-
 add-at : tie.Need-add-at
-add-at c = omega (arith, tasks-in (now (c .before .before .before .before .before .before .before .before .before .before .args .frame)) (c .before .before .before .before .before .before .before .before .before .before .pre .0) (c .before .before .before .before .before .before .before .before .before .before .args .shape) (c .before .before .before .before .before .before .before .before .before .before .pre .1))
+add-at c = let s = c .before .before .before .before .before in omega (arith, tasks-in (now (s .args .frame)) (s .pre .0) (s .args .shape) (s .pre .1))
 
 sub-fresh-tables : tie.Need-sub-fresh-tables
 sub-fresh-tables c = search needs
@@ -20,20 +17,20 @@ part-fresh-tables-start : tie.Need-part-fresh-tables-start
 part-fresh-tables-start c = search needs
 
 part-fresh-tables-end : tie.Need-part-fresh-tables-end
-part-fresh-tables-end c = omega (arith, tasks-in (now (c .before .before .before .before .before .before .before .before .before .before .args .frame)) (c .before .before .before .before .before .before .before .before .before .before .pre .0) (c .before .before .before .before .before .before .before .before .before .before .args .shape) (c .before .before .before .before .before .before .before .before .before .before .pre .1))
+part-fresh-tables-end c = let s = c .before .before .before .before .before in omega (arith, tasks-in (now (s .args .frame)) (s .pre .0) (s .args .shape) (s .pre .1))
 
 shared-slice-read-fresh-tables : tie.Need-shared-slice-read-fresh-tables
-shared-slice-read-fresh-tables c = omega (arith, frame-length (now (c .before .before .before .before .before .before .before .before .before .before .before .before .args .frame)) (c .before .before .before .before .before .before .before .before .before .before .before .before .pre .0))
+shared-slice-read-fresh-tables c = let s = c .before .before .before .before .before .before .before in omega (arith, frame-length (now (s .args .frame)) (s .pre .0))
 
 fresh-tables-requires : tie.Need-fresh-tables-requires
 fresh-tables-requires c κs =
-    let s = c .before .before .before .before .before .before .before .before .before .before .before .before .before in
+    let s = c .before .before .before .before .before .before .before .before in
     let a = s .args in
     let t = tasks-in (now (a .frame)) (s .pre .0) (a .shape) (s .pre .1) in
-    (start-fits (now (a .frame)) (s .pre .0) (a .shape) (s .pre .1) _ (s .pre .3), simp (length-take, length-drop) (omega arith))
+    (start-fits (now (a .frame)) (s .pre .0) (a .shape) (s .pre .1) _ (s .pre .2), simp (length-take, length-drop) (omega arith))
 
 mul-end : tie.Need-mul-end
-mul-end c = omega (arith, tasks-in (now (c .before .before .before .before .before .before .before .before .before .before .before .before .before .before .before .before .before .args .frame)) (c .before .before .before .before .before .before .before .before .before .before .before .before .before .before .before .before .before .pre .0) (c .before .before .before .before .before .before .before .before .before .before .before .before .before .before .before .before .before .args .shape) (c .before .before .before .before .before .before .before .before .before .before .before .before .before .before .before .before .before .pre .1))
+mul-end c = let s = c .before .before .before .before .before .before .before .before .before .before .before .before in omega (arith, tasks-in (now (s .args .frame)) (s .pre .0) (s .args .shape) (s .pre .1))
 
 sub-fill : tie.Need-sub-fill
 sub-fill c = search needs
@@ -42,7 +39,7 @@ part-fill-start : tie.Need-part-fill-start
 part-fill-start c = search needs
 
 part-fill-end : tie.Need-part-fill-end
-part-fill-end c = omega (arith, c .before .before .before .before .before .before .before .before .before .before .before .before .before .before .before .before .before .pre .4, tasks-in (now (c .before .before .before .before .before .before .before .before .before .before .before .before .before .before .before .before .before .args .frame)) (c .before .before .before .before .before .before .before .before .before .before .before .before .before .before .before .before .before .pre .0) (c .before .before .before .before .before .before .before .before .before .before .before .before .before .before .before .before .before .args .shape) (c .before .before .before .before .before .before .before .before .before .before .before .before .before .before .before .before .before .pre .1))
+part-fill-end c = let s = c .before .before .before .before .before .before .before .before .before .before .before .before in omega (arith, s .pre .3, tasks-in (now (s .args .frame)) (s .pre .0) (s .args .shape) (s .pre .1))
 
 fill-requires : tie.Need-fill-requires
 fill-requires c κs = search needs
@@ -59,20 +56,16 @@ same-length-2 c = search needs
 same-length-3 : tie.Need-same-length-3
 same-length-3 c = search needs
 
-same-length-4 : tie.Need-same-length-4
-same-length-4 c = search needs
-
 returns : tie.Need-returns
 returns c =
-    let s = c .before .before .before .before .before .before .before .before .before .before .before .before .before .before .before .before .before .before .before .before .before in
+    let s = c .before .before .before .before .before .before .before .before .before .before .before .before .before .before .before .before in
     let a = s .args in
-    started (now (a .frame)) (s .pre .0) (a .shape) (s .pre .1) _ (c .before .before .before .before .before .before .before .fresh-tables .ensures) (now (a .slots)) _ (now (a .timers)) (c .before .before .fill .ensures) (omega (arith, s .pre .3, c .before .before .before .before .before .before .before .fresh-tables .kept)) (s .pre .4) (s .pre .5) (now (a .config)) _ (c .before .before .before .before .before .before .before .before .before .before .before .before .before .before .copy-in .ensures)
+    started (now (a .frame)) (s .pre .0) (a .shape) (s .pre .1) _ (c .before .before .before .before .before .before .before .fresh-tables .ensures) (now (a .slots)) _ (now (a .timers)) (c .before .before .fill .ensures) (omega (arith, s .pre .2, c .before .before .before .before .before .before .before .fresh-tables .kept)) (s .pre .3) (s .pre .4)
 
 pub start-spec : {M : Type 1} → statement M
 start-spec =
     tie.close
     (tie.spec
-    copy-in-requires
     add-at
     sub-fresh-tables
     part-fresh-tables-start
@@ -88,5 +81,4 @@ start-spec =
     same-length
     same-length-2
     same-length-3
-    same-length-4
     returns)
