@@ -4,7 +4,6 @@
 use tables::shape::COUNT_AT;
 use tables::shape::Shape;
 ghost use mathlib.Core.Path.{_≡_};
-ghost use mathlib.Core.Bool.{true, false};
 ghost use mathlib.Core.List.{[]};
 ghost use Prim.Native.Nat.{_≤_};
 ghost use lib.ListN.{length};
@@ -35,11 +34,10 @@ fn count(x: u8, most: usize) -> usize
     most
 }
 
-// Whether the message of a number lies in a mailbox. One of those that there are, that lies in none, has room where the memory is sound.
+// Whether the message of a number lies in a mailbox.
 pub fn holds(tables: &[u8], shape: Shape, number: u8) -> bool
     requires { ⌜ Fits shape (length (now tables)) ⌝ }
-    ensures tells { λ r. ⌜ Tells shape (now (tables .entry)) (λ c L. inAMailbox L number) r ⌝ }
-    ensures room { λ r. ⌜ (r ≡ false → OneOf (shape .messages) number → soundIn shape (now (tables .entry)) ≡ true → Roomy shape (now (tables .entry))) ⌝ }
+    ensures { λ r. ⌜ Tells shape (now (tables .entry)) (λ c L. inAMailbox L number) r ⌝ }
 {
     let n = count(tables[COUNT_AT], shape.messages);
     let at = shape.messageat;

@@ -1,12 +1,7 @@
--- The records that are searched are those that the count says, which the ledger's mailboxes hold; where none is free, all messages lie.
-use Prim.Native.Nat.{ℕ}
-use mathlib.Core.Path.{sym, ap, _∙_}
-use mathlib.Core.List.{List}
+-- The records that are searched are those that the count says, which the ledger's mailboxes hold.
 use native.Mathlib.Omega.{arith}
 use denote.Ref.{now}
-use Rattle.messages.specs.Pending.{numbersIn, occurs}
-use Rattle.mailboxes.specs.Room.{room-left}
-use Rattle.mailboxes.specs.Mail.{lies, bytes-are, bytes-length}
+use Rattle.mailboxes.specs.Mail.{lies, bytes-length}
 use Rattle.mailboxes.specs.Operations.{holds-told}
 use borrow.Author.Needs.{needs}
 use Rattle.mailboxes.proofs.holds.Statement.{statement}
@@ -34,10 +29,7 @@ returns : tie.Need-returns
 returns c =
     let a = c .before .before .before .before .before .args in
     let n = c .before .before .count in
-    let m = c .holds .ensures in (
-      (λ g L z w h. holds-told g (a .shape) L (now (a .tables)) z w h (n .result) (n .ensures .0) (a .number) (c .holds .result) m),
-      (λ none one sound. room-left (a .shape) (now (a .tables)) (n .result) (n .ensures .0) (n .ensures .1) (a .number) one (ap (λ (l : List ℕ). occurs (a .number) (numbersIn (n .result) l)) (bytes-are (a .shape) (now (a .tables))) ∙ sym m ∙ none) sound),
-    )
+    λ g L z w h. holds-told g (a .shape) L (now (a .tables)) z w h (n .result) (n .ensures .0) (a .number) (c .holds .result) (c .holds .ensures)
 
 pub holds-spec : {M : Type 1} → statement M
 holds-spec =
