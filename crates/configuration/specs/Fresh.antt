@@ -10,9 +10,8 @@ use lib.Seq.{ext-getD}
 use borrow.Author.Tests.{ne-eqb, le-leb, leb-true}
 use Rattle.rows.specs.Rows.{rowAt, getD-row, length-row}
 use Rattle.rows.specs.Tab.{tab, tab-ext, tab-of, map-tab}
-use Rattle.messages.specs.Pending.{pendingIn, mailboxesOf, completeIn}
+use Rattle.messages.specs.Pending.{pendingIn, mailboxesOf}
 use Rattle.messages.specs.Mailboxes.{mailboxes-none}
-use Rattle.messages.specs.Complete.{complete-none}
 use Rattle.timers.specs.Timers.{timersIn}
 use Rattle.ledger.specs.Lists.{all}
 use Rattle.ledger.specs.Config.{Config}
@@ -181,7 +180,6 @@ module _ (c : Config) (s : Shape) (o : Of c s) (d z w : List ℕ)
         queues = queues-fresh;
         taken = taken-fresh;
         timers = timers-fresh;
-        messages = ap (completeIn (c .T) (c .G)) pending-fresh ∙ complete-none (c .T) (c .G);
       }
 
   pub fresh-shows : s .end ≤ length d → 1 + 10 * c .R ≤ length w → Shows c s (fresh c) d z w

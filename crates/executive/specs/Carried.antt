@@ -23,15 +23,16 @@ use Rattle.tables.specs.Shows.{Of, Shows, moved}
 use Rattle.queues.specs.declared.Ring.{Ring}
 use Rattle.queues.specs.Rings.{ringOf, RingFits, width-is}
 use Rattle.command.specs.Table.{value-word, behind-drop, semaphore-in}
-use Rattle.executive.specs.Meant.{InA, InB, InX, MeansA, MeansB, MeansX, MeansEntry, Asks}
+use Rattle.executive.specs.Meant.{InA, InB, InX, MeansA, MeansB, MeansX, MeansEntry, Asks, HasRoom}
 
--- the meant fields, by the row of the code
-pub record Meant (c : Config) (s : Shape) (code self a b : ℕ) (f : List ℕ) : Type 0 where
+-- the meant fields, by the row of the code, and the room in the tables d
+pub record Meant (c : Config) (s : Shape) (code self a b : ℕ) (f d : List ℕ) : Type 0 where
   pub asks : Asks s code self
   pub task : MeansA s code a
   pub semaphore : MeansB s code b
   pub value : MeansX s code (256 * byte 3 f + byte 4 f)
   pub entry : MeansEntry c code a (drop 5 f)
+  pub room : HasRoom s code d
 
 -- the code's effect, where the ledger has room for it
 abbrev pub Effects : Config → Shape → (code self a b : ℕ) (f d z w d' z' w' : List ℕ) → Type 0
@@ -39,10 +40,11 @@ Effects c s code self a b f d z w d' z' w' =
     (L : Ledger) → GoodX c L (fields (codeAt code) .X) a b (256 * byte 3 f + byte 4 f) → Shows c s L d z w
     → Shows c s (effect (codeAt code) c self a b (256 * byte 3 f + byte 4 f) (drop 5 f) L) d' z' w'
 
--- what the frame itself says has been passed, while task `self` runs
-pub record Passed (c : Config) (s : Shape) (self : ℕ) (f : List ℕ) : Type 0 where
+-- what the frame itself says has been passed, while task `self` runs, and the tables d have room for what it sends
+pub record Passed (c : Config) (s : Shape) (self : ℕ) (f d : List ℕ) : Type 0 where
   pub low : self ≤ s .tasks
   pub input : first (fromInput c self f) ≡ 0
+  pub room : HasRoom s (byte 0 f) d
 
 -- the accepted frame's effect
 abbrev pub Carries : Config → Shape → (self : ℕ) (f d z w d' z' w' : List ℕ) → Type 0
@@ -73,19 +75,21 @@ module _ {c : Config} {s : Shape} (o : Of c s) where
   in-x aTockValue x g = tt
   in-x aSwitch x g = tt
 
-  pub meant-of : (self : ℕ) (f : List ℕ) → Good c (call c self f) → (code a b : ℕ) → byte 0 f ≡ code → a ≡ call c self f .a → b ≡ call c self f .b → Meant c s code self a b f
+  pub meant-of : (self : ℕ) (f d : List ℕ) → Good c (call c self f) → HasRoom s (byte 0 f) d → (code a b : ℕ) → byte 0 f ≡ code → a ≡ call c self f .a → b ≡ call c self f .b
+      → Meant c s code self a b f d
   unfolding call
-  meant-of self f g code a b e ea eb =
+  meant-of self f d g free code a b e ea eb =
       let k = call c self f in
       let u = fields (codeAt (byte 0 f)) in
       let x : InX s (u .X) (256 * byte 3 f + byte 4 f) = subst (InX s (u .X)) (value-word (u .follows) f) (in-x (u .X) (k .x) (g .X)) in
       let y : GoodEntry c (u .follows) a (drop 5 f) = subst (λ (t : ℕ). GoodEntry c (u .follows) t (drop 5 f)) (sym ea) (subst (GoodEntry c (u .follows) (k .a)) (behind-drop (u .follows) f) (g .entry)) in
-      subst (λ (n : ℕ). Meant c s n self a b f) e (record {
+      subst (λ (n : ℕ). Meant c s n self a b f d) e (record {
         asks = λ v. one-task self (g .self v);
         task = subst (InA s (u .A)) (sym ea) (in-a (u .A) (k .a) (g .A));
         semaphore = subst (InB s (u .B)) (sym eb) (in-b (u .B) (k .b) (g .B));
         value = x;
         entry = y;
+        room = free;
       })
 
 -- ---- a plain outcome leaves the messages and the timers
@@ -133,10 +137,6 @@ exit-is (suc b) l = rw (ne-eqb (suc b) 0 (λ e. omega arith))
 -- a message's number is the low byte of X
 pub low-is : {s : Shape} {n : ℕ} → Fits s n → (high low : ℕ) → OneOf (s .messages) (256 * high + low) → low ≡ 256 * high + low
 low-is (fitting l r) high low (lo, hi) = omega arith
-
--- what is done with the low byte is done with X
-pub sent-low : {c : Config} {s : Shape} {d z w : List ℕ} {low x : ℕ} → low ≡ x → (P : ℕ → Type 0) (f : ℕ → Ledger) → P x → (P low → Shows c s (f low) d z w) → Shows c s (f x) d z w
-sent-low {c} {s} {d} {z} {w} e P f p k = subst (λ (n : ℕ). Shows c s (f n) d z w) e (k (subst P (sym e) p))
 
 -- ---- the part of the frame that starts at its sixth byte
 pub frame-long : (c : Config) (s : Shape) (q : ℕ) (r : Ring) (f : List ℕ) → 1 ≤ q → r ≡ ringOf c s q → RingFits s r → length (drop 5 f) ≡ shape c q .width → 5 ≤ length f

@@ -23,10 +23,6 @@ DoesOf c s d d' f = (L : Ledger) (z w : List ℕ) → Shows c s L d z w → Show
 abbrev pub DoesWithSlotsOf : Config → Shape → (d z d' z' : List ℕ) → (Config → Ledger → Ledger) → Type 0
 DoesWithSlotsOf c s d z d' z' f = (L : Ledger) (w : List ℕ) → Shows c s L d z w → Shows c s (f c L) d' z' w
 
--- all three blocks
-abbrev pub DoesAllOf : Config → Shape → (d z w d' z' w' : List ℕ) → (Ledger → Type 0) → (Config → Ledger → Ledger) → Type 0
-DoesAllOf c s d z w d' z' w' P f = (L : Ledger) → P L → Shows c s L d z w → Shows c s (f c L) d' z' w'
-
 module _ {g : List ℕ} {s : Shape} {d z w : ℕ} where
   pub configuration : Lent g s d z w → Configures g s
   configuration (lent c t x y) = c

@@ -1,13 +1,14 @@
--- What the meant fields of an accepted frame are, by the row of its code: the plain facts that the services require.
+-- What the meant fields of an accepted frame are, by the row of its code, and the room in the tables for what it sends: the plain facts that the services require.
 use Prim.Native.Nat.{ℕ, _+_, _≤_}
 use mathlib.Core.Path.{_≡_}
 use mathlib.Core.Bool.{true}
 use mathlib.Core.List.{List}
 use Rattle.ledger.specs.Config.{Config}
-use Rattle.ledger.specs.Refusals.{FieldA, noA, aTask, otherTask, selfOrTask, anyOrTask, aQueue, FieldB, noB, ofSelf, ofTask, orNone, FieldX, noX, aMessage, aTockValue, aSwitch, fields, codeAt}
+use Rattle.ledger.specs.Refusals.{FieldA, noA, aTask, otherTask, selfOrTask, anyOrTask, aQueue, FieldB, noB, ofSelf, ofTask, orNone, FieldX, noX, aMessage, aTockValue, aSwitch, fields, codeAt, isMessage}
 use Rattle.ledger.specs.Theorems.Accepted.{GoodEntry}
 use Rattle.tables.specs.declared.shape.Shape.{Shape}
 use Rattle.tables.specs.Layout.{OneOf}
+use Rattle.mailboxes.specs.Room.{Roomy}
 
 abbrev pub InA : Shape → FieldA → ℕ → Type 0
 InA s noA a = Unit {0}
@@ -44,3 +45,7 @@ MeansEntry c k q e = GoodEntry c (fields (codeAt k) .follows) q e
 -- a service is asked for by a task
 abbrev pub Asks : Shape → (code self : ℕ) → Type 0
 Asks s k self = fields (codeAt k) .service ≡ true → OneOf (s .tasks) self
+
+-- a message that is sent has room in the tables d
+abbrev pub HasRoom : Shape → (code : ℕ) → (d : List ℕ) → Type 0
+HasRoom s k d = isMessage (fields (codeAt k) .X) ≡ true → Roomy s d

@@ -4,19 +4,20 @@ use tables::tasks::Outcome;
 ghost use mathlib.Core.Path.{_≡_};
 ghost use mathlib.Core.Bool.{cond, true};
 ghost use Prim.Native.Nat.{_≤_};
-ghost use lib.ListN.{length};
+ghost use lib.ListN.{length, getD};
 ghost use Rattle.ledger.specs.Lists.{byte};
 ghost use Rattle.ledger.specs.Ledger.{plain, setOutcome};
-ghost use Rattle.tables.specs.Layout.{Fits, OneOf};
+ghost use Rattle.tables.specs.Layout.{Fits, OneOf, countAt};
 ghost use Rattle.tables.specs.Shows.{Does};
 ghost use Rattle.configuration.specs.Block.{configured};
 ghost use Rattle.executive.specs.Lent.{Lent};
 ghost use Rattle.executive.specs.Carried.{Meant, Effects, Passed, Carries};
 
-// An accepted service first sets the caller's outcome to plain.
+// An accepted service first sets the caller's outcome to plain. The number of messages stays.
 fn prepare(tables: &mut [u8], shape: Shape, me: u8, service: bool)
     requires { ⌜ Fits shape (length (now tables)) × (service ≡ true → OneOf (shape .tasks) me) ⌝ }
-    ensures { λ _. ⌜ Does shape (now (tables .entry)) (now (tables .exit)) (λ c L. cond service (setOutcome me plain L) L) ⌝ }
+    ensures does { λ _. ⌜ Does shape (now (tables .entry)) (now (tables .exit)) (λ c L. cond service (setOutcome me plain L) L) ⌝ }
+    ensures count { λ _. ⌜ getD (now (tables .exit)) countAt 0 ≡ getD (now (tables .entry)) countAt 0 ⌝ }
 {
     if service {
         tables::tasks::store_outcome(tables, shape, me, Outcome::Plain);
@@ -37,7 +38,7 @@ fn by_family(
     shape: Shape,
 )
     requires { ⌜ (5 ≤ length (now frame)) × OneOf 17 code
-        × Lent (now config) shape (length (now tables)) (length (now slots)) (length (now timers)) × Meant (configured (now config)) shape code me a b (now frame) ⌝ }
+        × Lent (now config) shape (length (now tables)) (length (now slots)) (length (now timers)) × Meant (configured (now config)) shape code me a b (now frame) (now tables) ⌝ }
     ensures { λ _. ⌜ Effects (configured (now (config .entry))) shape code me a b (now (frame .entry))
         (now (tables .entry)) (now (slots .entry)) (now (timers .entry)) (now (tables .exit)) (now (slots .exit)) (now (timers .exit)) ⌝ }
 {
@@ -66,7 +67,7 @@ fn carried(
     shape: Shape,
 )
     requires { ⌜ (5 ≤ length (now frame)) × (byte 0 (now frame) ≡ code) × OneOf 17 code
-        × Lent (now config) shape (length (now tables)) (length (now slots)) (length (now timers)) × Passed (configured (now config)) shape me (now frame) ⌝ }
+        × Lent (now config) shape (length (now tables)) (length (now slots)) (length (now timers)) × Passed (configured (now config)) shape me (now frame) (now tables) ⌝ }
     ensures { λ _. ⌜ Carries (configured (now (config .entry))) shape me (now (frame .entry))
         (now (tables .entry)) (now (slots .entry)) (now (timers .entry)) (now (tables .exit)) (now (slots .exit)) (now (timers .exit)) ⌝ }
 {
@@ -89,7 +90,7 @@ pub fn carry_out(
     timers: &mut [u8],
     shape: Shape,
 )
-    requires { ⌜ Lent (now config) shape (length (now tables)) (length (now slots)) (length (now timers)) × Passed (configured (now config)) shape me (now frame) ⌝ }
+    requires { ⌜ Lent (now config) shape (length (now tables)) (length (now slots)) (length (now timers)) × Passed (configured (now config)) shape me (now frame) (now tables) ⌝ }
     ensures { λ _. ⌜ Carries (configured (now (config .entry))) shape me (now (frame .entry))
         (now (tables .entry)) (now (slots .entry)) (now (timers .entry)) (now (tables .exit)) (now (slots .exit)) (now (timers .exit)) ⌝ }
 {

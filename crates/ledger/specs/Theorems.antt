@@ -24,6 +24,8 @@ pub mod Steps
 pub mod Kept
 pub mod HandedOut
 pub mod Sound
+-- messages 1 to G, none twice: every step of every ledger keeps it (once-step)
+pub mod Once
 -- lines and frames are inverse to each other (written-reads-back, read-is-the-line); a tock value at every width (negative, lowest)
 pub mod Lines
 pub mod TockValues

@@ -1,5 +1,9 @@
 -- What a message that was received is to the ledger.
 pub mod Received
+-- Room for one more, and the rule that there is some.
+pub mod Room
 -- Where the messages lie, and what is shown when they change.
 pub mod Mail
 pub mod Operations
+-- A frame leaves memory that keeps the whole rule.
+pub mod Whole

@@ -1,6 +1,5 @@
 -- Where the messages lie in the tables, and what the tables show once their region and their number are new.
 use mathlib.Core.Path.{_≡_, refl, sym, ap, ap₂, _∙_}
-use mathlib.Core.Bool.{Bool, true}
 use mathlib.Core.List.{List}
 use Prim.Native.Nat.{ℕ, _+_, _-_, _*_, _<_, _≤_}
 use native.Mathlib.Omega.{arith}
@@ -10,9 +9,9 @@ use borrow.Author.Tests.{le-leb}
 use borrow.Rule.Slice.PartMut.{putMid}
 use Rattle.rows.specs.Splice.{cut, splice}
 use Rattle.rows.specs.Laws.{length-cut, length-splice, lent-back, splice-whole}
-use Rattle.messages.specs.Pending.{Pending, pendingIn, mailboxOf, completeIn}
+use Rattle.messages.specs.Pending.{Pending, pendingIn, mailboxOf}
 use Rattle.tables.specs.declared.shape.Shape.{Shape}
-use Rattle.tables.specs.Layout.{OneOf, ticksAt, countAt, Laid, Fits, fitting, bound, region, Regions, named, regions, but, written, byte-written, region-at, region-length}
+use Rattle.tables.specs.Layout.{OneOf, countAt, Laid, Fits, fitting, bound, region, Regions, named, regions, but, written, byte-written, region-at, region-length}
 use Rattle.tables.specs.Decode.{countOf}
 use Rattle.tables.specs.Shows.{Shows, pendingOf}
 use Rattle.tables.specs.Items.{withMessages, mailbox-is, mailbox-shown}
@@ -27,17 +26,16 @@ pub record Lies (s : Shape) (n : ℕ) : Type 0 where
   pub within : s .bodyat ≤ n
   pub room : s .bodyat - s .messageat ≡ s .messages * 4
   pub most : s .messages ≤ 64
-  pub few : s .tasks ≤ 126
 
 pub lies : {s : Shape} {n : ℕ} → Fits s n → Lies s n
-lies (fitting l r) = record { counted = omega arith; start = omega arith; within = omega arith; room = omega arith; most = l .messages; few = l .few }
+lies (fitting l r) = record { counted = omega arith; start = omega arith; within = omega arith; room = omega arith; most = l .messages }
 
 -- the bytes of the messages, and the messages that are pending
 abbrev pub bytes : Shape → List ℕ → List ℕ
 bytes s d = cut d (s .messageat) (s .bodyat)
 
 abbrev pub mail : Shape → List ℕ → List Pending
-mail s d = pendingIn (countOf (s .messages) (getD d countAt 0)) (bytes s d)
+mail s d = pendingIn (s .tasks) (countOf (s .messages) (getD d countAt 0)) (bytes s d)
 
 pub bytes-are : (s : Shape) (d : List ℕ) → regions s d .messages ≡ bytes s d
 unfolding regions named region bound
@@ -46,13 +44,8 @@ bytes-are s d = refl
 pub bytes-length : {s : Shape} (d : List ℕ) → Fits s (length d) → length (bytes s d) ≡ s .messages * 4
 bytes-length {s} d f = let l = lies f in length-cut d (s .messageat) (s .bodyat) (l .within) ∙ l .room
 
--- a test of them, by the count that was read
-pub sound-told : (s : Shape) (d : List ℕ) (n : ℕ) (r : Bool) → n ≡ countOf (s .messages) (getD d countAt 0) → r ≡ completeIn (s .tasks) (s .messages) (pendingIn n (bytes s d))
-    → r ≡ completeIn (s .tasks) (s .messages) (pendingIn (countOf (s .messages) (getD d countAt 0)) (regions s d .messages))
-sound-told s d n r e q = q ∙ rw (e, bytes-are s d)
-
 module _ (c : Config) (s : Shape) (L : Ledger) (d z w : List ℕ) (h : Shows c s L d z w) where
-  counter : getD (regions s d .clock) countAt 0 ≡ getD d countAt 0
+  pub counter : getD (regions s d .clock) countAt 0 ≡ getD d countAt 0
   unfolding regions named bound
   counter = region-at s d 0 1 (omega arith)
 
@@ -60,8 +53,8 @@ module _ (c : Config) (s : Shape) (L : Ledger) (d z w : List ℕ) (h : Shows c s
   pub mail-is : mail s d ≡ pendingOf c (regions s d)
   unfolding pendingOf
   mail-is =
-      ap₂ (λ (g x : ℕ). pendingIn (countOf g x) (bytes s d)) (h .of .messages) (sym counter)
-      ∙ ap (pendingIn (countOf (c .G) (getD (regions s d .clock) countAt 0))) (sym (bytes-are s d))
+      ap₂ (λ (g x : ℕ). pendingIn (s .tasks) (countOf g x) (bytes s d)) (h .of .messages) (sym counter)
+      ∙ ap₂ (λ (t : ℕ) (l : List ℕ). pendingIn t (countOf (c .G) (getD (regions s d .clock) countAt 0)) l) (h .of .tasks) (sym (bytes-are s d))
 
 -- the region came back as other bytes, and the byte that counts them is new
 abbrev pub renewed : Shape → (d ys : List ℕ) → ℕ → List ℕ
@@ -109,21 +102,20 @@ module _ (c : Config) (s : Shape) (L : Ledger) (d z w : List ℕ) (h : Shows c s
     unfolding regions named bound
     clock-length = region-length s (h .of .laid) d (h .room) 0
 
-    mail-new : pendingOf c (withMessages clock ys (regions s d)) ≡ pendingIn v ys
+    mail-new : pendingOf c (withMessages clock ys (regions s d)) ≡ pendingIn (s .tasks) v ys
     unfolding pendingOf withMessages
     mail-new =
         let e : getD clock countAt 0 ≡ v = getD-set-same (regions s d .clock) countAt v 0 (omega (arith, clock-length)) in
         let m : v ≤ c .G = omega (arith, h .of .messages) in
-        ap (λ (x : ℕ). pendingIn (countOf (c .G) x) ys) e ∙ rw (le-leb v (c .G) m)
+        ap₂ (λ (t x : ℕ). pendingIn t (countOf (c .G) x) ys) (sym (h .of .tasks)) e ∙ rw (le-leb v (c .G) m)
 
-    pub mail-renewed : (x : List Message) → mailboxOf t (pendingIn v ys) ≡ x → ((u : ℕ) → (t ≡ u → ⊥) → mailboxOf u (pendingIn v ys) ≡ mailboxOf u (mail s d))
-        → completeIn (s .tasks) (s .messages) (pendingIn v ys) ≡ true → Shows c s (setMailbox t x L) (renewed s d ys v) z w
-    mail-renewed x new others all =
+    pub mail-renewed : (x : List Message) → mailboxOf t (pendingIn (s .tasks) v ys) ≡ x → ((u : ℕ) → (t ≡ u → ⊥) → mailboxOf u (pendingIn (s .tasks) v ys) ≡ mailboxOf u (mail s d))
+        → Shows c s (setMailbox t x L) (renewed s d ys v) z w
+    mail-renewed x new others =
         let p : Regions = regions s d in
         shows-as c s L d z w (renewed s d ys v) z (withMessages clock ys p) h (renewed-length s (h .of .laid) d (h .room) ys n v) refl
         (renewed-regions s (h .of .laid) d (h .room) ys n v)
         (setMailbox t x L)
         (mailbox-shown c L p z w (h .shown) clock ys t x (getD-set-other (p .clock) countAt 0 v 0 (λ e. omega arith)) (to .0)
         (sym new ∙ ap (mailboxOf t) (sym mail-new))
-        (λ j ne. ap (mailboxOf j) (sym (mail-is c s L d z w h)) ∙ sym (others j (λ e. ne (sym e))) ∙ ap (mailboxOf j) (sym mail-new))
-        (ap (completeIn (c .T) (c .G)) mail-new ∙ ap₂ (λ (a b : ℕ). completeIn a b (pendingIn v ys)) (sym (h .of .tasks)) (sym (h .of .messages)) ∙ all))
+        (λ j ne. ap (mailboxOf j) (sym (mail-is c s L d z w h)) ∙ sym (others j (λ e. ne (sym e))) ∙ ap (mailboxOf j) (sym mail-new)))

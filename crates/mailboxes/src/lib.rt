@@ -4,18 +4,17 @@
 use tables::shape::COUNT_AT;
 use tables::shape::Shape;
 ghost use mathlib.Core.Path.{_≡_};
-ghost use mathlib.Core.Bool.{false};
 ghost use mathlib.Core.List.{[]};
 ghost use Prim.Native.Nat.{_≤_};
-ghost use lib.ListN.{length, getD};
-ghost use Rattle.messages.specs.Pending.{pendingIn, completeIn};
+ghost use lib.ListN.{length};
 ghost use Rattle.tables.specs.Decode.{countOf};
-ghost use Rattle.tables.specs.Layout.{OneOf, Fits, countAt, regions};
-ghost use Rattle.tables.specs.Shows.{Does, DoesIf, Tells};
+ghost use Rattle.tables.specs.Layout.{OneOf, Fits};
+ghost use Rattle.tables.specs.Shows.{Does, Tells};
 ghost use Rattle.ledger.specs.Lists.{find};
 ghost use Rattle.ledger.specs.Ledger.{mailbox, setMailbox};
 ghost use Rattle.ledger.specs.Services.{wanted};
 ghost use Rattle.ledger.specs.Refusals.{inAMailbox};
+ghost use Rattle.mailboxes.specs.Room.{Roomy, soundIn};
 ghost use Rattle.mailboxes.specs.Received.{viewReceived, inserted, taken};
 
 // A message that was received: its number, its sender, its semaphore.
@@ -43,21 +42,26 @@ pub fn holds(tables: &[u8], shape: Shape, number: u8) -> bool
     let n = count(tables[COUNT_AT], shape.messages);
     let at = shape.messageat;
     let end = shape.bodyat;
-    messages::holds(&tables[at..end], n, shape.tasks, number)
+    messages::holds(&tables[at..end], n, number)
 }
 
-// Puts a message that lies in no mailbox into that of task `to`.
+// Puts a message into the mailbox of task `to`, where there is room for one more.
 pub fn insert(tables: &mut [u8], shape: Shape, to: u8, number: u8, sender: u8, semaphore: u8)
-    requires { ⌜ Fits shape (length (now tables)) × OneOf (shape .tasks) to × OneOf (shape .messages) number ⌝ }
-    ensures { λ _. ⌜ DoesIf shape (now (tables .entry)) (now (tables .exit)) (λ c L. inAMailbox L number ≡ false) (λ c L. inserted to number sender semaphore L) ⌝ }
+    requires { ⌜ Fits shape (length (now tables)) × OneOf (shape .tasks) to × Roomy shape (now tables) ⌝ }
+    ensures { λ _. ⌜ Does shape (now (tables .entry)) (now (tables .exit)) (λ c L. inserted to number sender semaphore L) ⌝ }
 {
     let n = count(tables[COUNT_AT], shape.messages);
-    if n >= shape.messages {
-        return;
-    }
     let at = shape.messageat;
     let end = shape.bodyat;
-    messages::insert(&mut tables[at..end], n, to, number, sender, semaphore);
+    messages::insert(
+        &mut tables[at..end],
+        n,
+        shape.tasks,
+        to,
+        number,
+        sender,
+        semaphore,
+    );
     tables[COUNT_AT] = (n + 1) as u8;
 }
 
@@ -70,7 +74,7 @@ pub fn take(tables: &mut [u8], shape: Shape, t: u8, from: u8) -> Received
     let n = count(tables[COUNT_AT], shape.messages);
     let at = shape.messageat;
     let end = shape.bodyat;
-    let k = messages::find(&tables[at..end], n, t, from);
+    let k = messages::find(&tables[at..end], n, shape.tasks, t, from);
     if k >= n {
         return Received::Nothing;
     }
@@ -88,17 +92,20 @@ pub fn clear(tables: &mut [u8], shape: Shape, t: u8)
     let n = count(tables[COUNT_AT], shape.messages);
     let at = shape.messageat;
     let end = shape.bodyat;
-    let m = messages::remove_all(&mut tables[at..end], n, t);
+    let m = messages::remove_all(&mut tables[at..end], n, shape.tasks, t);
     tables[COUNT_AT] = m as u8;
 }
 
-// Whether each message that lies in the memory is for one of the tasks, is one of those that there are, and lies there once.
+// Whether there is room for one more message, or else each that lies in the memory is one of those that there are, and lies there once.
 pub fn sound(tables: &[u8], shape: Shape) -> bool
     requires { ⌜ Fits shape (length (now tables)) ⌝ }
-    ensures { λ r. ⌜ r ≡ completeIn (shape .tasks) (shape .messages) (pendingIn (countOf (shape .messages) (getD (now (tables .entry)) countAt 0)) (regions shape (now (tables .entry)) .messages)) ⌝ }
+    ensures { λ r. ⌜ r ≡ soundIn shape (now (tables .entry)) ⌝ }
 {
     let n = count(tables[COUNT_AT], shape.messages);
+    if n < shape.messages {
+        return true;
+    }
     let at = shape.messageat;
     let end = shape.bodyat;
-    messages::complete(&tables[at..end], n, shape.messages, shape.tasks)
+    messages::complete(&tables[at..end], n, shape.messages)
 }

@@ -1,17 +1,17 @@
 -- What a call of the executive promises: of the configuration, and of a frame.
 use Prim.Native.Nat.{ℕ, _+_, _*_}
 use mathlib.Core.Path.{_≡_}
-use mathlib.Core.Bool.{Bool, true, false, _&&_}
+use mathlib.Core.Bool.{Bool, true, false, _&&_, _||_}
 use mathlib.Core.List.{List}
-use lib.Dec.{leb}
+use lib.Dec.{ltb, leb}
 use lib.ListN.{length}
 use Rattle.ledger.specs.Config.{Config, Limits, controller, configIn, configRefusal}
 use Rattle.ledger.specs.Ledger.{Ledger, fresh}
 use Rattle.ledger.specs.Refusals.{refusal}
 use Rattle.ledger.specs.Session as session
-use Rattle.messages.specs.Pending.{completeIn}
-use Rattle.tables.specs.Layout.{recordsAt, regions}
-use Rattle.tables.specs.Shows.{pendingOf, Shows}
+use Rattle.tables.specs.Layout.{recordsAt}
+use Rattle.tables.specs.Shows.{Shows}
+use Rattle.mailboxes.specs.Room.{counted, wholeIn}
 use Rattle.configuration.specs.Limits.{longest}
 use Rattle.configuration.specs.Block.{configured, rule}
 use Rattle.configuration.specs.Layout.{shapeOf}
@@ -55,9 +55,10 @@ hasSizes n m =
 unfoldable pub fullSize : Memory → Bool
 fullSize m = hasSizes (sizesOf controller) m
 
--- the structure rules there: the block holds a configuration; no message lies twice, and each is one of those that there are
+-- the structure rules there: the block holds a configuration; and fewer than G messages lie in the tables, or else no message lies there twice and
+-- each is one of those that there are
 unfoldable pub messagesSound : Config → List ℕ → Bool
-messagesSound c d = completeIn (c .T) (c .G) (pendingOf c (regions (shapeOf c) d))
+messagesSound c d = let s = shapeOf c in ltb (counted s d) (s .messages) || wholeIn s d
 
 -- by the limits of the executive that it is lent to
 unfoldable pub lentWellFor : Limits → Memory → Bool

@@ -1,4 +1,4 @@
--- What a memory that shows a ledger gives: its bytes are the ledger's items, and with full sizes and the rule of the configuration it is lent well.
+-- What a memory that shows a ledger gives: its bytes are the ledger's items; and with full sizes, the rule of the configuration and no message twice it is lent well.
 use Prim.Native.Nat.{ℕ, _*_, _≤_}
 use mathlib.Core.Path.{_≡_, ap, _∙_}
 use mathlib.Core.Logic.{_⊎_, inl, inr}
@@ -15,6 +15,9 @@ use Rattle.ledger.specs.Theorems.Lowest.{TaskRuns, NullRuns, lowest-runs}
 use Rattle.rows.specs.Tab.{tab-length}
 use Rattle.tables.specs.Layout.{regions}
 use Rattle.tables.specs.Shows.{ticksIn, tasksIn, semaphoresIn, mailboxesIn, queuesIn, timersOf}
+use Rattle.ledger.specs.Theorems.Once.{Once}
+use Rattle.mailboxes.specs.Room.{soundIn}
+use Rattle.mailboxes.specs.Whole.{sound-shown}
 use Rattle.configuration.specs.Block.{configured, rule}
 use Rattle.configuration.specs.Layout.{shapeOf}
 use Rattle.answer.specs.Read as read
@@ -48,10 +51,11 @@ items-shown c l m h =
 
 -- ---- lent well
 
--- the third rule is one of the things that showing a ledger says
-pub displays-well : (m : Memory) (l : Ledger) → fullSize m ≡ true → rule controller (configured (m .config)) ≡ true → Displays (configured (m .config)) l m → lentWell m ≡ true
-unfolding lentWell lentWellFor fullSize messagesSound Displays
-displays-well m l f r h = rw (f, r, h .shown .messages)
+-- the messages' rule is kept where the ledger has none twice
+pub displays-well : (m : Memory) (l : Ledger) → fullSize m ≡ true → rule controller (configured (m .config)) ≡ true → Displays (configured (m .config)) l m
+    → Once (configured (m .config)) (l .mailboxes) → lentWell m ≡ true
+unfolding lentWell lentWellFor fullSize messagesSound soundIn Displays
+displays-well m l f r h o = let c = configured (m .config) in rw (f, r) (sound-shown c (shapeOf c) l (m .tables) (m .slots) (m .timers) h o)
 
 -- ---- an answer has 4 to 20 bytes
 

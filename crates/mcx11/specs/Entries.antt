@@ -11,6 +11,9 @@ use Rattle.ledger.specs.Session as session
 use Rattle.tables.specs.declared.shape.Shape.{Shape}
 use Rattle.tables.specs.Layout.{fitting}
 use Rattle.tables.specs.Shows.{Of, Shows}
+use Rattle.ledger.specs.Theorems.Once.{once-fresh}
+use Rattle.mailboxes.specs.Room.{soundIn}
+use Rattle.mailboxes.specs.Whole.{sound-shown}
 use Rattle.clock.specs.Held.{holding}
 use Rattle.configuration.specs.Block.{configured, rule}
 use Rattle.configuration.specs.Layout.{shapeOf, of-one, end-most}
@@ -22,7 +25,8 @@ use Rattle.executive.specs.Meeting.{never}
 use Rattle.executive.specs.Stepped.{Steps}
 use Rattle.answer.specs.Written.{written}
 use Rattle.mcx11.specs.Contract.{Memory, memory, fullSize, messagesSound, lentWellFor, lentWell, Displays, SameSizes, answering, Configures, Frames}
-use Rattle.mcx11.specs.Sizes.{full-sizes, full-kept, well-full}
+use Rattle.mcx11.specs.Sizes.{full-sizes, full-kept, well-full, well-messages}
+use Rattle.mcx11.specs.Tested.{sound-is}
 
 well-sound : (m : Memory) → fullSize m ≡ true → rule controller (configured (m .config)) ≡ true → lentWell m ≡ messagesSound (configured (m .config)) (m .tables)
 unfolding lentWell lentWellFor fullSize
@@ -61,12 +65,13 @@ module _ (f g d z w a : List ℕ) where
 
 -- what memory that is lent well gives to those inside
 pub inside : (g d z w a : List ℕ) (s : Shape) → lentWell (memory g d z w a) ≡ true → Of (configured g) s
-    → Lent g s (length d) (length z) (length w) × (21 ≤ length a)
+    → Lent g s (length d) (length z) (length w) × (21 ≤ length a) × (soundIn s d ≡ true)
 inside g d z w a s well o =
     let n = full-sizes (memory g d z w a) (well-full (memory g d z w a) well) in
     let l = o .laid in (
       lent (configures (omega (arith, n .config)) o) (fitting l (omega (arith, end-most (configured g) s o, n .tables))) (omega (arith, n .slots)) (holding (omega (arith, n .timers)) (l .timers)),
       n .answer,
+      sound-is (configured g) s o d ∙ well-messages (memory g d z w a) well,
     )
 
 -- ---- a configuration
@@ -90,9 +95,9 @@ pub begun : (f a g' d' z' w' a' : List ℕ) (s : Shape) → Started f g' d' z' w
 begun f a g' d' z' w' a' s h o tells =
     record { started = h; answered = tells (configIn f) (fresh (configIn f)) w' (h .shows s o) }
 
-sound-so : (c : Config) (d : List ℕ) {l : Ledger} {z w : List ℕ} → Shows c (shapeOf c) l d z w → messagesSound c d ≡ true
-unfolding messagesSound
-sound-so c d h = h .shown .messages
+sound-fresh : (c : Config) (d z w : List ℕ) → Shows c (shapeOf c) (fresh c) d z w → messagesSound c d ≡ true
+unfolding messagesSound soundIn
+sound-fresh c d z w h = sound-shown c (shapeOf c) (fresh c) d z w h (once-fresh c)
 
 module _ (f g d z w a : List ℕ) where
   abbrev before : Memory
@@ -128,5 +133,5 @@ module _ (f g d z w a : List ℕ) where
             let c : Config = configIn f in
             let o : Of c (shapeOf c) = accepted-of f (accepted f x) in
             let v : Shows c (shapeOf c) (fresh c) d' z' w' = s .shows (shapeOf c) o in
-            (refl, s .holds, well-sound (memory g' d' z' w' a') (full-kept sz ∙ full) (s .keeps) ∙ ap (λ (y : Config). messagesSound y d') (s .holds) ∙ sound-so c d' v, v, b .answered);
+            (refl, s .holds, well-sound (memory g' d' z' w' a') (full-kept sz ∙ full) (s .keeps) ∙ ap (λ (y : Config). messagesSound y d') (s .holds) ∙ sound-fresh c d' z' w' v, v, b .answered);
       }

@@ -1,29 +1,24 @@
 -- The test for number 11: what each of its ways out says of the memory, whatever lies in the slots, the timers and the answer.
 use Prim.Native.Nat.{ℕ, _≤_}
-use mathlib.Core.Path.{_≡_, refl, sym, ap, ap₂, _∙_, subst}
+use mathlib.Core.Path.{_≡_, refl, sym, ap, _∙_, subst}
 use mathlib.Core.Bool.{Bool, true, false, cond, _&&_}
 use mathlib.Core.List.{List}
 use native.Mathlib.Omega.{arith}
 use lib.Dec.{leb}
 use borrow.Author.Tests.{leb-true}
-use lib.ListN.{length, getD}
+use lib.ListN.{length}
 use Rattle.ledger.specs.Config.{Config, Limits, controller}
 use Rattle.ledger.specs.Theorems.Checks.{and-left, and-right}
-use Rattle.messages.specs.Pending.{pendingIn, completeIn}
 use Rattle.tables.specs.declared.shape.Shape.{Shape}
-use Rattle.tables.specs.Layout.{Fits, fitting, bound, named, regions, region-at}
-use Rattle.tables.specs.Decode.{countOf}
-use Rattle.tables.specs.Shows.{bytesOf, pendingOf, Of}
+use Rattle.tables.specs.Layout.{Fits, fitting}
+use Rattle.tables.specs.Shows.{bytesOf, Of}
+use Rattle.mailboxes.specs.Room.{soundIn}
 use Rattle.configuration.specs.declared.Lent.{Lent}
 use Rattle.configuration.specs.declared.Lent.the-variants.{Bad, Good}
 use Rattle.configuration.specs.Limits.{longest, Made}
 use Rattle.configuration.specs.Block.{configured, rule}
 use Rattle.configuration.specs.Layout.{shapeOf, of-one, Lends, rule-head, rule-room}
 use Rattle.mcx11.specs.Contract.{Memory, memory, sizesOf, hasSizes, messagesSound, lentWellFor, lentWell}
-
--- the messages' rule as the code tests it
-abbrev pub soundIn : Shape → List ℕ → Bool
-soundIn s d = completeIn (s .tasks) (s .messages) (pendingIn (countOf (s .messages) (getD d 1 0)) (regions s d .messages))
 
 -- all memories with these lengths of the slots, the timers and the answer
 abbrev pub AllWith : (nz nw na : ℕ) → (List ℕ → List ℕ → List ℕ → Type 0) → Type 0
@@ -49,17 +44,9 @@ lent-good k ek c h e = let x = lends-good k c h e in (ap (λ (y : Limits). rule 
 
 -- ---- the messages, in the configuration's terms
 
-clock-at : (s : Shape) (d : List ℕ) → getD d 1 0 ≡ getD (regions s d .clock) 1 0
-unfolding regions named bound
-clock-at s d = sym (region-at s d 0 1 (omega arith))
-
-sound-is : (c : Config) (s : Shape) → Of c s → (d : List ℕ) → soundIn s d ≡ messagesSound c d
-unfolding messagesSound pendingOf
-sound-is c s o d =
-    let b : getD d 1 0 ≡ getD (regions s d .clock) 1 0 = clock-at s d in
-    let e : pendingIn (countOf (s .messages) (getD d 1 0)) (regions s d .messages) ≡ pendingOf c (regions s d) = ap₂ (λ (g x : ℕ). pendingIn (countOf g x) (regions s d .messages)) (o .messages) b in
-    ap₂ (λ (t g : ℕ). completeIn t g (pendingIn (countOf (s .messages) (getD d 1 0)) (regions s d .messages))) (o .tasks) (o .messages)
-    ∙ ap (completeIn (c .T) (c .G)) e ∙ ap (λ (x : Shape). completeIn (c .T) (c .G) (pendingOf c (regions x d))) (of-one c s o)
+pub sound-is : (c : Config) (s : Shape) → Of c s → (d : List ℕ) → soundIn s d ≡ messagesSound c d
+unfolding messagesSound soundIn
+sound-is c s o d = ap (λ (x : Shape). soundIn x d) (of-one c s o)
 
 -- ---- the sizes have room for every configuration within the limits
 

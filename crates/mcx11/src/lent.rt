@@ -8,11 +8,12 @@ ghost use mathlib.Core.Bool.{cond, _&&_};
 ghost use lib.Dec.{leb};
 ghost use lib.ListN.{length};
 ghost use Rattle.tables.specs.Layout.{Fits};
+ghost use Rattle.mailboxes.specs.Room.{soundIn};
 ghost use Rattle.configuration.specs.Limits.{limitsOf, Made};
 ghost use Rattle.configuration.specs.declared.Lent.the-variants as variants;
 ghost use Rattle.mcx11.specs.Contract.{sizesOf};
 ghost use Rattle.mcx11.specs.Sizes.{sizesIn};
-ghost use Rattle.mcx11.specs.Tested.{soundIn, Tested};
+ghost use Rattle.mcx11.specs.Tested.{Tested};
 
 // The fixed sizes of the lent blocks.
 pub struct Sizes {

@@ -1,20 +1,20 @@
 -- `completeIn`, record by record with the bits of the numbers seen so far, and the turns of the loop that tests it so.
 use mathlib.Core.Path.{_≡_, refl, sym, ap, ap₂, _∙_}
 use mathlib.Core.Bool.{Bool, true, false, not, _&&_, _||_, and-false}
-use mathlib.Core.List.{List, [], _∷_, map}
-use Prim.Native.Nat.{ℕ, zero, suc, _+_, _-_, _^_, _<_, _≤_}
+use mathlib.Core.List.{List, [], _∷_}
+use Prim.Native.Nat.{ℕ, zero, suc, _+_, _-_, _*_, _^_, _<_, _≤_}
 use native.Mathlib.Numerals.{add-one}
 use native.Mathlib.Omega.{arith}
 use lib.Bits.{bitOr}
 use lib.Count.{ones}
 use lib.Dec.{leb, eqb}
-use lib.ListN.{length, getD, drop, set, replicate, length-replicate, length-set, length-map, drop-of-length-le}
+use lib.ListN.{length, getD, drop, set, replicate, length-replicate, length-set, drop-of-length-le}
 use lib.Seq.{drop-cons, getD-set-same, getD-set-other}
 use borrow.Author.Tests.{eq-eqb, ne-eqb, eqb-true, eqb-false, leb-true}
 use Rattle.ledger.specs.Lists.{within, any, all}
-use Rattle.messages.specs.Pending.{Pending, numberOf, pendingOf, pendingAt, pendingIn, inRange, distinct, completeIn}
+use Rattle.messages.specs.Pending.{numbersIn, occurs, distinct, completeIn}
 use Rattle.messages.specs.Lists.{and-left, and-right}
-use Rattle.messages.specs.Records.{pending-length, pending-at}
+use Rattle.messages.specs.Records.{number-length, number-at}
 use Rattle.messages.specs.Marks.{bit, bit-low, wordOf, trues, word-set, word-none, ones-word, trues-set, trues-none}
 
 -- ---- flag x - 1 is that of the number x
@@ -61,12 +61,12 @@ module _ (n : ℕ) where
         go true e = rw (eqb-true y x e) (getD-set-same f (x - 1) true false (omega (arith, hx .from, hx .upto, many)))
         go false e = getD-set-other f (x - 1) (y - 1) true false (λ q. eqb-false y x e (omega (arith, q, hx .from, hy .from)))
 
-    unseen-one : (l : List ℕ) → Numbers l → unseen (mark f x) l ≡ (not (any (λ y. eqb y x) l) && unseen f l)
+    unseen-one : (l : List ℕ) → Numbers l → unseen (mark f x) l ≡ (not (occurs x l) && unseen f l)
     unfolding all any
     unseen-one [] a = refl
     unseen-one (y ∷ ys) a =
         ap₂ (λ (a b : Bool). not a && b) (flag-one y (first y ys a)) (unseen-one ys (rest y ys a))
-        ∙ go (eqb y x) (flag f y) (any (λ z. eqb z x) ys) (unseen f ys)
+        ∙ go (eqb y x) (flag f y) (occurs x ys) (unseen f ys)
       where
         go : (a b c d : Bool) → (not (a || b) && (not c && d)) ≡ (not (a || c) && (not b && d))
         go true b c d = refl
@@ -97,7 +97,7 @@ module _ (n : ℕ) where
 
       go : (b : Bool) → flag f x ≡ b
           → eqb (trues (marks (mark f x) xs)) (trues (mark f x) + length xs) ≡ (unseen (mark f x) xs && distinct xs)
-          → eqb (trues (marks (mark f x) xs)) (trues f + suc (length xs)) ≡ ((not b && unseen f xs) && (not (any (λ y. eqb y x) xs) && distinct xs))
+          → eqb (trues (marks (mark f x) xs)) (trues f + suc (length xs)) ≡ ((not b && unseen f xs) && (not (occurs x xs) && distinct xs))
       go true e ih =
           let h = first x xs a in
           let o : trues (mark f x) ≡ trues f + 0 = trues-one f m x h ∙ rw e in
@@ -106,7 +106,7 @@ module _ (n : ℕ) where
           let h = first x xs a in
           let o : trues (mark f x) ≡ trues f + 1 = trues-one f m x h ∙ rw e in
           let s : trues f + suc (length xs) ≡ trues (mark f x) + length xs = omega (arith, o) in
-          rw s (ih ∙ rw (unseen-one f m x h xs (rest x xs a)) (shuffle (not (any (λ y. eqb y x) xs)) (unseen f xs) (distinct xs)))
+          rw s (ih ∙ rw (unseen-one f m x h xs (rest x xs a)) (shuffle (not (occurs x xs)) (unseen f xs) (distinct xs)))
 
   unseen-none : (l : List ℕ) → unseen (replicate n false) l ≡ true
   unfolding all
@@ -130,72 +130,69 @@ and-assoc : (a b c : Bool) → ((a && b) && c) ≡ (a && (b && c))
 and-assoc true b c = refl
 and-assoc false b c = refl
 
-module _ (tasks most n : ℕ) where
-  abbrev goesOn : List Bool → List Pending → Bool
-  goesOn f l = all (inRange tasks most) l && eqb (trues (marks f (map numberOf l))) n
+module _ (most n : ℕ) where
+  abbrev goesOn : List Bool → List ℕ → Bool
+  goesOn f l = all (within 1 most) l && eqb (trues (marks f l)) n
 
-  numbers : (l : List Pending) → all (inRange tasks most) l ≡ true → Numbers most (map numberOf l)
-  unfolding all
-  numbers [] a = refl
-  numbers (p ∷ ps) a =
-      let r : inRange tasks most p ≡ true = and-left (inRange tasks most p) (all (inRange tasks most) ps) a in
-      rw (and-right (within 1 tasks (p .to)) (within 1 most (numberOf p)) r) (numbers ps (and-right (inRange tasks most p) (all (inRange tasks most) ps) a))
-
-  complete-is : (l : List Pending) → length l ≡ n → goesOn (replicate most false) l ≡ completeIn tasks most l
+  complete-is : (l : List ℕ) → length l ≡ n → goesOn (replicate most false) l ≡ completeIn most l
   unfolding completeIn
-  complete-is l h = go (all (inRange tasks most) l) refl
+  complete-is l h = go (all (within 1 most) l) refl
     where
-      go : (b : Bool) → all (inRange tasks most) l ≡ b → (b && eqb (trues (marks (replicate most false) (map numberOf l))) n) ≡ (b && distinct (map numberOf l))
-      go true e = ap (eqb (trues (marks (replicate most false) (map numberOf l)))) (sym h ∙ sym (length-map l numberOf)) ∙ distinct-is most (map numberOf l) (numbers l e)
+      go : (b : Bool) → all (within 1 most) l ≡ b → (b && eqb (trues (marks (replicate most false) l)) n) ≡ (b && distinct l)
+      go true e = ap (eqb (trues (marks (replicate most false) l))) (sym h) ∙ distinct-is most l e
       go false e = refl
 
-pub record Checked (tasks most n k seen : ℕ) (d : List ℕ) : Type 0 where
+pub record Checked (most n k seen : ℕ) (d : List ℕ) : Type 0 where
   pub inside : k ≤ n
   flags : List Bool
   many : length flags ≡ most
   bits : seen ≡ wordOf flags
-  so-far : goesOn tasks most n flags (drop k (pendingIn n d)) ≡ completeIn tasks most (pendingIn n d)
+  so-far : goesOn most n flags (drop k (numbersIn n d)) ≡ completeIn most (numbersIn n d)
 
-module _ (tasks most n : ℕ) (d : List ℕ) where
-  pub check-start : Checked tasks most n 0 0 d
+module _ (most n : ℕ) (d : List ℕ) where
+  pub check-start : Checked most n 0 0 d
   check-start = record {
     inside = omega arith;
     flags = replicate most false;
     many = length-replicate most false;
     bits = sym (word-none most);
-    so-far = complete-is tasks most n (pendingIn n d) (pending-length n d);
+    so-far = complete-is most n (numbersIn n d) (number-length n d);
   }
 
-  module _ (k seen : ℕ) (s : Checked tasks most n k seen d) where
-    module _ (h : k < n) {u : Pending} (e : u ≡ pendingAt k d) {b : Bool} (t : b ≡ inRange tasks most u) where
-      next : completeIn tasks most (pendingIn n d) ≡ (b && goesOn tasks most n (mark (s .flags) (numberOf u)) (drop (k + 1) (pendingIn n d)))
+  module _ (k seen : ℕ) (s : Checked most n k seen d) where
+    -- the number in record k
+    abbrev here : ℕ
+    here = getD d (k * 4 + 1) 0
+
+    module _ (h : k < n) {b : Bool} (t : b ≡ within 1 most here) where
+      next : completeIn most (numbersIn n d) ≡ (b && goesOn most n (mark (s .flags) here) (drop (k + 1) (numbersIn n d)))
       unfolding all
       next =
-          let l : List Pending = pendingIn n d in
-          let c : drop k l ≡ u ∷ drop (k + 1) l =
-          drop-cons l k (pendingOf []) (rw pending-length h) ∙ rw (add-one, pending-at n k d h, ← e) in
-          sym (s .so-far) ∙ ap (goesOn tasks most n (s .flags)) c ∙ rw (← t) (and-assoc b _ _)
+          let l : List ℕ = numbersIn n d in
+          let c : drop k l ≡ here ∷ drop (k + 1) l =
+          drop-cons l k 0 (rw number-length h) ∙ ap₂ (λ (x i : ℕ). x ∷ drop i l) (number-at n k d h) (sym (add-one k)) in
+          sym (s .so-far) ∙ ap (goesOn most n (s .flags)) c ∙ rw (← t) (and-assoc b _ _)
 
-      pub check-range : b ≡ false → false ≡ completeIn tasks most (pendingIn n d)
+      pub check-range : b ≡ false → false ≡ completeIn most (numbersIn n d)
       check-range y = sym (next ∙ rw y)
 
       module _ (y : b ≡ true) where
-        pub check-number : Number most (numberOf u)
-        check-number = number most (numberOf u) (and-right (within 1 tasks (u .to)) (within 1 most (numberOf u)) (sym t ∙ y))
+        pub check-number : Number most here
+        check-number = number most here (sym t ∙ y)
 
-        pub check-on : {w : ℕ} → w ≡ bitOr seen (2 ^ (numberOf u - 1)) → Checked tasks most n (k + 1) w d
+        pub check-on : {w : ℕ} → w ≡ bitOr seen (2 ^ (here - 1)) → Checked most n (k + 1) w d
         check-on z =
             let x = check-number in
             record {
               inside = omega arith;
-              flags = mark (s .flags) (numberOf u);
-              many = marked most (s .flags) (s .many) (numberOf u) x;
-              bits = z ∙ ap (λ (v : ℕ). bitOr v (2 ^ (numberOf u - 1))) (s .bits) ∙ word-set (s .flags) (numberOf u - 1) (omega (arith, x .from, x .upto, s .many));
+              flags = mark (s .flags) here;
+              many = marked most (s .flags) (s .many) here x;
+              bits = z ∙ ap (λ (v : ℕ). bitOr v (2 ^ (here - 1))) (s .bits) ∙ word-set (s .flags) (here - 1) (omega (arith, x .from, x .upto, s .many));
               so-far = sym (next ∙ rw y);
             }
 
-    pub check-end : n ≤ k → eqb (ones seen) n ≡ completeIn tasks most (pendingIn n d)
+    pub check-end : n ≤ k → eqb (ones seen) n ≡ completeIn most (numbersIn n d)
     unfolding all
     check-end h =
-        let e : drop k (pendingIn n d) ≡ [] = drop-of-length-le (pendingIn n d) {i = k} (rw pending-length h) in
-        ap (λ (x : ℕ). eqb x n) (ap ones (s .bits) ∙ ones-word (s .flags)) ∙ sym (ap (goesOn tasks most n (s .flags)) e) ∙ s .so-far
+        let e : drop k (numbersIn n d) ≡ [] = drop-of-length-le (numbersIn n d) {i = k} (rw number-length h) in
+        ap (λ (x : ℕ). eqb x n) (ap ones (s .bits) ∙ ones-word (s .flags)) ∙ sym (ap (goesOn most n (s .flags)) e) ∙ s .so-far

@@ -1,17 +1,16 @@
--- The pigeonhole: where n records are complete, each message 1 to n lies in some mailbox.
+-- The pigeonhole: where n numbers are complete, each of 1 to n is there.
 -- Distinct numbers from 1 to n, none of which is x, are fewer than n: each leaves one number less for the others.
 use mathlib.Core.Path.{_≡_, refl, sym, ap, _∙_}
 use mathlib.Core.Bool.{Bool, true, false, cond, not, _&&_, and-true}
-use mathlib.Core.List.{List, [], _∷_, map}
+use mathlib.Core.List.{List, [], _∷_}
 use Prim.Native.Nat.{ℕ, zero, suc, _<_, _≤_}
 use native.Mathlib.Omega.{arith}
 use lib.Dec.{leb, eqb}
-use lib.ListN.{length, length-map}
+use lib.ListN.{length}
 use borrow.Author.Tests.{ne-eqb, eqb-true, eqb-false, le-leb, leb-true, not-true}
 use Rattle.ledger.specs.Lists.{within, any, all}
-use Rattle.messages.specs.Lists.{and-left, and-right, or-left, or-right, any-map}
-use Rattle.messages.specs.Pending.{Pending, numberOf, mailboxesOf, numbered, inRange, distinct, completeIn}
-use Rattle.messages.specs.Complete.{complete-range, complete-distinct, held-is}
+use Rattle.messages.specs.Lists.{and-left, and-right, or-left, or-right}
+use Rattle.messages.specs.Pending.{occurs, distinct, completeIn}
 
 -- how many of 1 to n pass
 abbrev count : (ℕ → Bool) → ℕ → ℕ
@@ -52,20 +51,20 @@ count-less p y (suc n) l h e = go (eqb (suc n) y) refl (λ k. count-less p y n l
         rw (q, and-true (p (suc n)), ih (omega arith)) (step (p (suc n)) (count (other y p) n))
 
 -- numbers that pass a test are still there without those that do not occur
-all-other : (p : ℕ → Bool) (y : ℕ) (xs : List ℕ) → all p xs ≡ true → any (λ x. eqb x y) xs ≡ false → all (other y p) xs ≡ true
+all-other : (p : ℕ → Bool) (y : ℕ) (xs : List ℕ) → all p xs ≡ true → occurs y xs ≡ false → all (other y p) xs ≡ true
 unfolding all any
 all-other p y [] a n = refl
 all-other p y (x ∷ xs) a n =
-    rw (and-left (p x) (all p xs) a, or-left (eqb x y) (any (λ x. eqb x y) xs) n)
-    (all-other p y xs (and-right (p x) (all p xs) a) (or-right (eqb x y) (any (λ x. eqb x y) xs) n))
+    rw (and-left (p x) (all p xs) a, or-left (eqb x y) (occurs y xs) n)
+    (all-other p y xs (and-right (p x) (all p xs) a) (or-right (eqb x y) (occurs y xs) n))
 
 fewer : (n : ℕ) (p : ℕ → Bool) → ((x : ℕ) → p x ≡ true → (1 ≤ x) × (x ≤ n)) → (xs : List ℕ) → distinct xs ≡ true → all p xs ≡ true → length xs ≤ count p n
 unfolding distinct all
 fewer n p r [] e a = omega arith
 fewer n p r (x ∷ xs) e a =
     let h : p x ≡ true = and-left (p x) (all p xs) a in
-    let m : any (λ y. eqb y x) xs ≡ false = not-true (any (λ y. eqb y x) xs) (and-left (not (any (λ y. eqb y x) xs)) (distinct xs) e) in
-    let d : distinct xs ≡ true = and-right (not (any (λ y. eqb y x) xs)) (distinct xs) e in
+    let m : occurs x xs ≡ false = not-true (occurs x xs) (and-left (not (occurs x xs)) (distinct xs) e) in
+    let d : distinct xs ≡ true = and-right (not (occurs x xs)) (distinct xs) e in
     let o : all (other x p) xs ≡ true = all-other p x xs (and-right (p x) (all p xs) a) m in
     let i : length xs ≤ count (other x p) n = fewer n (other x p) (λ z q. r z (and-left (p z) (not (eqb z x)) q)) xs d o in
     omega (arith, i, count-less p x n (r x h .0) (r x h .1) h)
@@ -74,10 +73,10 @@ within-bounds : (n x : ℕ) → within 1 n x ≡ true → (1 ≤ x) × (x ≤ n)
 within-bounds n x w = (leb-true 1 x (and-left (leb 1 x) (leb x n) w), leb-true x n (and-right (leb 1 x) (leb x n) w))
 
 module _ (n : ℕ) (xs : List ℕ) (d : distinct xs ≡ true) (a : all (within 1 n) xs ≡ true) (e : length xs ≡ n) where
-  occurs : (x : ℕ) → 1 ≤ x → x ≤ n → any (λ y. eqb y x) xs ≡ true
-  occurs x l h = go (any (λ y. eqb y x) xs) refl
+  there : (x : ℕ) → 1 ≤ x → x ≤ n → occurs x xs ≡ true
+  there x l h = go (occurs x xs) refl
     where
-      go : (b : Bool) → any (λ y. eqb y x) xs ≡ b → b ≡ true
+      go : (b : Bool) → occurs x xs ≡ b → b ≡ true
       go true q = refl
       go false q =
           let w : within 1 n x ≡ true = rw (le-leb 1 x l, le-leb x n h) in
@@ -85,25 +84,16 @@ module _ (n : ℕ) (xs : List ℕ) (d : distinct xs ≡ true) (a : all (within 1
           fewer n (other x (within 1 n)) (λ z r. within-bounds n z (and-left (within 1 n z) (not (eqb z x)) r)) xs d (all-other (within 1 n) x xs a q) in
           absurd (omega (arith, f, count-le (within 1 n) n, count-less (within 1 n) x n l h w))
 
--- ---- on what is pending
+-- ---- a complete list of numbers
 
-all-numbers : (tasks n : ℕ) (l : List Pending) → all (inRange tasks n) l ≡ true → all (within 1 n) (map numberOf l) ≡ true
-unfolding all
-all-numbers tasks n [] a = refl
-all-numbers tasks n (p ∷ ps) a =
-    let r : inRange tasks n p ≡ true = and-left (inRange tasks n p) (all (inRange tasks n) ps) a in
-    rw (and-right (within 1 tasks (p .to)) (within 1 n (numberOf p)) r) (all-numbers tasks n ps (and-right (inRange tasks n p) (all (inRange tasks n) ps) a))
+complete-range : (n : ℕ) (l : List ℕ) → completeIn n l ≡ true → all (within 1 n) l ≡ true
+unfolding completeIn
+complete-range n l c = and-left (all (within 1 n) l) (distinct l) c
 
--- there are at most n
-pub at-most : (tasks n : ℕ) (l : List Pending) → completeIn tasks n l ≡ true → length l ≤ n
-at-most tasks n l c =
-    let f : length (map numberOf l) ≤ count (within 1 n) n =
-    fewer n (within 1 n) (within-bounds n) (map numberOf l) (complete-distinct tasks n l c) (all-numbers tasks n l (complete-range tasks n l c)) in
-    omega (arith, f, count-le (within 1 n) n, length-map l numberOf)
+complete-distinct : (n : ℕ) (l : List ℕ) → completeIn n l ≡ true → distinct l ≡ true
+unfolding completeIn
+complete-distinct n l c = and-right (all (within 1 n) l) (distinct l) c
 
-module _ (tasks n x : ℕ) (low : 1 ≤ x) (high : x ≤ n) where
-  pub full : (l : List Pending) → completeIn tasks n l ≡ true → length l ≡ n → any (any (numbered x)) (mailboxesOf tasks l) ≡ true
-  full l c e =
-      let a : all (inRange tasks n) l ≡ true = complete-range tasks n l c in
-      held-is tasks n x l a ∙ sym (any-map numberOf (λ y. eqb y x) l)
-      ∙ occurs n (map numberOf l) (complete-distinct tasks n l c) (all-numbers tasks n l a) (length-map l numberOf ∙ e) x low high
+-- n of them are all
+pub full : (n x : ℕ) → 1 ≤ x → x ≤ n → (l : List ℕ) → completeIn n l ≡ true → length l ≡ n → occurs x l ≡ true
+full n x low high l c e = there n l (complete-distinct n l c) (complete-range n l c) e x low high

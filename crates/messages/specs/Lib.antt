@@ -1,12 +1,13 @@
 -- What the bytes mean, and what the contracts promise of it.
 pub mod Pending
 pub mod Changes
--- Laws: of lists, of mailboxes, of records, of a complete table.
+-- Laws: of lists, of mailboxes, of records, of a full table.
 pub mod Lists
 pub mod Mailboxes
 pub mod Records
-pub mod Complete
 pub mod Full
+-- What is complete, by the mailboxes.
+pub mod Counted
 -- The loop that tests for a complete table.
 pub mod Marks
 pub mod Checks

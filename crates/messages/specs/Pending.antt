@@ -1,7 +1,7 @@
 -- The pending messages of all mailboxes: records of four bytes, receiver, number, sender, semaphore, in the order in which they lie.
--- A task's mailbox is what is pending for it, in that order.
+-- A task's mailbox is what is pending for it, in that order. A receiver that is no task is read as task 1, so that every record lies in a mailbox.
 use Prim.Native.Nat.{ℕ, suc}
-use mathlib.Core.Bool.{Bool, true, not, _&&_}
+use mathlib.Core.Bool.{Bool, true, cond, not, _&&_}
 use mathlib.Core.List.{List, [], _∷_, map}
 use lib.Dec.{ltb, eqb}
 use lib.ListN.{getD}
@@ -16,22 +16,39 @@ pub record Pending : Type 0 where
   pub to : ℕ
   pub message : Message
 
+abbrev pub letter : (number sender semaphore : ℕ) → Message
+letter x s b = record { number = x; sender = s; semaphore = b }
+
 abbrev pub pending : (to number sender semaphore : ℕ) → Pending
-pending t x s b = record { to = t; message = record { number = x; sender = s; semaphore = b } }
+pending t x s b = record { to = t; message = letter x s b }
 
 abbrev pub numberOf : Pending → ℕ
 numberOf p = p .message .number
 
--- what four bytes mean
-abbrev pub pendingOf : List ℕ → Pending
-pendingOf r = pending (getD r 0 0) (getD r 1 0) (getD r 2 0) (getD r 3 0)
+-- ---- what four bytes mean where there are so many tasks
+
+abbrev pub receiver : (tasks b : ℕ) → ℕ
+receiver tasks b = cond (within 1 tasks b) b 1
+
+abbrev pub letterOf : List ℕ → Message
+letterOf r = letter (getD r 1 0) (getD r 2 0) (getD r 3 0)
+
+abbrev pub pendingOf : ℕ → List ℕ → Pending
+pendingOf tasks r = record { to = receiver tasks (getD r 0 0); message = letterOf r }
 
 -- record k, and the first n records
-unfoldable pub pendingAt : ℕ → List ℕ → Pending
-pendingAt k d = pendingOf (rowAt 4 k d)
+unfoldable pub pendingAt : (tasks k : ℕ) → List ℕ → Pending
+pendingAt tasks k d = pendingOf tasks (rowAt 4 k d)
 
-unfoldable pub pendingIn : ℕ → List ℕ → List Pending
-pendingIn n d = map pendingOf (rowsOf 4 n d)
+unfoldable pub pendingIn : (tasks n : ℕ) → List ℕ → List Pending
+pendingIn tasks n d = map (pendingOf tasks) (rowsOf 4 n d)
+
+-- the message of record k, and the numbers of the first n
+unfoldable pub letterAt : ℕ → List ℕ → Message
+letterAt k d = letterOf (rowAt 4 k d)
+
+unfoldable pub numbersIn : ℕ → List ℕ → List ℕ
+numbersIn n d = map (λ r. getD r 1 0) (rowsOf 4 n d)
 
 -- ---- mailboxes
 
@@ -47,10 +64,6 @@ mailboxesOf n l = tab n (λ i. mailboxOf (suc i) l)
 
 abbrev pub numbered : ℕ → Message → Bool
 numbered x m = eqb (m .number) x
-
--- the message of number x, for a task 1 to n
-abbrev pub heldBy : (n x : ℕ) → Pending → Bool
-heldBy n x p = within 1 n (p .to) && numbered x (p .message)
 
 -- ---- places
 
@@ -72,14 +85,13 @@ placeOf t a l = firstOf (wantedBy t a) l
 
 -- ---- a full table
 
--- the receiver is a task 1 to tasks, the number a message 1 to n
-abbrev pub inRange : (tasks n : ℕ) → Pending → Bool
-inRange tasks n p = within 1 tasks (p .to) && within 1 n (numberOf p)
+abbrev pub occurs : ℕ → List ℕ → Bool
+occurs x l = any (λ y. eqb y x) l
 
 unfoldable pub distinct : List ℕ → Bool
 distinct [] = true
-distinct (x ∷ xs) = not (any (λ y. eqb y x) xs) && distinct xs
+distinct (x ∷ xs) = not (occurs x xs) && distinct xs
 
--- all are in range, and no number occurs twice: n records that pass are all n messages
-unfoldable pub completeIn : (tasks n : ℕ) → List Pending → Bool
-completeIn tasks n l = all (inRange tasks n) l && distinct (map numberOf l)
+-- all numbers are 1 to n, and none occurs twice: n numbers that pass are those of all n messages
+unfoldable pub completeIn : ℕ → List ℕ → Bool
+completeIn n l = all (within 1 n) l && distinct l

@@ -1,133 +1,198 @@
 -- Records and their bytes: what the searches find and what the changes of rows are on mailboxes.
-use mathlib.Core.Path.{_≡_, sym, ap, _∙_}
-use mathlib.Core.Bool.{Bool, true, false, not, _||_, and-false, and-true}
-use mathlib.Core.List.{List, [], map}
+use mathlib.Core.Path.{_≡_, refl, sym, ap, ap₂, _∙_}
+use mathlib.Core.Bool.{Bool, true, false, cond, not, _&&_, _||_}
+use mathlib.Core.List.{List, [], _∷_, map}
 use mathlib.Core.Option.{none, some}
 use Prim.Native.Nat.{ℕ, _+_, _-_, _*_, _<_, _≤_}
 use native.Mathlib.Nat.{add-zero, zero-add}
 use native.Mathlib.Omega.{arith}
 use lib.Dec.{ltb, eqb}
-use borrow.Author.Tests.{eq-eqb, ne-eqb}
+use borrow.Author.Tests.{eq-eqb, ne-eqb, le-leb}
 use lib.ListN.{length, getD, drop, length-map, List·getD-map}
 use Rattle.ledger.specs.Lists.{within, any, keep, find}
 use Rattle.ledger.specs.Services.{wanted}
 use Rattle.rows.specs.Rows.{rowsOf, insertAt, removeAt, getD-row, getD-rows, length-rows, map-insertAt}
 use Rattle.rows.specs.First.{firstOf, first-le, first-here, first-on, first-end, keepFrom, keep-on, keep-out, keep-end, map-removeAt, any-is}
-use Rattle.messages.specs.Pending.{Pending, pending, pendingOf, pendingAt, pendingIn, for, mailboxOf, mailboxesOf, numbered, heldBy, behind, placeFor, wantedBy, placeOf}
-use Rattle.messages.specs.Changes.{Inserted, Found, Taken, Emptied}
+use Rattle.messages.specs.Lists.{any-map, any-ext}
+use Rattle.messages.specs.Pending.{Pending, letter, pending, receiver, pendingOf, pendingAt, pendingIn, letterAt, numbersIn, for, mailboxOf, mailboxesOf, numbered, behind, placeFor, wantedBy, placeOf, occurs}
+use Rattle.messages.specs.Changes.{Inserted, Found, Removed, Taken, Emptied}
 use Rattle.messages.specs.Mailboxes.{mailbox-insert, mailbox-insert-other, mailbox-remove, mailbox-remove-other, mailbox-find, mailbox-find-none, mailbox-empty, mailbox-empty-other, mailboxes-any}
 
-pub pending-length : (n : ℕ) (d : List ℕ) → length (pendingIn n d) ≡ n
-unfolding pendingIn
-pending-length n d = length-map (rowsOf 4 n d) pendingOf ∙ length-rows 4 n d
+-- ---- the task that a receiver's byte means
 
-pub pending-at : (n k : ℕ) (d : List ℕ) → k < n → getD (pendingIn n d) k (pendingOf []) ≡ pendingAt k d
-unfolding pendingIn pendingAt
-pending-at n k d h = List·getD-map pendingOf (rowsOf 4 n d) k [] ∙ ap pendingOf (getD-rows 4 n k d h)
+module _ (T b : ℕ) where
+  pub means-task : 1 ≤ b → b ≤ T → receiver T b ≡ b
+  means-task l h = rw (le-leb 1 b l, le-leb b T h)
 
--- record k, byte by byte
-pub pending-bytes : (k : ℕ) (d : List ℕ) → pending (getD d (k * 4) 0) (getD d (k * 4 + 1) 0) (getD d (k * 4 + 2) 0) (getD d (k * 4 + 3) 0) ≡ pendingAt k d
-unfolding pendingAt
-pending-bytes k d =
-    sym (simp (getD-row 4 k 0 d (omega arith), getD-row 4 k 1 d (omega arith), getD-row 4 k 2 d (omega arith), getD-row 4 k 3 d (omega arith), add-zero))
+  -- it is one of the tasks
+  pub means-one : 1 ≤ T → within 1 T (receiver T b) ≡ true
+  means-one h = go (within 1 T b) refl
+    where
+      go : (w : Bool) → within 1 T b ≡ w → within 1 T (cond w b 1) ≡ true
+      go true e = e
+      go false e = rw (le-leb 1 T h)
+
+  module _ (t : ℕ) where
+    means-own : 1 ≤ t → t ≤ T → b ≡ t → true ≡ eqb (receiver T b) t
+    means-own l h e = sym (eq-eqb (receiver T b) t (means-task (omega arith) (omega arith) ∙ e))
+
+    means-other : (b ≡ t → ⊥) → (t ≡ 1 → ⊥) → false ≡ eqb (receiver T b) t
+    means-other n m = go (within 1 T b)
+      where
+        go : (w : Bool) → false ≡ eqb (cond w b 1) t
+        go true = sym (ne-eqb b t n)
+        go false = sym (ne-eqb 1 t (λ e. m (sym e)))
+
+    means-first : (b ≡ t → ⊥) → t ≡ 1 → (w : Bool) → not w ≡ eqb (cond w b 1) t
+    means-first n e true = sym (ne-eqb b t n)
+    means-first n e false = sym (eq-eqb 1 t (sym e))
+
+-- ---- records, byte by byte
+
+module _ (T : ℕ) where
+  pub pending-length : (n : ℕ) (d : List ℕ) → length (pendingIn T n d) ≡ n
+  unfolding pendingIn
+  pending-length n d = length-map (rowsOf 4 n d) (pendingOf T) ∙ length-rows 4 n d
+
+  pub pending-at : (n k : ℕ) (d : List ℕ) → k < n → getD (pendingIn T n d) k (pendingOf T []) ≡ pendingAt T k d
+  unfolding pendingIn pendingAt
+  pending-at n k d h = List·getD-map (pendingOf T) (rowsOf 4 n d) k [] ∙ ap (pendingOf T) (getD-rows 4 n k d h)
+
+  pending-bytes : (k : ℕ) (d : List ℕ)
+      → pending (receiver T (getD d (k * 4) 0)) (getD d (k * 4 + 1) 0) (getD d (k * 4 + 2) 0) (getD d (k * 4 + 3) 0) ≡ pendingAt T k d
+  unfolding pendingAt
+  pending-bytes k d =
+      sym (simp (getD-row 4 k 0 d (omega arith), getD-row 4 k 1 d (omega arith), getD-row 4 k 2 d (omega arith), getD-row 4 k 3 d (omega arith), add-zero))
+
+pub letter-bytes : (k : ℕ) (d : List ℕ) → letter (getD d (k * 4 + 1) 0) (getD d (k * 4 + 2) 0) (getD d (k * 4 + 3) 0) ≡ letterAt k d
+unfolding letterAt
+letter-bytes k d = sym (simp (getD-row 4 k 1 d (omega arith), getD-row 4 k 2 d (omega arith), getD-row 4 k 3 d (omega arith)))
+
+pub number-length : (n : ℕ) (d : List ℕ) → length (numbersIn n d) ≡ n
+unfolding numbersIn
+number-length n d = length-map (rowsOf 4 n d) (λ r. getD r 1 0) ∙ length-rows 4 n d
+
+pub number-at : (n k : ℕ) (d : List ℕ) → k < n → getD (numbersIn n d) k 0 ≡ getD d (k * 4 + 1) 0
+unfolding numbersIn
+number-at n k d h =
+    List·getD-map (λ (r : List ℕ). getD r 1 0) (rowsOf 4 n d) k [] ∙ ap (λ (r : List ℕ). getD r 1 0) (getD-rows 4 n k d h) ∙ getD-row 4 k 1 d (omega arith)
 
 -- ---- record k, tested by its bytes
 
-module _ (k : ℕ) (d : List ℕ) where
-  pub for-read : (t : ℕ) → eqb (getD d (k * 4) 0) t ≡ for t (pendingAt k d)
-  for-read t = ap (for t) (pending-bytes k d)
+module _ (T k : ℕ) (d : List ℕ) (t : ℕ) where
+  for-read : eqb (receiver T (getD d (k * 4) 0)) t ≡ for t (pendingAt T k d)
+  for-read = ap (for t) (pending-bytes T k d)
 
-  -- a record for another task is not the one looked for
-  module _ (t : ℕ) (n : getD d (k * 4) 0 ≡ t → ⊥) where
-    pub behind-other : (s : ℕ) → false ≡ behind t s (pendingAt k d)
-    behind-other s = sym (rw (ne-eqb (getD d (k * 4) 0) t n)) ∙ ap (behind t s) (pending-bytes k d)
+  pub for-own : 1 ≤ t → t ≤ T → getD d (k * 4) 0 ≡ t → true ≡ for t (pendingAt T k d)
+  for-own l h e = means-own T (getD d (k * 4) 0) t l h e ∙ for-read
 
-    pub wanted-other : (a : ℕ) → false ≡ wantedBy t a (pendingAt k d)
-    wanted-other a = sym (rw (ne-eqb (getD d (k * 4) 0) t n)) ∙ ap (wantedBy t a) (pending-bytes k d)
+  pub for-other : (getD d (k * 4) 0 ≡ t → ⊥) → (t ≡ 1 → ⊥) → false ≡ for t (pendingAt T k d)
+  for-other n m = means-other T (getD d (k * 4) 0) t n m ∙ for-read
 
-  module _ (t : ℕ) (e : getD d (k * 4) 0 ≡ t) where
-    pub behind-own : (s : ℕ) → ltb s (getD d (k * 4 + 2) 0) ≡ behind t s (pendingAt k d)
-    behind-own s = sym (rw (eq-eqb (getD d (k * 4) 0) t e)) ∙ ap (behind t s) (pending-bytes k d)
+  pub for-first : (getD d (k * 4) 0 ≡ t → ⊥) → t ≡ 1 → {w : Bool} → w ≡ within 1 T (getD d (k * 4) 0) → not w ≡ for t (pendingAt T k d)
+  for-first n e q = ap not q ∙ means-first T (getD d (k * 4) 0) t n e (within 1 T (getD d (k * 4) 0)) ∙ for-read
 
-    pub wanted-own : (a : ℕ) (b : Bool) → b ≡ (eqb a 0 || eqb a (getD d (k * 4 + 2) 0)) → b ≡ wantedBy t a (pendingAt k d)
-    unfolding wanted
-    wanted-own a b q = q ∙ sym (rw (eq-eqb (getD d (k * 4) 0) t e)) ∙ ap (wantedBy t a) (pending-bytes k d)
+  -- once that is told
+  module _ {f : Bool} (r : f ≡ for t (pendingAt T k d)) where
+    module _ (e : f ≡ false) where
+      pub behind-other : (s : ℕ) → false ≡ behind t s (pendingAt T k d)
+      behind-other s = sym (rw (sym r ∙ e))
 
-  -- and so is one with another number
-  module _ (tasks x : ℕ) where
-    pub held-other : (getD d (k * 4 + 1) 0 ≡ x → ⊥) → false ≡ heldBy tasks x (pendingAt k d)
-    held-other n = sym (rw (ne-eqb (getD d (k * 4 + 1) 0) x n) (and-false (within 1 tasks (getD d (k * 4) 0)))) ∙ ap (heldBy tasks x) (pending-bytes k d)
+      pub wanted-other : (a : ℕ) → false ≡ wantedBy t a (pendingAt T k d)
+      wanted-other a = sym (rw (sym r ∙ e))
 
-    pub held-own : getD d (k * 4 + 1) 0 ≡ x → within 1 tasks (getD d (k * 4) 0) ≡ heldBy tasks x (pendingAt k d)
-    held-own e = sym (rw (eq-eqb (getD d (k * 4 + 1) 0) x e) (and-true (within 1 tasks (getD d (k * 4) 0)))) ∙ ap (heldBy tasks x) (pending-bytes k d)
+    module _ (e : f ≡ true) where
+      sender-read : getD d (k * 4 + 2) 0 ≡ pendingAt T k d .message .sender
+      sender-read = ap (λ (p : Pending). p .message .sender) (pending-bytes T k d)
 
--- ---- a search that has come to record k
+      pub behind-own : (s : ℕ) → ltb s (getD d (k * 4 + 2) 0) ≡ behind t s (pendingAt T k d)
+      behind-own s = ap (ltb s) sender-read ∙ sym (rw (sym r ∙ e))
 
-pub record Searched (p : Pending → Bool) (n k : ℕ) (d : List ℕ) : Type 0 where
+      pub wanted-own : (a : ℕ) (b : Bool) → b ≡ (eqb a 0 || eqb a (getD d (k * 4 + 2) 0)) → b ≡ wantedBy t a (pendingAt T k d)
+      unfolding wanted
+      wanted-own a b q = q ∙ ap (λ (x : ℕ). eqb a 0 || eqb a x) sender-read ∙ sym (rw (sym r ∙ e))
+
+-- ---- a search in n items that has come to the one at k
+
+pub record Searched {A : Type 0} (p : A → Bool) (l : List A) (n k : ℕ) : Type 0 where
   pub inside : k ≤ n
-  pub so-far : firstOf p (pendingIn n d) ≡ k + firstOf p (drop k (pendingIn n d))
+  pub so-far : firstOf p l ≡ k + firstOf p (drop k l)
 
-pub search-start : (p : Pending → Bool) (n : ℕ) (d : List ℕ) → Searched p n 0 d
-search-start p n d = record { inside = omega arith; so-far = sym (zero-add _) }
+module _ {A : Type 0} (p : A → Bool) (l : List A) (n : ℕ) (many : length l ≡ n) where
+  pub search-start : Searched p l n 0
+  search-start = record { inside = omega arith; so-far = sym (zero-add _) }
 
-module _ (p : Pending → Bool) (n k : ℕ) (d : List ℕ) (s : Searched p n k d) where
-  module _ (h : k < n) {b : Bool} (t : b ≡ p (pendingAt k d)) where
-    tested : p (getD (pendingIn n d) k (pendingOf [])) ≡ b
-    tested = ap p (pending-at n k d h) ∙ sym t
+  module _ (k : ℕ) (s : Searched p l n k) where
+    module _ (h : k < n) (z : A) {u : A} (here : getD l k z ≡ u) {b : Bool} (t : b ≡ p u) where
+      tested : p (getD l k z) ≡ b
+      tested = ap p here ∙ sym t
 
-    pub search-here : b ≡ true → k ≡ firstOf p (pendingIn n d)
-    search-here y = first-here p (pendingIn n d) k (s .so-far) (pendingOf []) (rw pending-length h) (tested ∙ y)
+      pub search-here : b ≡ true → k ≡ firstOf p l
+      search-here y = first-here p l k (s .so-far) z (omega (arith, many)) (tested ∙ y)
 
-    pub search-on : b ≡ false → Searched p n (k + 1) d
-    search-on y = record { inside = omega arith; so-far = first-on p (pendingIn n d) k (s .so-far) (pendingOf []) (rw pending-length h) (tested ∙ y) }
+      pub search-on : b ≡ false → Searched p l n (k + 1)
+      search-on y = record { inside = omega arith; so-far = first-on p l k (s .so-far) z (omega (arith, many)) (tested ∙ y) }
 
-  pub search-end : n ≤ k → k ≡ firstOf p (pendingIn n d)
-  search-end h = first-end p (pendingIn n d) k (s .so-far) (rw pending-length h)
+    pub search-end : n ≤ k → k ≡ firstOf p l
+    search-end h = first-end p l k (s .so-far) (omega (arith, many))
 
 -- ---- what a search has found
 
-pub place-inside : (n t s k : ℕ) (d : List ℕ) → k ≡ placeFor t s (pendingIn n d) → k ≤ n
+pub place-inside : (T n t s k : ℕ) (d : List ℕ) → k ≡ placeFor t s (pendingIn T n d) → k ≤ n
 unfolding placeFor
-place-inside n t s k d e = omega (arith, first-le (behind t s) (pendingIn n d), pending-length n d)
+place-inside T n t s k d e = omega (arith, first-le (behind t s) (pendingIn T n d), pending-length T n d)
 
-module _ (n t a k : ℕ) (d : List ℕ) (f : Found n t a d k) where
-  pub found-some : k < n → find (wanted a) (mailboxOf t (pendingIn n d)) ≡ some (pendingAt k d .message)
+module _ (T n t a k : ℕ) (d : List ℕ) (f : Found T n t a d k) where
+  same-letter : pendingAt T k d .message ≡ letterAt k d
+  unfolding pendingAt letterAt
+  same-letter = refl
+
+  pub found-some : k < n → find (wanted a) (mailboxOf t (pendingIn T n d)) ≡ some (letterAt k d)
   found-some h =
-      mailbox-find t a (pendingIn n d) (pendingOf []) (rw (pending-length, ← f .place) h)
-      ∙ rw (← f .place) (ap (λ (p : Pending). some (p .message)) (pending-at n k d h))
+      mailbox-find t a (pendingIn T n d) (pendingOf T []) (rw (pending-length, ← f .place) h)
+      ∙ rw (← f .place) (ap (λ (p : Pending). some (p .message)) (pending-at T n k d h)) ∙ ap some same-letter
 
-  pub found-none : n ≤ k → find (wanted a) (mailboxOf t (pendingIn n d)) ≡ none
-  found-none h = mailbox-find-none t a (pendingIn n d) (rw (pending-length, ← f .place) h)
+  pub found-none : n ≤ k → find (wanted a) (mailboxOf t (pendingIn T n d)) ≡ none
+  found-none h = mailbox-find-none t a (pendingIn T n d) (rw (pending-length, ← f .place) h)
 
--- the message of number x lies in some mailbox 1 to tasks: the search for it ended before n
-pub found-held : (n tasks x k : ℕ) (d : List ℕ) → k ≡ firstOf (heldBy tasks x) (pendingIn n d) → any (any (numbered x)) (mailboxesOf tasks (pendingIn n d)) ≡ ltb k n
-found-held n tasks x k d e =
-    mailboxes-any tasks (numbered x) (pendingIn n d) ∙ any-is (heldBy tasks x) (pendingIn n d) ∙ rw (pending-length, ← e)
+-- the number x occurs: the search for it ended before n
+pub found-number : (n x k : ℕ) (d : List ℕ) → k ≡ firstOf (λ y. eqb y x) (numbersIn n d) → occurs x (numbersIn n d) ≡ ltb k n
+found-number n x k d e = any-is (λ y. eqb y x) (numbersIn n d) ∙ rw (number-length, ← e)
+
+-- then the message x lies in a mailbox: every record does
+pub held-is : (T n x : ℕ) (d : List ℕ) → 1 ≤ T → any (any (numbered x)) (mailboxesOf T (pendingIn T n d)) ≡ occurs x (numbersIn n d)
+unfolding pendingIn numbersIn
+held-is T n x d h =
+    let rows : List (List ℕ) = rowsOf 4 n d in
+    mailboxes-any T (numbered x) (map (pendingOf T) rows)
+    ∙ any-map (pendingOf T) (λ p. within 1 T (p .to) && numbered x (p .message)) rows
+    ∙ any-ext _ (λ r. eqb (getD r 1 0) x) (λ r. rw (means-one T (getD r 0 0) h)) rows
+    ∙ sym (any-map (λ r. getD r 1 0) (λ y. eqb y x) rows)
 
 -- ---- the changes of rows, on what is pending and on mailboxes
 
-pub inserted : (n k : ℕ) (row d d' : List ℕ) → k ≡ placeFor (getD row 0 0) (getD row 2 0) (pendingIn n d)
-    → rowsOf 4 (n + 1) d' ≡ insertAt k row (rowsOf 4 n d) → Inserted n (pendingOf row) d d'
+pub inserted : (T n k t x s b : ℕ) (d d' : List ℕ) → 1 ≤ t → t ≤ T → k ≡ placeFor t s (pendingIn T n d)
+    → rowsOf 4 (n + 1) d' ≡ insertAt k (t ∷ x ∷ s ∷ b ∷ []) (rowsOf 4 n d) → Inserted T n (pending t x s b) d d'
 unfolding pendingIn
-inserted n k row d d' at e =
-    let p : Pending = pendingOf row in
-    let l : List Pending = pendingIn n d in
-    let q : pendingIn (n + 1) d' ≡ insertAt (placeFor (p .to) (p .message .sender) l) p l =
-    ap (map pendingOf) e ∙ map-insertAt pendingOf k row (rowsOf 4 n d) ∙ ap (λ (i : ℕ). insertAt i p l) at in
+inserted T n k t x s b d d' low high at e =
+    let p : Pending = pending t x s b in
+    let l : List Pending = pendingIn T n d in
+    let m : pendingOf T (t ∷ x ∷ s ∷ b ∷ []) ≡ p = ap (λ (u : ℕ). pending u x s b) (means-task T t low high) in
+    let q : pendingIn T (n + 1) d' ≡ insertAt (placeFor t s l) p l =
+    ap (map (pendingOf T)) e ∙ map-insertAt (pendingOf T) k (t ∷ x ∷ s ∷ b ∷ []) (rowsOf 4 n d) ∙ ap₂ (λ (i : ℕ) (u : Pending). insertAt i u l) at m in
     record {
-      own = ap (mailboxOf (p .to)) q ∙ mailbox-insert p l;
-      others = λ u ne. ap (mailboxOf u) q ∙ mailbox-insert-other p l u (placeFor (p .to) (p .message .sender) l) ne;
-      all = q;
+      own = ap (mailboxOf t) q ∙ mailbox-insert p l;
+      others = λ u ne. ap (mailboxOf u) q ∙ mailbox-insert-other p l u (placeFor t s l) ne;
     }
 
-pub removed : (n k : ℕ) (d d' : List ℕ) → rowsOf 4 (n - 1) d' ≡ removeAt k (rowsOf 4 n d) → pendingIn (n - 1) d' ≡ removeAt k (pendingIn n d)
+pub removed : (n k : ℕ) (d d' : List ℕ) → rowsOf 4 (n - 1) d' ≡ removeAt k (rowsOf 4 n d) → Removed n k d d'
 unfolding pendingIn
-removed n k d d' e = ap (map pendingOf) e ∙ map-removeAt pendingOf k (rowsOf 4 n d)
+removed n k d d' e T = ap (map (pendingOf T)) e ∙ map-removeAt (pendingOf T) k (rowsOf 4 n d)
 
-pub taken : (n t a k : ℕ) (d d' : List ℕ) → Found n t a d k → k < n → pendingIn (n - 1) d' ≡ removeAt k (pendingIn n d) → Taken n t a d d'
-taken n t a k d d' f h e =
-    let l : List Pending = pendingIn n d in
-    let q : pendingIn (n - 1) d' ≡ removeAt (placeOf t a l) l = e ∙ ap (λ (i : ℕ). removeAt i l) (f .place) in
+pub taken : (T n t a k : ℕ) (d d' : List ℕ) → Found T n t a d k → k < n → pendingIn T (n - 1) d' ≡ removeAt k (pendingIn T n d) → Taken T n t a d d'
+taken T n t a k d d' f h e =
+    let l : List Pending = pendingIn T n d in
+    let q : pendingIn T (n - 1) d' ≡ removeAt (placeOf t a l) l = e ∙ ap (λ (i : ℕ). removeAt i l) (f .place) in
     let i : placeOf t a l < length l = rw (pending-length, ← f .place) h in
     record {
       own = ap (mailboxOf t) q ∙ mailbox-remove t a l;
@@ -139,37 +204,36 @@ taken n t a k d d' f h e =
 abbrev notFor : ℕ → Pending → Bool
 notFor t p = not (for t p)
 
-pub record Emptying (t m k : ℕ) (d : List ℕ) (l : List Pending) : Type 0 where
+pub record Emptying (T t m k : ℕ) (d : List ℕ) (l : List Pending) : Type 0 where
   pub inside : k ≤ m
-  pub so-far : keepFrom (notFor t) k (pendingIn m d) ≡ l
+  pub so-far : keepFrom (notFor t) k (pendingIn T m d) ≡ l
 
-module _ (t m k : ℕ) (d : List ℕ) (l : List Pending) (s : Emptying t m k d l) where
-  module _ (h : k < m) {b : Bool} (r : b ≡ for t (pendingAt k d)) where
-    tested-for : notFor t (getD (pendingIn m d) k (pendingOf [])) ≡ not b
-    tested-for = ap (notFor t) (pending-at m k d h) ∙ ap not (sym r)
+module _ (T t m k : ℕ) (d : List ℕ) (l : List Pending) (s : Emptying T t m k d l) where
+  module _ (h : k < m) {b : Bool} (r : b ≡ for t (pendingAt T k d)) where
+    tested-for : notFor t (getD (pendingIn T m d) k (pendingOf T [])) ≡ not b
+    tested-for = ap (notFor t) (pending-at T m k d h) ∙ ap not (sym r)
 
-    pub empty-out : (d' : List ℕ) → b ≡ true → pendingIn (m - 1) d' ≡ removeAt k (pendingIn m d) → Emptying t (m - 1) k d' l
+    pub empty-out : (d' : List ℕ) → b ≡ true → pendingIn T (m - 1) d' ≡ removeAt k (pendingIn T m d) → Emptying T t (m - 1) k d' l
     empty-out d' y q =
         record {
           inside = omega arith;
-          so-far = ap (keepFrom (notFor t) k) q ∙ keep-out (notFor t) (pendingIn m d) k (pendingOf []) (rw pending-length h) (tested-for ∙ ap not y) ∙ s .so-far;
+          so-far = ap (keepFrom (notFor t) k) q ∙ keep-out (notFor t) (pendingIn T m d) k (pendingOf T []) (rw pending-length h) (tested-for ∙ ap not y) ∙ s .so-far;
         }
 
-    pub empty-on : b ≡ false → Emptying t m (k + 1) d l
+    pub empty-on : b ≡ false → Emptying T t m (k + 1) d l
     empty-on y =
         record {
           inside = omega arith;
-          so-far = keep-on (notFor t) (pendingIn m d) k (pendingOf []) (rw pending-length h) (tested-for ∙ ap not y) ∙ s .so-far;
+          so-far = keep-on (notFor t) (pendingIn T m d) k (pendingOf T []) (rw pending-length h) (tested-for ∙ ap not y) ∙ s .so-far;
         }
 
-  pub empty-end : m ≤ k → pendingIn m d ≡ l
-  empty-end h = sym (keep-end (notFor t) (pendingIn m d) k (rw pending-length h)) ∙ s .so-far
+  pub empty-end : m ≤ k → pendingIn T m d ≡ l
+  empty-end h = sym (keep-end (notFor t) (pendingIn T m d) k (rw pending-length h)) ∙ s .so-far
 
-pub emptied : (n t r : ℕ) (d d' : List ℕ) → r ≤ n → pendingIn r d' ≡ keep (notFor t) (pendingIn n d) → Emptied n t d d' r
-emptied n t r d d' h q =
+pub emptied : (T n t r : ℕ) (d d' : List ℕ) → r ≤ n → pendingIn T r d' ≡ keep (notFor t) (pendingIn T n d) → Emptied T n t d d' r
+emptied T n t r d d' h q =
     record {
       left = h;
-      own = ap (mailboxOf t) q ∙ mailbox-empty t (pendingIn n d);
-      others = λ u ne. ap (mailboxOf u) q ∙ mailbox-empty-other t u ne (pendingIn n d);
-      all = q;
+      own = ap (mailboxOf t) q ∙ mailbox-empty t (pendingIn T n d);
+      others = λ u ne. ap (mailboxOf u) q ∙ mailbox-empty-other t u ne (pendingIn T n d);
     }

@@ -4,18 +4,16 @@ use tables::blocks::Block;
 use tables::shape::Shape;
 use tables::tasks::Outcome;
 use tables::tasks::Request;
-ghost use mathlib.Core.Path.{_≡_};
-ghost use mathlib.Core.Bool.{false};
 ghost use lib.ListN.{length};
 ghost use Rattle.tables.specs.Layout.{OneOf, Fits};
-ghost use Rattle.tables.specs.Shows.{Does, DoesIf};
+ghost use Rattle.tables.specs.Shows.{Does};
+ghost use Rattle.mailboxes.specs.Room.{Roomy};
 ghost use Rattle.ledger.specs.Ledger as ledger;
 ghost use Rattle.ledger.specs.Services as ledger_services;
-ghost use Rattle.ledger.specs.Refusals.{inAMailbox};
 
 pub fn send(tables: &mut [u8], shape: Shape, t: u8, a: u8, b: u8, x: u8)
-    requires { ⌜ Fits shape (length (now tables)) × OneOf (shape .tasks) t × OneOf (shape .tasks) a × OneOf (shape .messages) x ⌝ }
-    ensures { λ _. ⌜ DoesIf shape (now (tables .entry)) (now (tables .exit)) (λ c L. inAMailbox L x ≡ false) (λ c L. ledger_services.send t a b x L) ⌝ }
+    requires { ⌜ Fits shape (length (now tables)) × OneOf (shape .tasks) t × OneOf (shape .tasks) a × Roomy shape (now tables) ⌝ }
+    ensures { λ _. ⌜ Does shape (now (tables .entry)) (now (tables .exit)) (λ c L. ledger_services.send t a b x L) ⌝ }
 {
     mailboxes::insert(tables, shape, a, x, t, b);
     tables::blocks::set(tables, shape, a, Block::Message, false);
@@ -23,8 +21,8 @@ pub fn send(tables: &mut [u8], shape: Shape, t: u8, a: u8, b: u8, x: u8)
 }
 
 pub fn sendw(tables: &mut [u8], shape: Shape, t: u8, a: u8, b: u8, x: u8)
-    requires { ⌜ Fits shape (length (now tables)) × OneOf (shape .tasks) t × OneOf (shape .tasks) a × OneOf (shape .messages) x × OneOf (shape .semaphores) b ⌝ }
-    ensures { λ _. ⌜ DoesIf shape (now (tables .entry)) (now (tables .exit)) (λ c L. inAMailbox L x ≡ false) (λ c L. ledger_services.waitFor t b (ledger_services.send t a b x L)) ⌝ }
+    requires { ⌜ Fits shape (length (now tables)) × OneOf (shape .tasks) t × OneOf (shape .tasks) a × Roomy shape (now tables) × OneOf (shape .semaphores) b ⌝ }
+    ensures { λ _. ⌜ Does shape (now (tables .entry)) (now (tables .exit)) (λ c L. ledger_services.waitFor t b (ledger_services.send t a b x L)) ⌝ }
 {
     send(tables, shape, t, a, b, x);
     crate::semaphore::wait_for(tables, shape, t, b);

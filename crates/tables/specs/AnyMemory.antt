@@ -1,15 +1,13 @@
--- Every memory of the right sizes that keeps the structure rules shows some ledger: N is 0, its queues took nothing yet and put what
+-- Every memory of the right sizes shows some ledger: N is 0, its queues took nothing yet and put what
 -- they hold, and its timers are due at the tocks left.
 use mathlib.Core.Path.{_≡_, refl, ap}
-use mathlib.Core.Bool.{true}
 use mathlib.Core.List.{List, [], _∷_, map}
 use Prim.Native.Nat.{ℕ, zero, suc, _+_, _-_, _*_, _≤_}
 use native.Mathlib.Omega.{arith}
 use lib.ListN.{length, getD}
-use Rattle.messages.specs.Pending.{completeIn}
 use Rattle.tables.specs.declared.shape.Shape.{Shape}
 use Rattle.tables.specs.Layout.{regions}
-use Rattle.tables.specs.Shows.{tasksIn, semaphoresIn, mailboxesIn, queuesIn, pendingOf, timersOf, ticksIn, Of, Shows}
+use Rattle.tables.specs.Shows.{tasksIn, semaphoresIn, mailboxesIn, queuesIn, timersOf, ticksIn, Of, Shows}
 use Rattle.ledger.specs.Lists.{at}
 use Rattle.ledger.specs.Config.{Config}
 use Rattle.ledger.specs.Ledger.{Ledger, Queue, Timer, emptyQueue, queue, held}
@@ -54,9 +52,9 @@ dues L e (t ∷ l) =
     λ i. record { task = t .task; semaphore = t .semaphore; left = n i; period = t .period } ∷ dues L e l i
 
 pub shows-some : (c : Config) (s : Shape) (d z w : List ℕ) → Of c s → s .end ≤ length d → 16 * s .tasks ≤ length z → 1 + 10 * s .timers ≤ length w
-    → completeIn (c .T) (c .G) (pendingOf c (regions s d)) ≡ true → Shows c s (some c s d z w) d z w
+    → Shows c s (some c s d z w) d z w
 unfolding some queue at
-shows-some c s d z w o r k h m =
+shows-some c s d z w o r k h =
     let q = queuesIn c (regions s d) in
     let nothing : (n : ℕ) → queue (some c s d z w) n .taken ≡ 0 = λ n. elim n [ zero ↦ refl | suc n ↦ took-nothing q n ] in
     record {
@@ -72,6 +70,5 @@ shows-some c s d z w o r k h m =
         queues = holders q;
         taken = λ n. omega (arith, nothing n);
         timers = dues (some c s d z w) refl (timersOf c w);
-        messages = m;
       };
     }

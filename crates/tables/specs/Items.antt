@@ -1,12 +1,11 @@
 -- One item of the memory is new: what the ledger is that the memory then shows. Every law takes the new regions and what they say.
 use mathlib.Core.Path.{_≡_, sym, ap, _∙_}
-use mathlib.Core.Bool.{true}
 use mathlib.Core.List.{List, [], map}
 use Prim.Native.Nat.{ℕ, suc, _-_, _<_, _≤_}
 use native.Mathlib.Omega.{arith}
 use lib.ListN.{length, getD}
 use Rattle.rows.specs.Tab.{tab-at, tab-put, at-map, map-put, at-every}
-use Rattle.messages.specs.Pending.{pendingIn, mailboxOf, mailboxesOf, completeIn}
+use Rattle.messages.specs.Pending.{pendingIn, mailboxOf, mailboxesOf}
 use Rattle.ledger.specs.Lists.{at, put}
 use Rattle.ledger.specs.Config.{Config}
 use Rattle.ledger.specs.Ledger as ledger
@@ -55,7 +54,6 @@ module _ (c : Config) (L : Ledger) (p : Regions) (z w : List ℕ) (h : Shown c L
         queues = h .queues;
         taken = h .taken;
         timers = h .timers;
-        messages = h .messages;
       }
 
   -- ---- semaphores
@@ -63,7 +61,7 @@ module _ (c : Config) (L : Ledger) (p : Regions) (z w : List ℕ) (h : Shown c L
   pub semaphores-shown : (v : List ℕ) (x : List Semaphore) → x ≡ semaphoresIn c (withSemaphores v p) → Shown c (setSemaphores x L) (withSemaphores v p) z w
   unfolding setSemaphores tasksIn taskAt queuesIn heldAt pendingOf mailboxesIn ticksIn queue timerLeft withSemaphores
   semaphores-shown v x new =
-      record { ticks = h .ticks; tasks = h .tasks; semaphores = new; mailboxes = h .mailboxes; queues = h .queues; taken = h .taken; timers = h .timers; messages = h .messages }
+      record { ticks = h .ticks; tasks = h .tasks; semaphores = new; mailboxes = h .mailboxes; queues = h .queues; taken = h .taken; timers = h .timers }
 
   pub semaphore-shown : (v : List ℕ) (b : ℕ) (x : Semaphore) → 1 ≤ b → x ≡ semaphoreAt c (withSemaphores v p) (b - 1)
       → ((j : ℕ) → j < semaphoreCount c → (j ≡ b - 1 → ⊥) → semaphoreAt c p j ≡ semaphoreAt c (withSemaphores v p) j) → Shown c (setSemaphore b x L) (withSemaphores v p) z w
@@ -92,7 +90,6 @@ module _ (c : Config) (L : Ledger) (p : Regions) (z w : List ℕ) (h : Shown c L
         queues = map-put held (L .queues) q v ∙ ap (λ (l : List (List (List ℕ))). put l q (held v)) (h .queues) ∙ tab-put (c .Q) q (heldAt c p) (heldAt c (withQueues r b p)) (held v) x other (λ e. new);
         taken = at-every (λ (k : Queue). k .taken ≤ length (k .put)) (L .queues) q v ledger.emptyQueue few (h .taken);
         timers = h .timers;
-        messages = h .messages;
       }
 
   -- ---- mailboxes. The ticks left are the same
@@ -104,10 +101,9 @@ module _ (c : Config) (L : Ledger) (p : Regions) (z w : List ℕ) (h : Shown c L
       ap (λ (l : List (List Message)). at l t []) (h .mailboxes) ∙ tab-at (c .T) t (λ i. mailboxOf (suc i) (pendingOf c p)) [] a b ∙ ap (λ (i : ℕ). mailboxOf i (pendingOf c p)) e
 
   pub mailbox-shown : (k m : List ℕ) (t : ℕ) (v : List Message) → getD k 0 0 ≡ getD (p .clock) 0 0 → 1 ≤ t → v ≡ mailboxOf t (pendingOf c (withMessages k m p))
-      → ((j : ℕ) → (j ≡ t → ⊥) → mailboxOf j (pendingOf c p) ≡ mailboxOf j (pendingOf c (withMessages k m p)))
-      → completeIn (c .T) (c .G) (pendingOf c (withMessages k m p)) ≡ true → Shown c (setMailbox t v L) (withMessages k m p) z w
+      → ((j : ℕ) → (j ≡ t → ⊥) → mailboxOf j (pendingOf c p) ≡ mailboxOf j (pendingOf c (withMessages k m p))) → Shown c (setMailbox t v L) (withMessages k m p) z w
   unfolding setMailbox tasksIn taskAt semaphoresIn semaphoreAt queuesIn heldAt mailboxesIn mailboxesOf ticksIn queue timerLeft withMessages
-  mailbox-shown k m t v same x new other all =
+  mailbox-shown k m t v same x new other =
       let f : ℕ → List Message = λ i. mailboxOf (suc i) (pendingOf c p) in
       let g : ℕ → List Message = λ i. mailboxOf (suc i) (pendingOf c (withMessages k m p)) in
       let e : suc (t - 1) ≡ t = omega arith in
@@ -119,7 +115,6 @@ module _ (c : Config) (L : Ledger) (p : Regions) (z w : List ℕ) (h : Shown c L
         queues = h .queues;
         taken = h .taken;
         timers = h .timers;
-        messages = all;
       }
 
   -- ---- timers and the clock
@@ -127,13 +122,13 @@ module _ (c : Config) (L : Ledger) (p : Regions) (z w : List ℕ) (h : Shown c L
   pub timers-shown : (w' : List ℕ) (v : List Timer) → map (timerLeft L) v ≡ timersOf c w' → Shown c (setTimers v L) p z w'
   unfolding setTimers queue timerLeft
   timers-shown w' v new =
-      record { ticks = h .ticks; tasks = h .tasks; semaphores = h .semaphores; mailboxes = h .mailboxes; queues = h .queues; taken = h .taken; timers = new; messages = h .messages }
+      record { ticks = h .ticks; tasks = h .tasks; semaphores = h .semaphores; mailboxes = h .mailboxes; queues = h .queues; taken = h .taken; timers = new }
 
   pub clock-shown : (k w' : List ℕ) (N ticks : ℕ) → getD k 1 0 ≡ getD (p .clock) 1 0 → ticks ≡ ticksIn c (withMessages k (p .messages) p)
       → map (timerLeft (setClock N ticks L)) (L .timers) ≡ timersOf c w' → Shown c (setClock N ticks L) (withMessages k (p .messages) p) z w'
   unfolding setClock tasksIn taskAt semaphoresIn semaphoreAt queuesIn heldAt pendingOf mailboxesIn queue timerLeft withMessages
   clock-shown k w' N ticks same new left =
-      let e : pendingIn (countOf (c .G) (getD (p .clock) 1 0)) (p .messages) ≡ pendingIn (countOf (c .G) (getD k 1 0)) (p .messages) = ap (λ (n : ℕ). pendingIn (countOf (c .G) n) (p .messages)) (sym same) in
+      let e : pendingIn (c .T) (countOf (c .G) (getD (p .clock) 1 0)) (p .messages) ≡ pendingIn (c .T) (countOf (c .G) (getD k 1 0)) (p .messages) = ap (λ (n : ℕ). pendingIn (c .T) (countOf (c .G) n) (p .messages)) (sym same) in
       record {
         ticks = new;
         tasks = h .tasks;
@@ -142,5 +137,4 @@ module _ (c : Config) (L : Ledger) (p : Regions) (z w : List ℕ) (h : Shown c L
         queues = h .queues;
         taken = h .taken;
         timers = left;
-        messages = ap (completeIn (c .T) (c .G)) (sym e) ∙ h .messages;
       }

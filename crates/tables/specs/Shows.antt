@@ -1,6 +1,5 @@
 -- Which ledgers the memory shows, and what it is for a function over the memory to do what the ledger does.
 use mathlib.Core.Path.{_≡_, sym, ap, _∙_, subst}
-use mathlib.Core.Bool.{true}
 use mathlib.Core.List.{List, map}
 use Prim.Native.Nat.{ℕ, suc, _+_, _-_, _*_, _≤_}
 use lib.ListN.{length, getD, take, drop}
@@ -8,7 +7,7 @@ use Rattle.rows.specs.Splice.{cut}
 use Rattle.rows.specs.Rows.{rowAt}
 use Rattle.rows.specs.Tab.{tab}
 use Rattle.rings.specs.Ring.{holds}
-use Rattle.messages.specs.Pending.{Pending, pendingIn, mailboxesOf, completeIn}
+use Rattle.messages.specs.Pending.{Pending, pendingIn, mailboxesOf}
 use Rattle.timers.specs.Timers.{timersIn}
 use Rattle.tables.specs.declared.shape.Shape.{Shape}
 use Rattle.tables.specs.declared.blocks.Blocks.{Blocks}
@@ -62,7 +61,7 @@ queuesIn c p = tab (c .Q) (heldAt c p)
 
 -- the second byte of the clock's region counts the messages, the G records at most
 unfoldable pub pendingOf : Config → Regions → List Pending
-pendingOf c p = pendingIn (countOf (c .G) (getD (p .clock) 1 0)) (p .messages)
+pendingOf c p = pendingIn (c .T) (countOf (c .G) (getD (p .clock) 1 0)) (p .messages)
 
 unfoldable pub mailboxesIn : Config → Regions → List (List Message)
 mailboxesIn c p = mailboxesOf (c .T) (pendingOf c p)
@@ -76,7 +75,6 @@ unfoldable pub ticksIn : Config → Regions → ℕ
 ticksIn c p = c .K - leftOf (c .K) (getD (p .clock) 0 0)
 
 -- ---- the ledger L is shown: every item that demand 3 compares. Its history and N are what the memory can't show.
--- No message lies twice in the memory, and each is 1 to G and for a task 1 to T
 pub record Shown (c : Config) (L : Ledger) (p : Regions) (z w : List ℕ) : Type 0 where
   pub ticks : L .ticks ≡ ticksIn c p
   pub tasks : L .tasks ≡ tasksIn c p z
@@ -85,7 +83,6 @@ pub record Shown (c : Config) (L : Ledger) (p : Regions) (z w : List ℕ) : Type
   pub queues : map held (L .queues) ≡ queuesIn c p
   pub taken : (q : ℕ) → queue L q .taken ≤ length (queue L q .put)
   pub timers : map (timerLeft L) (L .timers) ≡ timersOf c w
-  pub messages : completeIn (c .T) (c .G) (pendingOf c p) ≡ true
 
 -- the shape is the configuration's, and the configuration one that document 01 accepts
 pub record Of (c : Config) (s : Shape) : Type 0 where

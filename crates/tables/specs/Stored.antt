@@ -4,8 +4,8 @@ use mathlib.Core.List.{List}
 use Prim.Native.Nat.{ℕ, _+_, _-_, _*_, _<_, _≤_}
 use native.Mathlib.Omega.{arith}
 use lib.ListN.{length, getD, set, length-set}
-use lib.Seq.{getD-set-same, getD-set-other}
-use borrow.Rule.Slice.PartMut.{putMid}
+use lib.Seq.{getD-take, getD-set-same, getD-set-other}
+use borrow.Rule.Slice.PartMut.{putMid, take-put}
 use Rattle.rows.specs.Splice.{cut, splice}
 use Rattle.rows.specs.Laws.{length-splice, lent-back}
 use Rattle.rows.specs.Rows.{rowAt, elems, drop-elems, length-row, row-fits, row-inside, row-outside}
@@ -37,6 +37,11 @@ shows-as c s L d z w d' z' p h ld lz e L' g =
       counted = h .counted;
       shown = subst (λ (x : Regions). Shown c L' x z' w) (sym e) g;
     }
+
+-- a byte before those that were lent stays
+pub before-stays : (a k i : ℕ) (d ys : List ℕ) → i < a → a ≤ length d → getD (putMid a k d ys) i 0 ≡ getD d i 0
+before-stays a k i d ys h f =
+    sym (getD-take a (putMid a k d ys) i 0 h) ∙ ap (λ (l : List ℕ). getD l i 0) (take-put a k d ys f) ∙ getD-take a d i 0 h
 
 -- ---- a task's record with another outcome, with another request
 

@@ -9,7 +9,7 @@ ghost use Prim.Native.Nat.{_≤_};
 ghost use lib.ListN.{length, getD};
 ghost use Rattle.rows.specs.Splice.{splice};
 ghost use Rattle.tables.specs.Decode.{outcomeOf, outcomeWritten, outcomeBytes, requestOf, requestKind, requestArgument, requestBytes, viewOutcome, viewRequest};
-ghost use Rattle.tables.specs.Layout.{OneOf, Fits};
+ghost use Rattle.tables.specs.Layout.{OneOf, Fits, countAt};
 ghost use Rattle.tables.specs.Encoded.{AsksFor};
 ghost use Rattle.tables.specs.Shows.{recordIn, waitingIn, AsWide, Does, DoesIf, Tells};
 ghost use Rattle.ledger.specs.Ledger as ledger;
@@ -201,10 +201,11 @@ fn put_request(row: &mut [u8], q: Request)
     row[5] = request_argument(q);
 }
 
-// An entry is what the slot holds.
+// An entry is what the slot holds. The number of messages stays, and with it the room for one more.
 pub fn store_outcome(tables: &mut [u8], shape: Shape, t: u8, o: Outcome)
     requires { ⌜ Fits shape (length (now tables)) × OneOf (shape .tasks) t ⌝ }
-    ensures { λ _. ⌜ Does shape (now (tables .entry)) (now (tables .exit)) (λ c L. setOutcome t (viewOutcome o (task L t .slot)) L) ⌝ }
+    ensures does { λ _. ⌜ Does shape (now (tables .entry)) (now (tables .exit)) (λ c L. setOutcome t (viewOutcome o (task L t .slot)) L) ⌝ }
+    ensures count { λ _. ⌜ getD (now (tables .exit)) countAt 0 ≡ getD (now (tables .entry)) countAt 0 ⌝ }
 {
     let at = shape.recordat + (t as usize - 1) * 6;
     let end = at + 6;

@@ -25,7 +25,7 @@ part-remove-all-end c = lies (c .before .before .before .pre .0) .within
 remove-all-requires : tie.Need-remove-all-requires
 remove-all-requires c κs =
     let s = c .before .before .before .before in
-    omega (arith, bytes-length (now (s .args .tables)) (s .pre .0), c .before .count .ensures .1)
+    (omega (arith, bytes-length (now (s .args .tables)) (s .pre .0), c .before .count .ensures .1), s .pre .1 .0, s .pre .1 .1)
 
 cast-tables : tie.Need-cast-tables
 cast-tables c =

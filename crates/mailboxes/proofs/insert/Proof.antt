@@ -1,8 +1,8 @@
--- A message that lies in no mailbox has room; the region came back with its record in it, and the count is one more.
+-- There is room; the region came back with the message's record in it, and the count is one more.
 use native.Mathlib.Omega.{arith}
 use denote.Ref.{now}
 use Rattle.mailboxes.specs.Mail.{lies, bytes-length}
-use Rattle.mailboxes.specs.Operations.{insert-room, insert-done}
+use Rattle.mailboxes.specs.Operations.{insert-done}
 use borrow.Author.Needs.{needs}
 use Rattle.mailboxes.proofs.insert.Statement.{statement}
 use Rattle.mailboxes.proofs.insert.Tie as tie
@@ -13,46 +13,43 @@ slice-read-count c = lies (c .before .before .pre .0) .counted
 count-requires : tie.Need-count-requires
 count-requires c κs = search needs
 
-returns : tie.Need-returns
-returns c =
-    let s = c .before .before .before .before .before in
-    let a = s .args in
-    let n = c .before .before .count in
-    λ g L z w new h. absurd (insert-room g (a .shape) L (now (a .tables)) z w h (n .result) (n .ensures .0) (a .number) (s .pre .2) new (n .ensures .1) (c .if1 .taken))
-
 sub-insert : tie.Need-sub-insert
-sub-insert c = lies (c .before .before .before .before .before .pre .0) .start
+sub-insert c = lies (c .before .before .before .pre .0) .start
 
 part-insert-start : tie.Need-part-insert-start
-part-insert-start c = lies (c .before .before .before .before .before .pre .0) .start
+part-insert-start c = lies (c .before .before .before .pre .0) .start
 
 part-insert-end : tie.Need-part-insert-end
-part-insert-end c = lies (c .before .before .before .before .before .pre .0) .within
+part-insert-end c = lies (c .before .before .before .pre .0) .within
 
 insert-requires : tie.Need-insert-requires
 insert-requires c κs =
-    let s = c .before .before .before .before .before .before in
-    omega (arith, bytes-length (now (s .args .tables)) (s .pre .0), c .before .if1 .left)
+    let s = c .before .before .before .before in
+    (omega (arith, bytes-length (now (s .args .tables)) (s .pre .0), c .before .count .ensures .0, s .pre .2), s .pre .1 .0, s .pre .1 .1)
 
 add-tables : tie.Need-add-tables
-add-tables c = search needs
+add-tables c =
+    let s = c .before .before .before .before .before .before .before in
+    omega (arith, lies (s .pre .0) .most, c .before .before .before .before .count .ensures .1)
 
 cast-tables : tie.Need-cast-tables
-cast-tables c = let s = c .before .before .before .before .before .before .before .before .before in omega (arith, lies (s .pre .0) .most, c .before .before .before .before .if1 .left)
+cast-tables c =
+    let s = c .before .before .before .before .before .before .before in
+    omega (arith, lies (s .pre .0) .most, c .before .before .before .before .count .ensures .1)
 
 slice-write-tables : tie.Need-slice-write-tables
-slice-write-tables c = let s = c .before .before .before .before .before .before .before .before .before in omega (arith, lies (s .pre .0) .counted)
+slice-write-tables c = let s = c .before .before .before .before .before .before .before in omega (arith, lies (s .pre .0) .counted)
 
 same-length : tie.Need-same-length
 same-length c = search needs
 
-returns-2 : tie.Need-returns-2
-returns-2 c =
-    let s = c .before .before .before .before .before .before .before .before .before in
+returns : tie.Need-returns
+returns c =
+    let s = c .before .before .before .before .before .before .before in
     let a = s .args in
-    let n = c .before .before .before .before .before .before .count in
+    let n = c .before .before .before .before .count in
     let i = c .before .before .insert in
-    λ g L z w new h. insert-done g (a .shape) L (now (a .tables)) z w h (n .result) (n .ensures .0) (a .number) (s .pre .2) new (a .to) (a .sender) (a .semaphore) (i .last .0) (s .pre .1) (c .before .before .before .before .if1 .left) (i .kept .0) (i .ensures)
+    λ g L z w h. insert-done g (a .shape) L (now (a .tables)) z w h (n .result) (n .ensures .0) (a .to) (s .pre .1) (a .number) (a .sender) (a .semaphore) (i .last .0) (omega (arith, n .ensures .0, s .pre .2)) (i .kept .0) (i .ensures)
 
 pub insert-spec : {M : Type 1} → statement M
 insert-spec =
@@ -60,7 +57,6 @@ insert-spec =
     (tie.spec
     slice-read-count
     count-requires
-    returns
     sub-insert
     part-insert-start
     part-insert-end
@@ -69,4 +65,4 @@ insert-spec =
     cast-tables
     slice-write-tables
     same-length
-    returns-2)
+    returns)

@@ -1,7 +1,7 @@
 -- Nothing was found in the task's mailbox; or its first such record was, and the region came back without it, the count one less.
 use native.Mathlib.Omega.{arith}
 use denote.Ref.{now}
-use Rattle.messages.specs.Pending.{pending}
+use Rattle.messages.specs.Pending.{letter}
 use Rattle.mailboxes.specs.Received.{viewReceived, taken}
 use Rattle.mailboxes.specs.Mail.{lies, bytes-length}
 use Rattle.mailboxes.specs.Operations.{take-none, take-some, take-done}
@@ -27,7 +27,7 @@ part-find-end c = lies (c .before .before .before .before .pre .0) .within
 find-requires : tie.Need-find-requires
 find-requires c κs =
     let s = c .before .before .before .before .before in
-    omega (arith, bytes-length (now (s .args .tables)) (s .pre .0), c .before .before .count .ensures .1)
+    (omega (arith, bytes-length (now (s .args .tables)) (s .pre .0), c .before .before .count .ensures .1), s .pre .1 .0, s .pre .1 .1)
 
 same-length : tie.Need-same-length
 same-length c = search needs
@@ -95,7 +95,7 @@ returns-2 c =
     let i = c .before .before .before .before .before .before .before .if1 .left in
     let p = c .before .before .before .before .load in
     let m = c .before .before .remove in (
-      (λ g L z w h. take-some g (a .shape) L (now (a .tables)) z w h (n .result) (n .ensures .0) (a .t) (s .pre .1) (n .ensures .1) (a .from) (k .result) (k .ensures) (pending (p .result .to) (p .result .number) (p .result .sender) (p .result .semaphore)) i (p .ensures)),
+      (λ g L z w h. take-some g (a .shape) L (now (a .tables)) z w h (n .result) (n .ensures .0) (a .t) (s .pre .1) (n .ensures .1) (a .from) (k .result) (k .ensures) (letter (p .result .number) (p .result .sender) (p .result .semaphore)) i (p .ensures)),
       (λ g L z w h. take-done g (a .shape) L (now (a .tables)) z w h (n .result) (n .ensures .0) (a .t) (s .pre .1) (n .ensures .1) (a .from) (k .result) (k .ensures) (m .last .0) i (m .kept .0) (m .ensures)),
     )
 

@@ -2,29 +2,29 @@
 use Prim.Native.Nat.{_-_}
 use native.Mathlib.Omega.{arith}
 use denote.Ref.{now}
-use Rattle.messages.specs.Pending.{wantedBy, placeOf}
-use Rattle.messages.specs.Records.{Searched, search-start, search-here, search-on, search-end}
+use Rattle.messages.specs.Pending.{pendingIn, wantedBy, placeOf}
+use Rattle.messages.specs.Records.{pending-length, pending-at, Searched, search-start, search-here, search-on, search-end}
 use Rattle.messages.proofs.find.Statement.{statement}
 use Rattle.messages.proofs.find.Tie as tie
 
 abbrev Inv-loop : tie.InvT-loop
-Inv-loop b n to from k₀ k = Searched (wantedBy to from) n k b
+Inv-loop b n tasks to from k₀ k = Searched (wantedBy to from) (pendingIn tasks n b) n k
 
 abbrev μ-loop : tie.MeasureT-loop
-μ-loop b n to from k₀ k = n - k
+μ-loop b n tasks to from k₀ k = n - k
 
 loop-holds : tie.Need-loop-holds Inv-loop μ-loop
-loop-holds c = let a = c .before .args in search-start (wantedBy (a .to) (a .from)) (a .n) (now (a .b))
+loop-holds c = let a = c .before .args in search-start (wantedBy (a .to) (a .from)) (pendingIn (a .tasks) (a .n) (now (a .b))) (a .n) (pending-length (a .tasks) (a .n) (now (a .b)))
 
 is-wanted-requires : tie.Need-is-wanted-requires Inv-loop μ-loop
-is-wanted-requires c κs = omega arith
+is-wanted-requires c κs = let s = c .before .before .before in (omega arith, s .pre .1, s .pre .2)
 
 returns : tie.Need-returns Inv-loop μ-loop
 unfolding placeOf
 returns c =
     let a = c .before .before .before .before .before .args in
     let l = c .before .before .before .loop in
-    record { place = search-here (wantedBy (a .to) (a .from)) (a .n) (l .k) (now (a .b)) (l .inv) (c .before .before .loop-test .taken) (c .before .is-wanted .ensures) (c .if1 .taken); inside = l .inv .inside }
+    record { place = search-here (wantedBy (a .to) (a .from)) (pendingIn (a .tasks) (a .n) (now (a .b))) (a .n) (pending-length (a .tasks) (a .n) (now (a .b))) (l .k) (l .inv) (c .before .before .loop-test .taken) _ (pending-at (a .tasks) (a .n) (l .k) (now (a .b)) (c .before .before .loop-test .taken)) (c .before .is-wanted .ensures) (c .if1 .taken); inside = l .inv .inside }
 
 add-k : tie.Need-add-k Inv-loop μ-loop
 add-k c = omega arith
@@ -36,14 +36,14 @@ loop-again : tie.Need-loop-again Inv-loop μ-loop
 loop-again c =
     let a = c .before .before .before .before .before .args in
     let l = c .before .before .before .loop in
-    search-on (wantedBy (a .to) (a .from)) (a .n) (l .k) (now (a .b)) (l .inv) (c .before .before .loop-test .taken) (c .before .is-wanted .ensures) (c .if1 .left)
+    search-on (wantedBy (a .to) (a .from)) (pendingIn (a .tasks) (a .n) (now (a .b))) (a .n) (pending-length (a .tasks) (a .n) (now (a .b))) (l .k) (l .inv) (c .before .before .loop-test .taken) _ (pending-at (a .tasks) (a .n) (l .k) (now (a .b)) (c .before .before .loop-test .taken)) (c .before .is-wanted .ensures) (c .if1 .left)
 
 returns-2 : tie.Need-returns-2 Inv-loop μ-loop
 unfolding placeOf
 returns-2 c =
     let a = c .before .before .before .args in
     let l = c .before .loop in
-    record { place = search-end (wantedBy (a .to) (a .from)) (a .n) (l .k) (now (a .b)) (l .inv) (c .loop-test .left); inside = l .inv .inside }
+    record { place = search-end (wantedBy (a .to) (a .from)) (pendingIn (a .tasks) (a .n) (now (a .b))) (a .n) (pending-length (a .tasks) (a .n) (now (a .b))) (l .k) (l .inv) (c .loop-test .left); inside = l .inv .inside }
 
 pub find-spec : {M : Type 1} → statement M
 find-spec =

@@ -15,17 +15,18 @@ insert-at-requires : tie.Need-insert-at-requires
 insert-at-requires c κs =
     let a = c .before .before .before .before .before .args in
     let p = c .before .before .place in
-    (place-inside (a .n) (a .to) (a .sender) (p .result) (now (a .b)) (p .ensures), search needs, search needs)
+    (place-inside (a .tasks) (a .n) (a .to) (a .sender) (p .result) (now (a .b)) (p .ensures), search needs, search needs)
 
 same-length : tie.Need-same-length
 same-length c = search needs
 
 returns : tie.Need-returns
 returns c =
-    let a = c .before .before .before .before .before .before .before .before .args in
+    let s = c .before .before .before .before .before .before .before .before in
+    let a = s .args in
     let p = c .before .before .before .before .before .place in
     let i = c .before .before .insert-at in
-    inserted (a .n) (p .result) _ (now (a .b)) (i .last .0) (p .ensures) (i .ensures)
+    inserted (a .tasks) (a .n) (p .result) (a .to) (a .number) (a .sender) (a .semaphore) (now (a .b)) (i .last .0) (s .pre .1) (s .pre .2) (p .ensures) (i .ensures)
 
 pub insert-spec : {M : Type 1} → statement M
 insert-spec =

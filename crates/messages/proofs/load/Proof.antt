@@ -1,47 +1,43 @@
--- The four bytes from index k * 4 on are record k, by the law `pending-bytes`.
-use borrow.Author.Needs.{needs}
+-- The bytes behind the receiver are the message, by the law `letter-bytes`.
 use denote.Ref.{now}
-use Rattle.messages.specs.Records.{pending-bytes}
+use Rattle.messages.specs.Records.{letter-bytes}
+use borrow.Author.Needs.{needs}
 use Rattle.messages.proofs.load.Statement.{statement}
 use Rattle.messages.proofs.load.Tie as tie
 
 mul-i : tie.Need-mul-i
 mul-i c = search needs
 
-shared-slice-read-t5 : tie.Need-shared-slice-read-t5
-shared-slice-read-t5 c = search needs
+add-t4 : tie.Need-add-t4
+add-t4 c = search needs
 
-add-t6 : tie.Need-add-t6
-add-t6 c = search needs
+shared-slice-read-t6 : tie.Need-shared-slice-read-t6
+shared-slice-read-t6 c = search needs
 
-shared-slice-read-t8 : tie.Need-shared-slice-read-t8
-shared-slice-read-t8 c = search needs
+add-t7 : tie.Need-add-t7
+add-t7 c = search needs
 
-add-t9 : tie.Need-add-t9
-add-t9 c = search needs
+shared-slice-read-t9 : tie.Need-shared-slice-read-t9
+shared-slice-read-t9 c = search needs
 
-shared-slice-read-t11 : tie.Need-shared-slice-read-t11
-shared-slice-read-t11 c = search needs
+add-t10 : tie.Need-add-t10
+add-t10 c = search needs
 
-add-t12 : tie.Need-add-t12
-add-t12 c = search needs
-
-shared-slice-read-t14 : tie.Need-shared-slice-read-t14
-shared-slice-read-t14 c = search needs
+shared-slice-read-t12 : tie.Need-shared-slice-read-t12
+shared-slice-read-t12 c = search needs
 
 returns : tie.Need-returns
-returns c = let a = c .before .before .before .before .args in pending-bytes (a .k) (now (a .b))
+returns c = let a = c .before .before .before .args in letter-bytes (a .k) (now (a .b))
 
 pub load-spec : {M : Type 1} → statement M
 load-spec =
     tie.close
     (tie.spec
     mul-i
-    shared-slice-read-t5
-    add-t6
-    shared-slice-read-t8
-    add-t9
-    shared-slice-read-t11
-    add-t12
-    shared-slice-read-t14
+    add-t4
+    shared-slice-read-t6
+    add-t7
+    shared-slice-read-t9
+    add-t10
+    shared-slice-read-t12
     returns)

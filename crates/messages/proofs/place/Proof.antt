@@ -2,29 +2,29 @@
 use Prim.Native.Nat.{_-_}
 use native.Mathlib.Omega.{arith}
 use denote.Ref.{now}
-use Rattle.messages.specs.Pending.{behind, placeFor}
-use Rattle.messages.specs.Records.{Searched, search-start, search-here, search-on, search-end}
+use Rattle.messages.specs.Pending.{pendingIn, behind, placeFor}
+use Rattle.messages.specs.Records.{pending-length, pending-at, Searched, search-start, search-here, search-on, search-end}
 use Rattle.messages.proofs.place.Statement.{statement}
 use Rattle.messages.proofs.place.Tie as tie
 
 abbrev Inv-loop : tie.InvT-loop
-Inv-loop b n to sender k₀ k = Searched (behind to sender) n k b
+Inv-loop b n tasks to sender k₀ k = Searched (behind to sender) (pendingIn tasks n b) n k
 
 abbrev μ-loop : tie.MeasureT-loop
-μ-loop b n to sender k₀ k = n - k
+μ-loop b n tasks to sender k₀ k = n - k
 
 loop-holds : tie.Need-loop-holds Inv-loop μ-loop
-loop-holds c = let a = c .before .args in search-start (behind (a .to) (a .sender)) (a .n) (now (a .b))
+loop-holds c = let a = c .before .args in search-start (behind (a .to) (a .sender)) (pendingIn (a .tasks) (a .n) (now (a .b))) (a .n) (pending-length (a .tasks) (a .n) (now (a .b)))
 
 is-behind-requires : tie.Need-is-behind-requires Inv-loop μ-loop
-is-behind-requires c κs = omega arith
+is-behind-requires c κs = let s = c .before .before .before in (omega arith, s .pre .1, s .pre .2)
 
 returns : tie.Need-returns Inv-loop μ-loop
 unfolding placeFor
 returns c =
     let a = c .before .before .before .before .before .args in
     let l = c .before .before .before .loop in
-    search-here (behind (a .to) (a .sender)) (a .n) (l .k) (now (a .b)) (l .inv) (c .before .before .loop-test .taken) (c .before .is-behind .ensures) (c .if1 .taken)
+    search-here (behind (a .to) (a .sender)) (pendingIn (a .tasks) (a .n) (now (a .b))) (a .n) (pending-length (a .tasks) (a .n) (now (a .b))) (l .k) (l .inv) (c .before .before .loop-test .taken) _ (pending-at (a .tasks) (a .n) (l .k) (now (a .b)) (c .before .before .loop-test .taken)) (c .before .is-behind .ensures) (c .if1 .taken)
 
 add-k : tie.Need-add-k Inv-loop μ-loop
 add-k c = omega arith
@@ -36,14 +36,14 @@ loop-again : tie.Need-loop-again Inv-loop μ-loop
 loop-again c =
     let a = c .before .before .before .before .before .args in
     let l = c .before .before .before .loop in
-    search-on (behind (a .to) (a .sender)) (a .n) (l .k) (now (a .b)) (l .inv) (c .before .before .loop-test .taken) (c .before .is-behind .ensures) (c .if1 .left)
+    search-on (behind (a .to) (a .sender)) (pendingIn (a .tasks) (a .n) (now (a .b))) (a .n) (pending-length (a .tasks) (a .n) (now (a .b))) (l .k) (l .inv) (c .before .before .loop-test .taken) _ (pending-at (a .tasks) (a .n) (l .k) (now (a .b)) (c .before .before .loop-test .taken)) (c .before .is-behind .ensures) (c .if1 .left)
 
 returns-2 : tie.Need-returns-2 Inv-loop μ-loop
 unfolding placeFor
 returns-2 c =
     let a = c .before .before .before .args in
     let l = c .before .loop in
-    search-end (behind (a .to) (a .sender)) (a .n) (l .k) (now (a .b)) (l .inv) (c .loop-test .left)
+    search-end (behind (a .to) (a .sender)) (pendingIn (a .tasks) (a .n) (now (a .b))) (a .n) (pending-length (a .tasks) (a .n) (now (a .b))) (l .k) (l .inv) (c .loop-test .left)
 
 pub place-spec : {M : Type 1} → statement M
 place-spec =

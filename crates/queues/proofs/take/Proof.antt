@@ -101,7 +101,7 @@ returns-2 c =
     let a = s .args in
     λ e es g L w p h.
     take-done g (a .shape) L (now (a .tables)) (now (a .slots)) w h (a .t) (s .pre .3) e es _ _ _ _ _ _ (a .q) (s .pre .2) (a .ring) (p .0)
-    (p .1) (c .before .before .before .before .before .before .before .before .before .before .before .before .before .before .before .before .before .head .ensures) (c .before .before .before .before .before .before .before .before .before .before .before .before .before .before .before .count .ensures) (omega (arith, c .before .before .before .before .before .before .before .before .before .before .before .before .before .before .if1 .left)) (c .before .before .before .before .before .before .before .before .before .before .take-out .ensures .0) (c .before .before .before .before .before .before .before .before .before .before .take-out .ensures .1) (c .before .before .before .before .before .before .step-on .ensures) (λ M z w h. c .before .before .store-outcome .ensures g M z w h)
+    (p .1) (c .before .before .before .before .before .before .before .before .before .before .before .before .before .before .before .before .before .head .ensures) (c .before .before .before .before .before .before .before .before .before .before .before .before .before .before .before .count .ensures) (omega (arith, c .before .before .before .before .before .before .before .before .before .before .before .before .before .before .if1 .left)) (c .before .before .before .before .before .before .before .before .before .before .take-out .ensures .0) (c .before .before .before .before .before .before .before .before .before .before .take-out .ensures .1) (c .before .before .before .before .before .before .step-on .ensures) (λ M z w h. c .before .before .store-outcome .ensures .0 g M z w h)
 
 pub take-spec : {M : Type 1} → statement M
 take-spec =

@@ -28,7 +28,7 @@ shared-slice-read-serve-2 : tie.Need-shared-slice-read-serve-2
 shared-slice-read-serve-2 c = search needs
 
 serve-requires-2 : tie.Need-serve-requires-2
-serve-requires-2 c κs = let s = c .before .before .before .before .before .before .before .before .before .before .before in let g = configured (now (s .args .config)) in let f = now (s .args .frame) in let l = s .pre .2 in let m = s .pre .3 in (tables l, omega arith, omega arith, m .asks, m .task, m .semaphore, m .value)
+serve-requires-2 c κs = let s = c .before .before .before .before .before .before .before .before .before .before .before in let g = configured (now (s .args .config)) in let f = now (s .args .frame) in let l = s .pre .2 in let m = s .pre .3 in (tables l, omega arith, omega arith, m .asks, m .task, m .semaphore, m .value, m .room)
 
 serve-requires-3 : tie.Need-serve-requires-3
 serve-requires-3 c κs = let s = c .before .before .before .before .before .before .before .before .before .before .before in let g = configured (now (s .args .config)) in let f = now (s .args .frame) in let l = s .pre .2 in let m = s .pre .3 in (tables l, configuration l, slots l, omega arith, omega arith, m .asks, m .task, m .entry)
@@ -68,7 +68,7 @@ same-length-4 : tie.Need-same-length-4
 same-length-4 c = search needs
 
 returns-3 : tie.Need-returns-3
-returns-3 c = let s = c .before .before .before .before .before .before .before .before .before .before .before .before .before .before in let g = configured (now (s .args .config)) in let f = now (s .args .frame) in let l = s .pre .2 in let m = s .pre .3 in λ L fr h. c .before .before .serve2 .ensures (drop 5 f) g L _ _ fr h
+returns-3 c = let s = c .before .before .before .before .before .before .before .before .before .before .before .before .before .before in let g = configured (now (s .args .config)) in let f = now (s .args .frame) in let l = s .pre .2 in let m = s .pre .3 in λ L fr h. c .before .before .serve2 .ensures (drop 5 f) g L _ _ h
 
 same-length-5 : tie.Need-same-length-5
 same-length-5 c = search needs

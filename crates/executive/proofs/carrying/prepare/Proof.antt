@@ -1,5 +1,5 @@
 -- `prepare`: a service's caller gets a plain outcome, else nothing is written.
-use mathlib.Core.Path.{_≡_, subst, sym, ap, _∙_}
+use mathlib.Core.Path.{refl, sym, ap}
 use mathlib.Core.Bool.{Bool, cond}
 use Rattle.ledger.specs.Ledger.{plain, setOutcome}
 use Rattle.tables.specs.Decode.{viewOutcome}
@@ -16,10 +16,17 @@ same-length c = search needs
 
 returns : tie.Need-returns
 unfolding viewOutcome
-returns c = let a = c .before .before .before .before .before .before .args in λ g L z w h. moved (ap (λ (b : Bool). cond b (setOutcome (a .me) plain L) L) (sym (c .before .before .before .before .if1 .taken))) (c .before .before .store-outcome .ensures g L z w h)
+returns c =
+    let a = c .before .before .before .before .before .before .args in
+    let o = c .before .before .store-outcome .ensures in (
+      (λ g L z w h. moved (ap (λ (b : Bool). cond b (setOutcome (a .me) plain L) L) (sym (c .before .before .before .before .if1 .taken))) (o .0 g L z w h)),
+      o .1,
+    )
 
 returns-2 : tie.Need-returns-2
-returns-2 c = let a = c .before .before .args in λ g L z w h. moved (ap (λ (b : Bool). cond b (setOutcome (a .me) plain L) L) (sym (c .if1 .left))) h
+returns-2 c =
+    let a = c .before .before .args in
+    ((λ g L z w h. moved (ap (λ (b : Bool). cond b (setOutcome (a .me) plain L) L) (sym (c .if1 .left))) h), refl)
 
 pub prepare-spec : {M : Type 1} → statement M
 prepare-spec = tie.close (tie.spec store-outcome-requires same-length returns returns-2)

@@ -3,8 +3,9 @@ use native.Mathlib.Omega.{arith}
 use denote.Ref.{now}
 use Rattle.configuration.specs.Block.{configured}
 use Rattle.tables.specs.Layout.{still-fits, few}
+use Rattle.command.specs.Configured.{of}
 use Rattle.executive.specs.Lent.{configuration, tables, slots, timers}
-use Rattle.executive.specs.Stepped.{step-refused, step-accepted}
+use Rattle.executive.specs.Stepped.{room-found, step-refused, step-accepted}
 use borrow.Author.Needs.{needs}
 use Rattle.executive.proofs.frames.step.Statement.{statement}
 use Rattle.executive.proofs.frames.step.Tie as tie
@@ -34,7 +35,20 @@ returns : tie.Need-returns
 returns c = let a = c .before .before .before .before .before .before .before .before .before .before .before .before .before .before .before .before .before .before .args in let g = configured (now (a .config)) in step-refused g (a .shape) (now (a .frame)) (now (a .tables)) (now (a .slots)) (now (a .timers)) (now (a .answer)) _ _ (c .before .before .before .before .before .before .before .before .before .before .running .ensures .1) (c .before .before .before .before .before .before .before .refusal .ensures) _ (c .before .before .before .before .before .before .if1 .taken) (λ L h r. c .before .before .write .ensures g L _ h r)
 
 act-requires : tie.Need-act-requires
-act-requires c κs = let s = c .before .before .before .before .before .before .before .before .before .before .before .before .before .before .before in let l = s .pre .0 in (l, record { low = c .before .before .before .before .before .before .before .running .ensures .0; input = c .before .before .before .before .refusal .ensures .good (c .before .before .before .if1 .left) })
+act-requires c κs =
+    let s = c .before .before .before .before .before .before .before .before .before .before .before .before .before .before .before in
+    let a = s .args in
+    let l = s .pre .0 in
+    let me = c .before .before .before .before .before .before .before .running in
+    let r = c .before .before .before .before .refusal in
+    let z = c .before .before .before .if1 .left in (
+      l,
+      record {
+        low = me .ensures .0;
+        input = r .ensures .good z;
+        room = room-found (configured (now (a .config))) (a .shape) (now (a .frame)) (now (a .tables)) (now (a .slots)) (now (a .timers)) (now (a .answer)) _ _ (me .ensures .1) (r .ensures) z (of (configuration l)) (tables l) (slots l) (timers l) (s .pre .2);
+      },
+    )
 
 cast-reissues : tie.Need-cast-reissues
 cast-reissues c = omega (arith, few (tables (c .before .before .before .before .before .before .before .before .before .before .before .before .before .before .before .before .before .before .before .before .before .before .before .pre .0)), c .before .before .before .before .before .before .before .act .ensures .few)

@@ -35,7 +35,7 @@ returns c =
     let g = configured (now (a .config)) in
     let M = setRequest (a .t) none L in
     let k = c .before .before .before .before .before .before .before .before .before .store-request .ensures g L (now (a .slots)) w h in
-    moved (again-yes g (a .t) _ M _ (c .before .before .before .before .before .take-waits .ensures g M (now (a .slots)) w (c .before .before .before .before .before .before .before .before .before .before .before .ring .ensures .0) k) (c .before .before .before .before .if1 .taken)) (c .before .before .store-outcome .ensures g M (now (a .slots)) w k)
+    moved (again-yes g (a .t) _ M _ (c .before .before .before .before .before .take-waits .ensures g M (now (a .slots)) w (c .before .before .before .before .before .before .before .before .before .before .before .ring .ensures .0) k) (c .before .before .before .before .if1 .taken)) (c .before .before .store-outcome .ensures .0 g M (now (a .slots)) w k)
 
 dequeue-requires : tie.Need-dequeue-requires
 dequeue-requires c κs = let s = c .before .before .before .before .before .before .before .before .before .before .before .before .before in (still-fits (s .pre .0) (omega arith), c .before .before .before .before .before .before .before .before .before .ring .ensures .1, s .pre .4, s .pre .3, s .pre .2)

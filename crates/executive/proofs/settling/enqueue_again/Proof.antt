@@ -48,7 +48,7 @@ returns c =
     let g = configured (now (a .config)) in
     let M = setRequest (a .t) none L in
     let k = c .before .before .before .before .before .before .before .before .before .store-request .ensures g L z w h in
-    moved (again-yes g (a .t) _ M _ (c .before .before .before .before .before .put-waits .ensures g M z w (c .before .before .before .before .before .before .before .before .before .before .before .before .before .before .before .ring .ensures .0) k) (c .before .before .before .before .if1 .taken)) (c .before .before .store-outcome .ensures g M z w k)
+    moved (again-yes g (a .t) _ M _ (c .before .before .before .before .before .put-waits .ensures g M z w (c .before .before .before .before .before .before .before .before .before .before .before .before .before .before .before .ring .ensures .0) k) (c .before .before .before .before .if1 .taken)) (c .before .before .store-outcome .ensures .0 g M z w k)
 
 sub-enqueue : tie.Need-sub-enqueue
 sub-enqueue c = search needs

@@ -1,18 +1,18 @@
 -- Messages: each has a number of 1 to G, a sender and a semaphore that exist; each mailbox is ordered by sender; and no message lies in the mailboxes twice.
 -- To send one, it must lie in none (22), and every other change only takes messages out.
-use Prim.Native.Nat.{ℕ, zero, suc, _+_, _≤_}
+use Prim.Native.Nat.{ℕ, zero, suc, _+_, _<_, _≤_}
 use mathlib.Core.Path.{_≡_, refl, sym, subst}
 use mathlib.Core.Bool.{Bool, true, false, cond}
 use mathlib.Core.List.{List, [], _∷_}
 use native.Mathlib.Omega.{arith}
 use borrow.Author.Tests.{eqb-true}
 use lib.Dec.{ltb, eqb}
-use lib.ListN.{getD, set, replicate}
+use lib.ListN.{length, getD, set, replicate}
 use Rattle.ledger.specs.Lists.{at, put, any, insertBy}
 use Rattle.ledger.specs.Config.{Config}
 use Rattle.ledger.specs.Ledger.{Message, Ledger, mailbox, fresh}
 use Rattle.ledger.specs.Refusals.{inAMailbox}
-use Rattle.ledger.specs.Theorems.Items.{at-put-each}
+use Rattle.ledger.specs.Theorems.Items.{Numbered, at-put-each}
 use Rattle.ledger.specs.Theorems.Checks.{or-left, or-right}
 use Rattle.ledger.specs.Theorems.Parts.{Every, nil, Part, skip, both, Ordered, every-part, every-insert, ordered-part, ordered-insert}
 use Rattle.ledger.specs.Theorems.Fresh.{fresh-mailbox}
@@ -87,9 +87,31 @@ new-once x boxes m h n = go (eqb (m .number) x) refl
     go true e = omega (arith, subst (λ y. copies y boxes ≡ 0) (eqb-true (m .number) x e) (copies-absent (m .number) boxes n))
     go false e = omega arith
 
-deliver-once : (x : ℕ) (boxes : List (List Message)) (t : ℕ) (m : Message) → copies x boxes ≤ 1 → any (any (λ (n : Message). eqb (n .number) (m .number))) boxes ≡ false
+pub deliver-once : (x : ℕ) (boxes : List (List Message)) (t : ℕ) (m : Message) → copies x boxes ≤ 1 → any (any (λ (n : Message). eqb (n .number) (m .number))) boxes ≡ false
     → copies x (put boxes t (insertBy (λ m. m .sender) m (at boxes t []))) ≤ 1
 deliver-once x boxes t m h n = omega (arith, copies-put x boxes t (insertBy (λ m. m .sender) m (at boxes t [])), count-insert x (λ m. m .sender) m (at boxes t []), new-once x boxes m h n)
+
+-- how many there then are
+pub deliver-more : (x : ℕ) (boxes : List (List Message)) (t : ℕ) (m : Message)
+    → copies x (put boxes t (insertBy (λ m. m .sender) m (at boxes t []))) ≤ copies x boxes + cond (eqb (m .number) x) 1 0
+unfolding is
+deliver-more x boxes t m = omega (arith, copies-put x boxes t (insertBy (λ m. m .sender) m (at boxes t [])), count-insert x (λ m. m .sender) m (at boxes t []))
+
+pub remove-less : (x : ℕ) (boxes : List (List Message)) (t : ℕ) {v : List Message} → Part v (at boxes t []) → copies x (put boxes t v) ≤ copies x boxes
+remove-less x boxes t {v} p = omega (arith, copies-put x boxes t v, count-part x p)
+
+copies-front : (x : ℕ) (boxes : List (List Message)) (n : ℕ) (m : Message) → n < length boxes → copies x (set boxes n (m ∷ getD boxes n [])) ≡ cond (eqb (m .number) x) 1 0 + copies x boxes
+unfolding is count copies
+copies-front x [] n m h = absurd (omega arith)
+copies-front x (b ∷ boxes) zero m h = omega arith
+copies-front x (b ∷ boxes) (suc n) m h = omega (arith, copies-front x boxes n m (omega arith))
+
+-- with one more at the front of a mailbox that there is
+pub front-more : (x : ℕ) (boxes : List (List Message)) (t : ℕ) (m : Message) → Numbered (length boxes) t
+    → copies x (put boxes t (m ∷ at boxes t [])) ≡ cond (eqb (m .number) x) 1 0 + copies x boxes
+unfolding put at
+front-more x boxes zero m h = absurd (omega arith)
+front-more x boxes (suc n) m h = copies-front x boxes n m (omega arith)
 
 abbrev EachAt : Config → ℕ → List Message → Type 0
 EachAt c t box = Every (Sent c) box
@@ -122,7 +144,7 @@ messages-kept l l′ (stopsTimers v p) h = h
 messages-kept l l′ (ticks n) h = h
 messages-kept l l′ tocks h = h
 
-copies-empty : (x n : ℕ) → copies x (replicate n []) ≡ 0
+pub copies-empty : (x n : ℕ) → copies x (replicate n []) ≡ 0
 unfolding copies count
 copies-empty x zero = refl
 copies-empty x (suc n) = omega (arith, copies-empty x n)

@@ -1,7 +1,8 @@
+use Prim.Native.Nat.{ℕ, _+_, _-_, _*_}
 use native.Mathlib.Omega.{arith}
 use denote.Ref.{now}
-use Rattle.tables.specs.Layout.{record-in}
-use Rattle.tables.specs.Stored.{outcome-lent}
+use Rattle.tables.specs.Layout.{countAt, laid, record-in}
+use Rattle.tables.specs.Stored.{before-stays, outcome-lent}
 use borrow.Author.Needs.{needs}
 use Rattle.tables.proofs.tasks.store_outcome.Statement.{statement}
 use Rattle.tables.proofs.tasks.store_outcome.Tie as tie
@@ -37,7 +38,12 @@ returns : tie.Need-returns
 returns c =
     let e = c .before .before .before .before .before .before in
     let a = e .args in
-    λ g L z w h. outcome-lent g (a .shape) L (now (a .tables)) z w h (a .t) (e .pre .1) (c .before .before .put-outcome .last .0) (a .o) (c .before .before .put-outcome .ensures)
+    let p = c .before .before .put-outcome in
+    let at : ℕ = a .shape .recordat + (a .t - 1) * 6 in
+    let i = record-in (e .pre .0) (a .t) (e .pre .1) in (
+      (λ g L z w h. outcome-lent g (a .shape) L (now (a .tables)) z w h (a .t) (e .pre .1) (p .last .0) (a .o) (p .ensures)),
+      before-stays at (at + 6 - at) countAt (now (a .tables)) (p .last .0) (omega (arith, laid (e .pre .0) .records)) (omega (arith, i)),
+    )
 
 pub store-outcome-spec : {M : Type 1} → statement M
 store-outcome-spec =
