@@ -9,6 +9,7 @@ use lib.Seq.{getD-set-same}
 use borrow.Rule.Slice.PartMut.{putMid}
 use Rattle.rows.specs.Splice.{cut, splice}
 use Rattle.rows.specs.Laws.{length-cut, length-splice}
+use Rattle.rows.specs.Bytes.{byte-in, lent-part}
 use Rattle.ledger.specs.Lists.{byte}
 use Rattle.ledger.specs.Config.{Config, configIn, configRefusal, controller}
 use Rattle.ledger.specs.Ledger.{fresh}
@@ -19,7 +20,6 @@ use Rattle.configuration.specs.Block.{configured, rule}
 use Rattle.configuration.specs.Layout.{of-one, end-most}
 use Rattle.configuration.specs.Accepted.{Accepted, accepted, accepted-length, accepted-states, configured-in}
 use Rattle.configuration.specs.Fresh.{FreshTables, fresh-shows}
-use Rattle.configuration.specs.Written.{splice-in, lent-part}
 
 -- the bytes of a count and of the timers' records
 abbrev pub timersBytes : Shape → ℕ
@@ -78,7 +78,7 @@ module _ (f : List ℕ) (zero : configRefusal f ≡ 0) where
             let e : 0 + i ≡ i = omega arith in
             let m : length (cut z 0 (16 * s .tasks)) ≡ 16 * s .tasks - 0 = length-cut z 0 (16 * s .tasks) (omega (arith, lz)) in
             ap (λ (x : List ℕ). getD x i 0) z-is ∙ ap (λ (x : ℕ). getD (splice z 0 ys) x 0) (sym e)
-            ∙ splice-in z ys 0 (omega (arith, length-ys, lz)) i (omega (arith, length-ys, o .tasks)) ∙ ap (λ (x : List ℕ). getD x i 0) ey
+            ∙ byte-in z ys 0 (omega (arith, length-ys, lz)) i (omega (arith, length-ys, o .tasks)) ∙ ap (λ (x : List ℕ). getD x i 0) ey
             ∙ getD-replicate (length (cut z 0 (16 * s .tasks))) i 0 0 (omega (arith, o .tasks))
 
         pub started : Started f d z' (set w 0 0)

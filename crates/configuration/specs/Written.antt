@@ -10,6 +10,7 @@ use borrow.Rule.Slice.PartMut.{putMid}
 use borrow.Author.Count.{below-more}
 use Rattle.rows.specs.Splice.{cut, splice}
 use Rattle.rows.specs.Laws.{length-cut, length-splice}
+use Rattle.rows.specs.Bytes.{byte-in, byte-below, byte-above, lent-part}
 use Rattle.tables.specs.declared.shape.Shape.{Shape}
 use Rattle.tables.specs.declared.blocks.Block.{Block}
 use Rattle.tables.specs.declared.blocks.Block.the-variants.{Idle, Suspended, Event, Message}
@@ -19,35 +20,6 @@ use Rattle.tables.specs.Planes.{planeOf, has, blocksAt, NewBit, NewBlock}
 use Rattle.tables.specs.OneBit.{block-set}
 use Rattle.tables.specs.Blocks.{plane-low}
 use Rattle.configuration.specs.Fresh.{kindOf, idleOf, freshBlocks, FreshTables}
-
--- ---- a byte of a splice
-
-module _ (d s : List ℕ) (at : ℕ) (room : at + length s ≤ length d) where
-  pub splice-in : (i : ℕ) → i < length s → getD (splice d at s) (at + i) 0 ≡ getD s i 0
-  splice-in i h =
-      let n : length (take at d) ≡ at = length-take-le at d (omega arith) in
-      ap (λ (l : List ℕ). getD l (at + i) 0) (append-assoc (take at d) s (drop (at + length s) d))
-      ∙ ap (λ (x : ℕ). getD (take at d ++ (s ++ drop (at + length s) d)) (x + i) 0) (sym n)
-      ∙ getD-append-add (take at d) (s ++ drop (at + length s) d) i 0 ∙ List·getD-append s (drop (at + length s) d) 0 i h
-
-  pub splice-below : (i : ℕ) → i < at → getD (splice d at s) i 0 ≡ getD d i 0
-  splice-below i h =
-      List·getD-append (take at d ++ s) (drop (at + length s) d) 0 i (simp (length-append, length-take) (omega arith))
-      ∙ List·getD-append (take at d) s 0 i (simp length-take (omega arith)) ∙ getD-take at d i 0 h
-
-  pub splice-above : (i : ℕ) → at + length s ≤ i → getD (splice d at s) i 0 ≡ getD d i 0
-  splice-above i h =
-      let n : length (take at d ++ s) ≡ at + length s = simp (length-append, length-take) (omega arith) in
-      let k : ℕ = i - (at + length s) in
-      let e : i ≡ at + length s + k = omega arith in
-      ap (λ (x : ℕ). getD (splice d at s) x 0) e ∙ ap (λ (x : ℕ). getD (splice d at s) (x + k) 0) (sym n)
-      ∙ getD-append-add (take at d ++ s) (drop (at + length s) d) k 0 ∙ getD-drop (at + length s) d k 0 ∙ ap (λ (x : ℕ). getD d x 0) (sym e)
-
--- a part that was lent and came back is a splice
-pub lent-part : (d : List ℕ) (a e : ℕ) (ys : List ℕ) → a ≤ e → e ≤ length d → length ys ≡ e - a → putMid a (e - a) d ys ≡ splice d a ys
-lent-part d a e ys h k l =
-    let t : drop (e - a) (drop a d) ≡ drop (a + length ys) d = rw l (drop-drop (e - a) a d) in
-    ap (λ (z : List ℕ). take a d ++ (ys ++ z)) t ∙ sym (append-assoc (take a d) ys (drop (a + length ys) d))
 
 -- ---- the loops' turns and ends
 
@@ -123,7 +95,7 @@ module _ (s : Shape) (l : Laid s) (states d : List ℕ) (room : s .end ≤ lengt
   blank i b =
       let e : 0 + i ≡ i = omega arith in
       ap (λ (x : List ℕ). getD x i 0) d₁-is ∙ ap (λ (x : ℕ). getD (splice d 0 ys) x 0) (sym e)
-      ∙ splice-in d ys 0 (omega (arith, length-ys)) i (omega (arith, length-ys)) ∙ ap (λ (x : List ℕ). getD x i 0) ey ∙ getD-replicate (s .messageat) i 0 0 b
+      ∙ byte-in d ys 0 (omega (arith, length-ys)) i (omega (arith, length-ys)) ∙ ap (λ (x : List ℕ). getD x i 0) ey ∙ getD-replicate (s .messageat) i 0 0 b
 
   -- the planes, lent
   abbrev planes : List ℕ
@@ -164,22 +136,22 @@ module _ (s : Shape) (l : Laid s) (states d : List ℕ) (room : s .end ≤ lengt
     rest i h = getD-set-other d₃ 0 i k 0 (λ q. omega arith) ∙ ap (λ (x : List ℕ). getD x i 0) d₃-is
 
     before : (i : ℕ) → 1 ≤ i → i < s .recordat → getD d₄ i 0 ≡ getD d₂ i 0
-    before i a h = rest i a ∙ splice-below d₂ r (s .recordat) (omega (arith, length-d₂)) i h
+    before i a h = rest i a ∙ byte-below d₂ r (s .recordat) (omega (arith, length-d₂)) i h
 
     within : (i : ℕ) → i < 6 * s .tasks → getD d₄ (s .recordat + i) 0 ≡ getD r i 0
-    within i h = rest (s .recordat + i) (omega arith) ∙ splice-in d₂ r (s .recordat) (omega (arith, length-d₂)) i (omega arith)
+    within i h = rest (s .recordat + i) (omega arith) ∙ byte-in d₂ r (s .recordat) (omega (arith, length-d₂)) i (omega arith)
 
     was-plane : (i : ℕ) → i < 64 → getD d₂ (planesAt + i) 0 ≡ getD ps i 0
-    was-plane i h = ap (λ (x : List ℕ). getD x (planesAt + i) 0) e₂ ∙ splice-in d₁ ps planesAt (omega (arith, length-d₁)) i (omega arith)
+    was-plane i h = ap (λ (x : List ℕ). getD x (planesAt + i) 0) e₂ ∙ byte-in d₁ ps planesAt (omega (arith, length-d₁)) i (omega arith)
 
     was-below : (i : ℕ) → i < 2 → getD d₂ i 0 ≡ 0
-    was-below i h = ap (λ (x : List ℕ). getD x i 0) e₂ ∙ splice-below d₁ ps planesAt (omega (arith, length-d₁)) i h ∙ blank i (omega arith)
+    was-below i h = ap (λ (x : List ℕ). getD x i 0) e₂ ∙ byte-below d₁ ps planesAt (omega (arith, length-d₁)) i h ∙ blank i (omega arith)
 
     was-above : (i : ℕ) → s .recordat ≤ i → i < s .messageat → getD d₂ i 0 ≡ 0
-    was-above i h m = ap (λ (x : List ℕ). getD x i 0) e₂ ∙ splice-above d₁ ps planesAt (omega (arith, length-d₁)) i (omega arith) ∙ blank i m
+    was-above i h m = ap (λ (x : List ℕ). getD x i 0) e₂ ∙ byte-above d₁ ps planesAt (omega (arith, length-d₁)) i (omega arith) ∙ blank i m
 
     behind : (i : ℕ) → s .semaphoreat ≤ i → i < s .messageat → getD d₄ i 0 ≡ 0
-    behind i h m = rest i (omega arith) ∙ splice-above d₂ r (s .recordat) (omega (arith, length-d₂)) i (omega arith) ∙ was-above i (omega arith) m
+    behind i h m = rest i (omega arith) ∙ byte-above d₂ r (s .recordat) (omega (arith, length-d₂)) i (omega arith) ∙ was-above i (omega arith) m
 
     no-request : (i j : ℕ) → i < s .tasks → 1 ≤ j → j < 6 → getD d₄ (s .recordat + (i * 6 + j)) 0 ≡ 0
     no-request i j h x y =

@@ -3,3 +3,5 @@ pub mod Laws
 pub mod Rows
 pub mod First
 pub mod Tab
+pub mod Bytes
+pub mod Four
