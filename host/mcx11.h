@@ -508,9 +508,11 @@ static inline uint8_t mcx11_mailbox_count(const mcx11_t *m, uint8_t task)
     const size_t lie = m->tables[1] < at.messages ? m->tables[1] : at.messages;
     uint8_t count = 0;
     size_t i;
-    for (i = 0; i < lie; i++)
-        if (task >= 1 && m->tables[at.at_messages + 4 * i] == task)
+    for (i = 0; i < lie; i++) {
+        const uint8_t to = m->tables[at.at_messages + 4 * i];
+        if (task >= 1 && task == (to >= 1 && to <= at.tasks ? to : 1))
             count++;
+    }
     return count;
 }
 

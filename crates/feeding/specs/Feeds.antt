@@ -77,7 +77,7 @@ module _ (line : List ℕ) {p₀ : Stage} (m m' : Memory) (out out' : List ℕ) 
     where
       go : (s : Stands) → At s p₀ m → let f = lineFed s line in At (f .stand) Running m' × (take k out' ≡ take printed out ++ f .text)
       go first h = absurd (omega (arith, ap stageNumber (sym q ∙ h)))
-      go (runs c l) h = let t = g .tells c l (refl, h .1, h .2, h .3) in (t .0, prints (steps c l (frameOf line) .answer) out out' m' printed k (t .1) e)
+      go (runs c l) h = let t = g .tells c l (refl, h .1, h .2, h .3, h .4) in (t .0, prints (steps c l (frameOf line) .answer) out out' m' printed k (t .1) e)
       go over h = absurd (omega (arith, ap stageNumber (sym q ∙ h)))
 
 pub says-ended : (line : List ℕ) {p₀ : Stage} (m : Memory) (out : List ℕ) (printed : ℕ) → p₀ ≡ Ended → Says line p₀ m out printed m out (record { stage = Ended; printed = printed })

@@ -14,6 +14,7 @@ use Rattle.ledger.specs.Ledger.{Ledger, fresh}
 use Rattle.ledger.specs.Session.{answer, step, refusedConfiguration}
 use Rattle.ledger.specs.Lines.{frameOf, stepLine, readLine, writtenInto}
 use Rattle.ledger.specs.Theorems.Lines.{frame-is-short}
+use Rattle.ledger.specs.Theorems.Once.{Once, once-step, once-fresh}
 use Rattle.tables.specs.declared.shape.Shape.{Shape}
 use Rattle.tables.specs.Shows.{Of, Shows}
 use Rattle.configuration.specs.Block.{configured, rule}
@@ -35,7 +36,7 @@ use Rattle.feeding.specs.Input.{Stands, first, runs, over, Reply, config
 
 unfoldable pub At : Stands → Stage → Memory → Type 0
 At first p m = p ≡ First
-At (runs c l) p m = (p ≡ Running) × (configured (m .config) ≡ c) × (lentWell m ≡ true) × Displays c l m
+At (runs c l) p m = (p ≡ Running) × (configured (m .config) ≡ c) × (lentWell m ≡ true) × Displays c l m × Once c (l .mailboxes)
 At over p m = p ≡ Ended
 
 unfoldable pub stageNumber : Stage → ℕ
@@ -130,7 +131,7 @@ module _ {f : List ℕ} {m m' : Memory} {r : ℕ} (full : Full m) (h : Configure
   accepted-begins z =
       let a = h .accepted (sizes-full m full) z in
       let c = configIn f in
-      begins (some f) (record { stand = runs c (fresh c); answer = answer 0 0 (fresh c) }) (rw (eq-eqb _ _ z)) (refl, a .1, a .2, a .3)
+      begins (some f) (record { stand = runs c (fresh c); answer = answer 0 0 (fresh c) }) (rw (eq-eqb _ _ z)) (refl, a .1, a .2, a .3, once-fresh c)
       (answers-written m' (answer 0 0 (fresh c)) (m .answer) (answer-short c (fresh c) m' (a .3) 0 0 .1) (a .4))
 
   refused-begins : (configRefusal f ≡ 0 → ⊥) → Begins (some f) m' Ended
@@ -163,12 +164,13 @@ refuses-line g d z a a' s o tells =
 
 -- ---- any other line
 
-runs-on : {m m' : Memory} (c : Config) (l l' : Ledger) → At (runs c l) Running m → SameSizes m m' → m' .config ≡ m .config → Displays c l' m' → At (runs c l') Running m'
+runs-on : {m m' : Memory} (c : Config) (l l' : Ledger) → At (runs c l) Running m → SameSizes m m' → m' .config ≡ m .config → Displays c l' m' → Once c (l' .mailboxes)
+    → At (runs c l') Running m'
 unfolding At
-runs-on {m = m} {m' = m'} c l l' h s e d =
+runs-on {m = m} {m' = m'} c l l' h s e d o =
     let k : configured (m' .config) ≡ c = ap configured e ∙ h .1 in
     let r : rule controller (configured (m' .config)) ≡ true = ap (λ (x : List ℕ). rule controller (configured x)) e ∙ well-rule m (h .2) in
-    (refl, k, displays-well m' l' (full-kept s ∙ well-full m (h .2)) r (subst (λ (x : Config). Displays x l' m') (sym k) d), d)
+    (refl, k, displays-well m' l' (full-kept s ∙ well-full m (h .2)) r (subst (λ (x : Config). Displays x l' m') (sym k) d) (subst (λ (x : Config). Once x (l' .mailboxes)) (sym k) o), d, o)
 
 pub goes-on-none : {f : Option (List ℕ)} (g d z w a a' : List ℕ) → f ≡ none → length a' ≡ length a → RefusesLine g d z a a' → GoesOn f (memory g d z w a) (memory g d z w a')
 unfolding At Displays steps stepLine
@@ -178,7 +180,7 @@ goes-on-none g d z w a a' e n h =
     rw e (record {
       tells = λ c l k.
           let v : Shows (configured g) (shapeOf (configured g)) l d z w = subst (λ (x : Config). Shows x (shapeOf x) l d z w) (sym (k .1)) (k .3) in (
-            runs-on {m = m} {m' = m'} c l l k (record { config = refl; tables = refl; slots = refl; timers = refl; answer = n }) refl (k .3),
+            runs-on {m = m} {m' = m'} c l l k (record { config = refl; tables = refl; slots = refl; timers = refl; answer = n }) refl (k .3) (k .4),
             answers-written m' (answer 1 0 l) a (answer-short c l m (k .3) 1 0 .1) (h l w (well-rule m (k .2)) v),
           );
     })
@@ -191,7 +193,7 @@ goes-on-frame {f = f} {m = m} {m' = m'} e h =
           let v : Displays (configured (m .config)) l m = subst (λ (x : Config). Displays x l m) (sym (k .1)) (k .3) in
           let g = h .good (k .2) l v in
           let t = subst (λ (x : Config). Displays x (step x f l .ledger) m' × (m' .answer ≡ written (step x f l .answered) (m .answer))) (k .1) (g .1, g .2) in (
-            runs-on {m = m} {m' = m'} c l (step c f l .ledger) k (h .sizes) (h .config) (t .0),
+            runs-on {m = m} {m' = m'} c l (step c f l .ledger) k (h .sizes) (h .config) (t .0) (once-step c f l (k .4)),
             answers-written m' (step c f l .answered) (m .answer) (step-short c f l m' (t .0)) (t .1),
           );
     })

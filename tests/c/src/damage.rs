@@ -19,6 +19,8 @@ type Frame = Vec<u8>;
 pub struct Counts {
     pub calls: u64,
     pub broken: BTreeMap<Rule, u64>,
+    /// A rule was broken only behind the first frame: a message more filled tables that broke it.
+    pub filled: u64,
     pub accepted: BTreeMap<u8, u64>,
     pub refused: BTreeMap<Number, u64>,
     pub reissues: u64,
@@ -37,23 +39,30 @@ impl<Call: FnMut(&mut Lent, &[u8]) -> Number> Watch<Call> {
         Watch { call, counts: Counts::default() }
     }
 
-    /// Number 11 and nothing written where a rule is broken. Else the memory means a state, and each frame does to it what it
-    /// does to the other implementation in that state.
+    /// Number 11 and nothing written where a rule is broken, before the first frame or by one of them. Else the memory means a
+    /// state, and each frame does to it what it does to the other implementation in that state.
     pub fn feed(&mut self, mut memory: Lent, frames: &[Frame], told: &dyn Fn() -> String) {
-        if let Some(rule) = rules::broken(&memory) {
-            let before = memory.clone();
-            assert_eq!(self.frame(&mut memory, &frames[0]), MEMORY, "{rule:?}, {:02X?}; {}", frames[0], told());
-            assert!(memory == before, "a byte was written with 11; {}", told());
-            *self.counts.broken.entry(rule).or_default() += 1;
-            return;
-        }
-        let configuration = rules::configuration(&memory.config).expect("rule 1");
-        let items = memory.items(&configuration);
-        let mut other = Executive::restored(configuration, &items);
+        let mut other = None;
         for (index, frame) in frames.iter().enumerate() {
             let told = || format!("frame {index} of {frames:02X?}; {}", told());
-            self.compare(&mut memory, &mut other, frame, &told);
+            if let Some(rule) = rules::broken(&memory) {
+                self.counts.filled += u64::from(index > 0);
+                return self.refused(rule, &mut memory, frame, &told);
+            }
+            let other = other.get_or_insert_with(|| {
+                let configuration = rules::configuration(&memory.config).expect("rule 1");
+                let items = memory.items(&configuration);
+                Executive::restored(configuration, &items)
+            });
+            self.compare(&mut memory, other, frame, &told);
         }
+    }
+
+    fn refused(&mut self, rule: Rule, memory: &mut Lent, frame: &[u8], told: &dyn Fn() -> String) {
+        let before = memory.clone();
+        assert_eq!(self.frame(memory, frame), MEMORY, "{rule:?}; {}", told());
+        assert!(*memory == before, "a byte was written with 11; {}", told());
+        *self.counts.broken.entry(rule).or_default() += 1;
     }
 
     fn compare(&mut self, memory: &mut Lent, other: &mut Executive, frame: &[u8], told: &dyn Fn() -> String) {
@@ -92,9 +101,10 @@ pub fn needed(configuration: &Configuration) -> [usize; 5] {
     [8 + tasks + 2 * queues, Regions::of(configuration).end, 16 * tasks, timers, SIZES[4]]
 }
 
-/// Damages memory that frames left: a bit, some bytes, a field, a whole block, a length. `another` is another session's.
+/// Damages memory that frames left: a bit, some bytes, a field, all messages, a whole block, a length. `another` is another
+/// session's.
 pub fn damage(random: &mut Random, memory: &mut Lent, configuration: &Configuration, another: &Lent) {
-    match random.below(20) {
+    match random.below(22) {
         0..=3 => bit(random, memory, configuration),
         4..=6 => bytes(random, memory, configuration),
         7..=15 => {
@@ -105,6 +115,7 @@ pub fn damage(random: &mut Random, memory: &mut Lent, configuration: &Configurat
         16 => length(random, memory),
         17 => block(random, memory),
         18 => tables_alone(random, memory),
+        19 | 20 => nearly_full(random, memory, configuration),
         _ => exchanged(random, memory, another),
     }
 }
@@ -199,6 +210,20 @@ fn tables_alone(random: &mut Random, memory: &mut Lent) {
         memory.blocks_mut()[block].iter_mut().for_each(|byte| *byte = random.byte());
     }
     memory.tables[1] = 0;
+}
+
+/// All messages lie, or all but one, and a byte of one of them has a value of its own.
+fn nearly_full(random: &mut Random, memory: &mut Lent, configuration: &Configuration) {
+    let Configuration { tasks, messages, .. } = *configuration;
+    if messages == 0 {
+        return;
+    }
+    let first = Regions::of(configuration).messages;
+    for (record, number) in memory.tables[first..].chunks_exact_mut(4).zip(1..=messages) {
+        record.copy_from_slice(&[random.between(1, tasks), number, random.between(1, tasks), 0]);
+    }
+    memory.tables[1] = messages - random.between(0, 1);
+    memory.tables[first + 4 * random.below(messages.into()) + random.below(2)] = a_value(random, configuration);
 }
 
 fn exchanged(random: &mut Random, memory: &mut Lent, another: &Lent) {

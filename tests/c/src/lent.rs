@@ -118,7 +118,7 @@ impl Lent {
         &self.answer[1..=usize::from(self.answer[0])]
     }
 
-    /// What the memory means, whatever its bytes are; they keep the rules of number 11.
+    /// What the memory means, whatever its bytes are; its sizes are right, and its configuration is this one.
     pub fn items(&self, configuration: &Configuration) -> Items {
         Reader::new(self, configuration).items()
     }
@@ -241,7 +241,8 @@ impl<'lent> Reader<'lent> {
         let mut mailboxes = vec![Vec::new(); tasks];
         for index in 0..usize::from(self.at(1).min(self.configuration.messages)) {
             let record = self.regions.messages + 4 * index;
-            mailboxes[usize::from(self.at(record)) - 1].push(self.letter(record + 1));
+            let task = if (1..=tasks).contains(&self.at(record).into()) { self.at(record).into() } else { 1 };
+            mailboxes[task - 1].push(self.letter(record + 1));
         }
         mailboxes
     }

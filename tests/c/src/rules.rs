@@ -53,11 +53,12 @@ pub fn configuration(config: &[u8]) -> Option<Configuration> {
     })
 }
 
+/// Rule 2: where G messages lie, each has a number 1 to G, and no number occurs twice.
 fn good_messages(tables: &[u8], configuration: &Configuration) -> bool {
-    let lying = usize::from(tables[1].min(configuration.messages));
-    let records = &tables[Regions::of(configuration).messages..][..4 * lying];
+    if tables[1] < configuration.messages {
+        return true;
+    }
+    let records = &tables[Regions::of(configuration).messages..][..4 * usize::from(configuration.messages)];
     let numbers: Vec<u8> = records.chunks(4).map(|record| record[1]).collect();
-    records.chunks(4).all(|record| (1..=configuration.tasks).contains(&record[0]))
-        && numbers.iter().all(|number| (1..=configuration.messages).contains(number))
-        && numbers.iter().enumerate().all(|(place, number)| !numbers[..place].contains(number))
+    (1..=configuration.messages).all(|number| numbers.contains(&number))
 }

@@ -12,7 +12,7 @@ use crate::lent::{Lent, Regions, PLANE, PLANES};
 
 type Situation = (&'static str, fn(&Seen) -> bool);
 
-pub const STRANGE: [Situation; 23] = [
+pub const STRANGE: [Situation; 26] = [
     ("ticks left: 0", |seen| seen.lent.tables[0] == 0),
     ("ticks left: above K", |seen| seen.lent.tables[0] > seen.configuration.ticks_per_tock),
     ("messages: above G", |seen| seen.lent.tables[1] > seen.configuration.messages),
@@ -40,6 +40,14 @@ pub const STRANGE: [Situation; 23] = [
     }),
     ("timer: a task that there is not", |seen| seen.items.timers.iter().any(|timer| !seen.is_task(timer.task))),
     ("timers: not by tocks left", |seen| !seen.items.timers.is_sorted_by_key(|timer| timer.tocks_left)),
+    ("message: for a task that there is not", |seen| seen.lying().any(|record| !seen.is_task(record[0]))),
+    ("message: a number that there is not", |seen| {
+        seen.lying().any(|record| !(1..=seen.configuration.messages).contains(&record[1]))
+    }),
+    ("message: twice", |seen| {
+        let numbers: Vec<u8> = seen.lying().map(|record| record[1]).collect();
+        numbers.iter().enumerate().any(|(place, number)| numbers[..place].contains(number))
+    }),
     ("mailbox: not by senders", |seen| {
         seen.items.mailboxes.iter().any(|mailbox| !mailbox.is_sorted_by_key(|letter| letter.sender))
     }),
@@ -80,6 +88,12 @@ impl Seen<'_> {
 
     fn rings(&self) -> impl Iterator<Item = (&[u8], &QueueSize)> {
         self.lent.tables[self.regions.rings..].chunks_exact(2).zip(&self.configuration.queues)
+    }
+
+    /// The records of the messages that lie in mailboxes.
+    fn lying(&self) -> impl Iterator<Item = &[u8]> {
+        let lying = usize::from(self.lent.tables[1].min(self.configuration.messages));
+        self.lent.tables[self.regions.messages..].chunks_exact(4).take(lying)
     }
 
     fn is_task(&self, task: u8) -> bool {

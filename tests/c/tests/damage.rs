@@ -81,8 +81,8 @@ fn any_damage() {
 
 /// Each rule was broken, each service accepted, each number given, and each strange memory met by an accepted frame.
 fn all_met(counts: &Counts) {
-    let Counts { broken, accepted, refused, strange, reissues, .. } = counts;
-    let all = format!("{broken:?}, accepted {accepted:?}, refused {refused:?}, {reissues} reissues, {strange:#?}");
+    let Counts { broken, filled, accepted, refused, strange, reissues, .. } = counts;
+    let all = format!("{broken:?}, {filled} by frames, accepted {accepted:?}, refused {refused:?}, {reissues} reissues, {strange:#?}");
     println!("{} calls: {all}", counts.calls);
     for rule in [Rule::Sizes, Rule::Configuration, Rule::Messages] {
         assert!(broken.get(&rule) > Some(&500), "{rule:?}: {all}");
@@ -97,6 +97,7 @@ fn all_met(counts: &Counts) {
         assert!(strange.get(name) > Some(&50), "{name}: {all}");
     }
     assert!(*reissues > 1000, "{all}");
+    assert!(*filled > 20, "{all}");
 }
 
 /// A memory that needs few bytes: each of them with each value.
