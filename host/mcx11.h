@@ -30,7 +30,7 @@ extern "C" {
 #define MCX11_CONFIG_BYTES 198  /**< of mcx11_t::config */
 #define MCX11_TABLES_BYTES 7509 /**< of mcx11_t::tables */
 #define MCX11_SLOTS_BYTES 2016  /**< of mcx11_t::slots */
-#define MCX11_TIMERS_BYTES 641  /**< of mcx11_t::timers */
+#define MCX11_TIMERS_BYTES 651  /**< of mcx11_t::timers */
 #define MCX11_ANSWER_BYTES 21   /**< of mcx11_t::answer */
 /** @} */
 
@@ -51,7 +51,7 @@ typedef struct mcx11_t {
     uint8_t config[MCX11_CONFIG_BYTES]; /**< the accepted configuration */
     uint8_t tables[MCX11_TABLES_BYTES]; /**< tasks, semaphores, messages, queues, ticks */
     uint8_t slots[MCX11_SLOTS_BYTES];   /**< 16 bytes for each task, task 1's first */
-    uint8_t timers[MCX11_TIMERS_BYTES]; /**< the timers */
+    uint8_t timers[MCX11_TIMERS_BYTES]; /**< the timers and their clock */
     uint8_t answer[MCX11_ANSWER_BYTES]; /**< the length of the last answer, and behind it the answer */
 } mcx11_t;
 
@@ -440,17 +440,44 @@ static inline struct mcx11_layout_t mcx11_layout(const mcx11_t *m)
     return at;
 }
 
-/* Four bytes of the task's timer on this semaphore, from the given place of its record on; 0 if there is none. */
-static inline uint32_t mcx11_of_timer(const mcx11_t *m, uint8_t task, uint8_t semaphore, size_t place)
+/* How many timers run. Their rows are 1, 2 and so on; row 0 is their clock. */
+static inline size_t mcx11_timer_rows(const mcx11_t *m)
 {
-    const size_t most = mcx11_layout(m).timers, count = m->timers[0] < most ? m->timers[0] : most;
-    size_t i;
-    for (i = 0; i < count; i++) {
-        const uint8_t *record = m->timers + 1 + 10 * i, *four = record + place;
+    const size_t most = mcx11_layout(m).timers;
+    return m->timers[0] < most ? m->timers[0] : most;
+}
+
+/* Four bytes of a row, low byte first: at 2 when a timer is due, and the time; at 6 its period, and the floor. */
+static inline uint32_t mcx11_timer_four(const mcx11_t *m, size_t row, size_t place)
+{
+    const uint8_t *four = m->timers + 1 + 10 * row + place;
+    return (uint32_t)four[3] << 24 | (uint32_t)four[2] << 16 | (uint32_t)four[1] << 8 | four[0];
+}
+
+/* The row of the task's timer on this semaphore; 0 if there is none. */
+static inline size_t mcx11_timer_row(const mcx11_t *m, uint8_t task, uint8_t semaphore)
+{
+    const size_t rows = mcx11_timer_rows(m);
+    size_t row;
+    for (row = 1; row <= rows; row++) {
+        const uint8_t *record = m->timers + 1 + 10 * row;
         if (record[0] == task && record[1] == semaphore)
-            return (uint32_t)four[0] << 24 | (uint32_t)four[1] << 16 | (uint32_t)four[2] << 8 | four[3];
+            return row;
     }
     return 0;
+}
+
+/* When the timer of a row is due: at the time in its row, but no later than those behind it, and not before the floor. */
+static inline uint32_t mcx11_timer_due(const mcx11_t *m, size_t row)
+{
+    const size_t rows = mcx11_timer_rows(m);
+    const uint32_t least = mcx11_timer_four(m, 0, 6);
+    uint32_t due = mcx11_timer_four(m, row, 2);
+    while (++row <= rows) {
+        const uint32_t other = mcx11_timer_four(m, row, 2);
+        due = other < due ? other : due;
+    }
+    return due < least ? least : due;
 }
 /** @endcond */
 
@@ -556,20 +583,22 @@ static inline const uint8_t *mcx11_queue_entry(const mcx11_t *m, uint8_t queue, 
 /** How many timers run. */
 static inline uint8_t mcx11_timer_count(const mcx11_t *m)
 {
-    const size_t most = mcx11_layout(m).timers;
-    return m->timers[0] < most ? m->timers[0] : (uint8_t)most;
+    return (uint8_t)mcx11_timer_rows(m);
 }
 
 /** The tocks until the task's timer on this semaphore is due, as both are numbered (not 0); 0 if there is none. */
 static inline uint32_t mcx11_tocks_left(const mcx11_t *m, uint8_t task, uint8_t semaphore)
 {
-    return mcx11_of_timer(m, task, semaphore, 2);
+    const size_t row = mcx11_timer_row(m, task, semaphore);
+    const uint32_t now = mcx11_timer_four(m, 0, 2), due = row == 0 ? now : mcx11_timer_due(m, row);
+    return due < now ? 0 : due - now;
 }
 
 /** The period of the task's timer on this semaphore; 0 if it is a one-shot, or there is none. */
 static inline uint32_t mcx11_period(const mcx11_t *m, uint8_t task, uint8_t semaphore)
 {
-    return mcx11_of_timer(m, task, semaphore, 6);
+    const size_t row = mcx11_timer_row(m, task, semaphore);
+    return row == 0 ? 0 : mcx11_timer_four(m, row, 6);
 }
 
 /* ==== The end of the part that knows the layout ==== */

@@ -379,11 +379,15 @@ fn assert_shown(memory: &HashMap<&str, Bytes>, configuration: &Configuration, it
 
     let number = limited(timers.number(0), numbers.timers);
     assert_eq!(number, items.timers.len());
+    let four = |row: usize, at: usize| u32::from_le_bytes(timers.some(1 + 10 * row + at, 4).try_into().unwrap());
+    let (time, floor) = (four(0, 2), four(0, 6));
+    let mut before = floor.max(time);
     for (index, timer) in items.timers.iter().enumerate() {
-        let record = timers.some(1 + 10 * index, 10);
-        let four = |at: usize| u32::from_be_bytes(record[at..at + 4].try_into().unwrap());
-        assert_eq!((record[0], record[1]), (timer.task, timer.semaphore));
-        assert_eq!((u64::from(four(2)), four(6)), (timer.tocks_left, timer.period));
+        let (row, due) = (index + 1, four(index + 1, 2));
+        assert!(before <= due, "timer {row} is due at {due}, before {before}");
+        assert_eq!(timers.some(1 + 10 * row, 2), [timer.task, timer.semaphore]);
+        assert_eq!((u64::from(due - time), four(row, 6)), (timer.tocks_left, timer.period));
+        before = due;
     }
 }
 

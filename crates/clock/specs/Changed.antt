@@ -16,7 +16,7 @@ use Rattle.ledger.specs.Services.{insertTimer, startTimer}
 use Rattle.ledger.specs.Refusals.{haveTimer}
 use Rattle.ledger.specs.Session.{timerLeft}
 use Rattle.timers.specs.Timers.{timer, timersIn, tocksLeft, startedFor, stays, tocked, dueIn, firstDue, takenDue}
-use Rattle.timers.specs.Laws.{length-timers}
+use Rattle.timers.specs.Loops.{length-timers}
 use Rattle.timers.specs.Lists.{keep-map}
 use Rattle.timers.specs.Shown.{shown-length, shown-have, shown-start}
 use Rattle.timers.specs.Drained.{nextDue, takeDue, one-fewer, shown-next, shown-take}

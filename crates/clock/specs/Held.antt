@@ -1,4 +1,4 @@
--- The block `timers`: a byte that counts the records, and the records behind it, lent as a part of the block.
+-- The block `timers`: a byte that counts the timers, and their rows behind it, lent as a part of the block: ten bytes of a clock, and ten for each timer.
 use mathlib.Core.Path.{_≡_, refl}
 use mathlib.Core.List.{List, [], _∷_, append-nil}
 use Prim.Native.Nat.{ℕ, suc, _+_, _-_, _*_, _≤_}
@@ -14,11 +14,11 @@ use Rattle.timers.specs.Timers.{timersIn}
 use Rattle.tables.specs.declared.shape.Shape.{Shape}
 use Rattle.tables.specs.Decode.{countOf}
 
--- n bytes have room for the count and the records. (No record, so that its parts stay out of sight where one fact of it is wanted)
+-- n bytes have room for the count, the clock and the records. (No record, so that its parts stay out of sight where one fact of it is wanted)
 pub data Holds (s : Shape) (n : ℕ) : Type 0 where
-  holding : 1 + 10 * s .timers ≤ n → s .timers ≤ 64 → Holds s n
+  holding : 11 + 10 * s .timers ≤ n → s .timers ≤ 64 → Holds s n
 
-pub space : {s : Shape} {n : ℕ} → Holds s n → 1 + 10 * s .timers ≤ n
+pub space : {s : Shape} {n : ℕ} → Holds s n → 11 + 10 * s .timers ≤ n
 space (holding a b) = a
 
 pub few : {s : Shape} {n : ℕ} → Holds s n → s .timers ≤ 64
@@ -46,8 +46,8 @@ back (x ∷ xs) ys h =
     let e : suc (length xs) - 1 ≡ length xs = omega arith in
     rw (e, drop-of-length-le xs {i = length xs} (omega arith), append-nil)
 
--- records have room in the part
-pub records-in : {s : Shape} (w : List ℕ) → Holds s (length w) → (n : ℕ) → n ≤ s .timers → n * 10 ≤ length (cut w 1 (length w))
+-- the clock and n records have room in the part
+pub records-in : {s : Shape} (w : List ℕ) → Holds s (length w) → (n : ℕ) → n ≤ s .timers → n * 10 + 10 ≤ length (cut w 1 (length w))
 records-in w h n f = omega (arith, space h, length-cut w 1 (length w) (omega arith))
 
 module _ (s : Shape) (w : List ℕ) (h : Holds s (length w)) (n : ℕ) (counts : n ≡ countOf (s .timers) (getD w 0 0)) where

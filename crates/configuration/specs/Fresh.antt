@@ -5,14 +5,14 @@ use mathlib.Core.List.{List, [], _∷_, map}
 use Prim.Native.Nat.{ℕ, zero, suc, _+_, _-_, _*_, _<_, _≤_}
 use native.Mathlib.Omega.{arith}
 use lib.Dec.{eqb, leb}
-use lib.ListN.{length, getD, replicate, getD-replicate}
+use lib.ListN.{length, getD, drop, replicate, getD-replicate}
 use lib.Seq.{ext-getD}
 use borrow.Author.Tests.{ne-eqb, le-leb, leb-true}
 use Rattle.rows.specs.Rows.{rowAt, getD-row, length-row}
 use Rattle.rows.specs.Tab.{tab, tab-ext, tab-of, map-tab}
 use Rattle.messages.specs.Pending.{pendingIn, mailboxesOf}
 use Rattle.messages.specs.Mailboxes.{mailboxes-none}
-use Rattle.timers.specs.Timers.{timersIn}
+use Rattle.timers.specs.Records.{none-in}
 use Rattle.ledger.specs.Lists.{all}
 use Rattle.ledger.specs.Config.{Config}
 use Rattle.ledger.specs.Ledger as ledger
@@ -166,8 +166,8 @@ module _ (c : Config) (s : Shape) (o : Of c s) (d z w : List ℕ)
   taken-fresh q = subst (λ (k : Queue). k .taken ≤ length (k .put)) (sym (fresh-queue c q)) (omega arith)
 
   timers-fresh : [] ≡ timersOf c w
-  unfolding timersOf timersIn
-  timers-fresh = sym (rw (none, le-leb 0 (c .R) (omega arith)))
+  unfolding timersOf
+  timers-fresh = sym (rw (none, le-leb 0 (c .R) (omega arith)) (none-in (drop 1 w)))
 
   fresh-shown : Shown c (fresh c) p z w
   unfolding fresh
@@ -182,5 +182,5 @@ module _ (c : Config) (s : Shape) (o : Of c s) (d z w : List ℕ)
         timers = timers-fresh;
       }
 
-  pub fresh-shows : s .end ≤ length d → 1 + 10 * c .R ≤ length w → Shows c s (fresh c) d z w
+  pub fresh-shows : s .end ≤ length d → 11 + 10 * c .R ≤ length w → Shows c s (fresh c) d z w
   fresh-shows room counted = record { of = o; room = room; slots = omega (arith, o .tasks); counted = omega (arith, o .timers); shown = fresh-shown }

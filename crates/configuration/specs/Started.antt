@@ -2,14 +2,11 @@
 use mathlib.Core.Path.{_≡_, sym, ap, _∙_, subst}
 use mathlib.Core.Bool.{true}
 use mathlib.Core.List.{List}
-use Prim.Native.Nat.{ℕ, _+_, _-_, _*_, _<_, _≤_}
+use Prim.Native.Nat.{ℕ, _+_, _-_, _*_, _≤_}
 use native.Mathlib.Omega.{arith}
-use lib.ListN.{length, getD, take, drop, set, replicate, length-set, length-replicate, getD-replicate}
-use lib.Seq.{getD-set-same}
+use lib.ListN.{length, take, drop, replicate}
 use borrow.Rule.Slice.PartMut.{putMid}
 use Rattle.rows.specs.Splice.{cut, splice}
-use Rattle.rows.specs.Laws.{length-cut, length-splice}
-use Rattle.rows.specs.Bytes.{byte-in, lent-part}
 use Rattle.ledger.specs.Lists.{byte}
 use Rattle.ledger.specs.Config.{Config, configIn, configRefusal, controller}
 use Rattle.ledger.specs.Ledger.{fresh}
@@ -17,13 +14,14 @@ use Rattle.tables.specs.declared.shape.Shape.{Shape}
 use Rattle.tables.specs.Layout.{Fits, fitting}
 use Rattle.tables.specs.Shows.{Of, Shows}
 use Rattle.configuration.specs.Block.{configured, rule}
-use Rattle.configuration.specs.Layout.{of-one, end-most}
+use Rattle.configuration.specs.Layout.{of-one}
 use Rattle.configuration.specs.Accepted.{Accepted, accepted, accepted-length, accepted-states, configured-in}
 use Rattle.configuration.specs.Fresh.{FreshTables, fresh-shows}
+use Rattle.configuration.specs.Written.{cleared-length, cleared}
 
--- the bytes of a count and of the timers' records
+-- the bytes of the timers' count, their clock and their records
 abbrev pub timersBytes : Shape → ℕ
-timersBytes s = 1 + 10 * s .timers
+timersBytes s = 11 + 10 * s .timers
 
 -- the memory shows the fresh ledger, in the shape that the frame asks for
 pub record Started (f d z w : List ℕ) : Type 0 where
@@ -60,33 +58,23 @@ module _ (f : List ℕ) (zero : configRefusal f ≡ 0) where
           let x : FreshTables s (byte 5 f) (configIn f .states) d = subst (λ (l : List ℕ). FreshTables s (byte 5 f) l d) states-are b in
           subst (λ (v : Shape). FreshTables v (byte 5 f) (configIn f .states) d) (of-one (configIn f) s o ∙ sym (of-one (configIn f) u p)) x
 
-      module _ (z ys w : List ℕ) (ey : ys ≡ replicate (length (cut z 0 (16 * s .tasks))) 0) (ld : s .end ≤ length d) (lz : 16 * s .tasks ≤ length z) (lw : timersBytes s ≤ length w) where
+      module _ (z ys w us : List ℕ) (ey : ys ≡ replicate (length (cut z 0 (16 * s .tasks))) 0) (eu : us ≡ replicate (length (cut w 0 11)) 0)
+          (ld : s .end ≤ length d) (lz : 16 * s .tasks ≤ length z) (lw : timersBytes s ≤ length w) where
         abbrev z' : List ℕ
         z' = putMid 0 (16 * s .tasks - 0) z ys
 
-        length-ys : length ys ≡ 16 * s .tasks - 0
-        length-ys = ap length ey ∙ length-replicate (length (cut z 0 (16 * s .tasks))) 0 ∙ length-cut z 0 (16 * s .tasks) (omega (arith, lz))
+        abbrev w' : List ℕ
+        w' = putMid 0 11 w us
 
-        z-is : z' ≡ splice z 0 ys
-        z-is = lent-part z 0 (16 * s .tasks) ys (omega arith) (omega (arith, lz)) length-ys
-
-        length-z : length z' ≡ length z
-        length-z = ap length z-is ∙ length-splice z 0 ys (omega (arith, length-ys, lz))
-
-        zeros : (i : ℕ) → i < 16 * configIn f .T → getD z' i 0 ≡ 0
-        zeros i h =
-            let e : 0 + i ≡ i = omega arith in
-            let m : length (cut z 0 (16 * s .tasks)) ≡ 16 * s .tasks - 0 = length-cut z 0 (16 * s .tasks) (omega (arith, lz)) in
-            ap (λ (x : List ℕ). getD x i 0) z-is ∙ ap (λ (x : ℕ). getD (splice z 0 ys) x 0) (sym e)
-            ∙ byte-in z ys 0 (omega (arith, length-ys, lz)) i (omega (arith, length-ys, o .tasks)) ∙ ap (λ (x : List ℕ). getD x i 0) ey
-            ∙ getD-replicate (length (cut z 0 (16 * s .tasks))) i 0 0 (omega (arith, o .tasks))
-
-        pub started : Started f d z' (set w 0 0)
+        pub started : Started f d z' w'
         started =
             let c : Config = configIn f in
+            let nz : length z' ≡ length z = cleared-length z ys (16 * s .tasks) ey lz in
+            let nw : length w' ≡ length w = cleared-length w us 11 eu (omega arith) in
             record {
               shows = λ u p.
                   let e : u ≡ s = of-one c u p ∙ sym (of-one c s o) in
-                  fresh-shows c u p d z' (set w 0 0) (accepted-states f ok) (ok .states) (fresh-here u p)
-                  (omega (arith, length-z, lz, o .tasks)) zeros (getD-set-same w 0 0 0 (omega arith)) (omega (arith, ap (λ (x : Shape). x .end) e, ld)) (simp length-set (omega (arith, o .timers, lw)));
+                  fresh-shows c u p d z' w' (accepted-states f ok) (ok .states) (fresh-here u p)
+                  (omega (arith, nz, lz, o .tasks)) (λ i k. cleared z ys (16 * s .tasks) ey lz i (omega (arith, o .tasks))) (cleared w us 11 eu (omega arith) 0 (omega arith))
+                  (omega (arith, ap (λ (x : Shape). x .end) e, ld)) (omega (arith, nw, o .timers, lw));
             }

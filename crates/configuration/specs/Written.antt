@@ -21,6 +21,24 @@ use Rattle.tables.specs.OneBit.{block-set}
 use Rattle.tables.specs.Blocks.{plane-low}
 use Rattle.configuration.specs.Fresh.{kindOf, idleOf, freshBlocks, FreshTables}
 
+-- the first n bytes of a block were lent, and came back filled with 0
+module _ (d ys : List ℕ) (n : ℕ) (filled : ys ≡ replicate (length (cut d 0 n)) 0) (room : n ≤ length d) where
+  front-length : length ys ≡ n - 0
+  front-length = ap length filled ∙ length-replicate (length (cut d 0 n)) 0 ∙ length-cut d 0 n (omega arith)
+
+  front-is : putMid 0 (n - 0) d ys ≡ splice d 0 ys
+  front-is = lent-part d 0 n ys (omega arith) room front-length
+
+  pub cleared-length : length (putMid 0 (n - 0) d ys) ≡ length d
+  cleared-length = ap length front-is ∙ length-splice d 0 ys (omega (arith, front-length))
+
+  pub cleared : (i : ℕ) → i < n → getD (putMid 0 (n - 0) d ys) i 0 ≡ 0
+  cleared i h =
+      let e : 0 + i ≡ i = omega arith in
+      ap (λ (x : List ℕ). getD x i 0) front-is ∙ ap (λ (x : ℕ). getD (splice d 0 ys) x 0) (sym e)
+      ∙ byte-in d ys 0 (omega (arith, front-length)) i (omega (arith, front-length)) ∙ ap (λ (x : List ℕ). getD x i 0) filled
+      ∙ getD-replicate (length (cut d 0 n)) i 0 0 (omega (arith, length-cut d 0 n (omega arith)))
+
 -- ---- the loops' turns and ends
 
 pub fill-turn : (d : List ℕ) (i v : ℕ) → i < length d → ((k : ℕ) → k < i → getD d k 0 ≡ v) → (k : ℕ) → k < i + 1 → getD (set d i v) k 0 ≡ v

@@ -14,6 +14,9 @@ ghost use Rattle.configuration.specs.Fresh.{kindOf, idleOf, FreshTables}
 ghost use Rattle.configuration.specs.Written.{Begun, Marked};
 ghost use Rattle.configuration.specs.Started.{timersBytes, Started};
 
+// The front of the block `timers`: their number and their clock.
+const TIMERS_FRONT: usize = 11;
+
 fn fill(part: &mut [u8], v: u8)
     ensures { λ _. ⌜ now (part .exit) ≡ replicate (length (now (part .entry))) v ⌝ }
 {
@@ -92,5 +95,5 @@ pub fn start(frame: &[u8], tables: &mut [u8], slots: &mut [u8], timers: &mut [u8
     fresh_tables(&frame[8..at], frame[5], tables, shape);
     let end = 16 * shape.tasks;
     fill(&mut slots[0..end], 0);
-    timers[0] = 0;
+    fill(&mut timers[0..TIMERS_FRONT], 0);
 }

@@ -42,7 +42,7 @@ sizesOf k = record {
   config = longest k;
   tables = recordsAt + 22 * k .tasks + 255 + 2 * k .queues + 4 * k .messages + k .bytes;
   slots = 16 * k .tasks;
-  timers = 1 + 10 * k .timers;
+  timers = 11 + 10 * k .timers;
   answer = 21;
 }
 

@@ -80,7 +80,7 @@ pub record Begun (f a g' d' z' w' a' : List ℕ) : Type 0 where
   pub answered : a' ≡ written (session.answer 0 0 (fresh (configIn f))) a
 
 -- an accepted frame and its shape, by the fixed sizes
-pub begun-fits : (f : List ℕ) → configRefusal f ≡ 0 → (s : Shape) → Of (configIn f) s → (length f ≤ 198) × (s .end ≤ 7509) × (16 * s .tasks ≤ 2016) × (timersBytes s ≤ 641)
+pub begun-fits : (f : List ℕ) → configRefusal f ≡ 0 → (s : Shape) → Of (configIn f) s → (length f ≤ 198) × (s .end ≤ 7509) × (16 * s .tasks ≤ 2016) × (timersBytes s ≤ 651)
 unfolding configIn
 begun-fits f zero s o =
     let a = accepted f zero in

@@ -20,7 +20,7 @@ pub record Full (m : Memory) : Type 0 where
   pub config : 198 ≤ length (m .config)
   pub tables : 7509 ≤ length (m .tables)
   pub slots : 2016 ≤ length (m .slots)
-  pub timers : 641 ≤ length (m .timers)
+  pub timers : 651 ≤ length (m .timers)
   pub answer : 21 ≤ length (m .answer)
 
 pub full-sizes : (m : Memory) → fullSize m ≡ true → Full m
@@ -30,7 +30,7 @@ full-sizes m h =
       config = leb-true 198 _ (search (and-left, and-right) depth 9);
       tables = leb-true 7509 _ (search (and-left, and-right) depth 9);
       slots = leb-true 2016 _ (search (and-left, and-right) depth 9);
-      timers = leb-true 641 _ (search (and-left, and-right) depth 9);
+      timers = leb-true 651 _ (search (and-left, and-right) depth 9);
       answer = leb-true 21 _ (search (and-left, and-right) depth 9);
     }
 

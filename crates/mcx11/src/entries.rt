@@ -45,7 +45,7 @@ fn begin(
     timers: &mut [u8],
     answer: &mut [u8],
 )
-    requires { ⌜ (configRefusal (now frame) ≡ 0) × (198 ≤ length (now config)) × (7509 ≤ length (now tables)) × (2016 ≤ length (now slots)) × (641 ≤ length (now timers)) × (21 ≤ length (now answer)) ⌝ }
+    requires { ⌜ (configRefusal (now frame) ≡ 0) × (198 ≤ length (now config)) × (7509 ≤ length (now tables)) × (2016 ≤ length (now slots)) × (651 ≤ length (now timers)) × (21 ≤ length (now answer)) ⌝ }
     ensures { λ _. ⌜ Begun (now (frame .entry)) (now (answer .entry)) (now (config .exit)) (now (tables .exit)) (now (slots .exit)) (now (timers .exit)) (now (answer .exit)) ⌝ }
 {
     let shape = configuration::block::shape_of(frame);

@@ -43,7 +43,7 @@ fn sizes_of(limits: Limits) -> Sizes
         config: 8 + tasks + 2 * queues,
         tables: RECORDS_AT + 22 * tasks + 255 + 2 * queues + 4 * messages + bytes,
         slots: 16 * tasks,
-        timers: 1 + 10 * timers,
+        timers: 11 + 10 * timers,
         answer: 21,
     }
 }

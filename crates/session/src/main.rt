@@ -49,7 +49,7 @@ fn turn(
     config: &mut [u8; 198],
     tables: &mut [u8; 7509],
     slots: &mut [u8; 2016],
-    timers: &mut [u8; 641],
+    timers: &mut [u8; 651],
     answer: &mut [u8; 21],
     out: &mut [u8; 335872],
 ) -> Fed
@@ -97,7 +97,7 @@ fn end(
     config: &mut [u8; 198],
     tables: &mut [u8; 7509],
     slots: &mut [u8; 2016],
-    timers: &mut [u8; 641],
+    timers: &mut [u8; 651],
     answer: &mut [u8; 21],
     out: &mut [u8; 335872],
 )
@@ -115,7 +115,7 @@ fn main() {
     let mut config = [0u8; 198];
     let mut tables = [0u8; 7509];
     let mut slots = [0u8; 2016];
-    let mut timers = [0u8; 641];
+    let mut timers = [0u8; 651];
     let mut answer = [0u8; 21];
     let mut out = [0u8; 335872];
     let mut reached = feeding::start();

@@ -51,7 +51,7 @@ dues L e (t ∷ l) =
     let n : t .left - L .N ≡ t .left = omega arith in
     λ i. record { task = t .task; semaphore = t .semaphore; left = n i; period = t .period } ∷ dues L e l i
 
-pub shows-some : (c : Config) (s : Shape) (d z w : List ℕ) → Of c s → s .end ≤ length d → 16 * s .tasks ≤ length z → 1 + 10 * s .timers ≤ length w
+pub shows-some : (c : Config) (s : Shape) (d z w : List ℕ) → Of c s → s .end ≤ length d → 16 * s .tasks ≤ length z → 11 + 10 * s .timers ≤ length w
     → Shows c s (some c s d z w) d z w
 unfolding some queue at
 shows-some c s d z w o r k h =

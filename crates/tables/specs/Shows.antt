@@ -103,7 +103,7 @@ pub record Shows (c : Config) (s : Shape) (L : Ledger) (d z w : List ℕ) : Type
   pub of : Of c s
   pub room : s .end ≤ length d
   pub slots : 16 * s .tasks ≤ length z
-  pub counted : 1 + 10 * s .timers ≤ length w
+  pub counted : 11 + 10 * s .timers ≤ length w
   pub shown : Shown c L (regions s d) z w
 
 -- ---- what a function does

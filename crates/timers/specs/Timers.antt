@@ -1,35 +1,66 @@
--- Timers in bytes: what a record means, and what the ledger's changes are on timers by the tocks left.
+-- Timers in bytes: what the rows mean, and what the ledger's changes are on timers by the tocks left.
+use mathlib.Core.Path.{_≡_}
 use mathlib.Core.List.{List, [], _∷_, map}
 use mathlib.Core.Bool.{Bool, cond, not, _&&_, _||_}
-use Prim.Native.Nat.{ℕ, _+_, _-_, _*_, _/_, _%_}
-use lib.ListN.{length, getD}
+use Prim.Native.Nat.{ℕ, zero, suc, _+_, _-_, _*_, _/_, _%_, _≤_, min, max}
+use lib.ListN.{length, getD, drop, set}
 use lib.Dec.{ltb, eqb}
 use Rattle.ledger.specs.Lists.{keep, without, insertBy}
+use Rattle.ledger.specs.Ledger.{Timer}
 use Rattle.ledger.specs.Session.{TimerLeft}
 use Rattle.rows.specs.Rows.{rowsOf}
 use Rattle.rows.specs.First.{firstOf}
 
--- the number of four bytes from index i on, high first, and the bytes of a number
-abbrev pub be4 : List ℕ → ℕ → ℕ
-be4 d i = getD d i 0 * 16777216 + getD d (i + 1) 0 * 65536 + getD d (i + 2) 0 * 256 + getD d (i + 3) 0
+-- ---- bytes
+
+-- the number of four bytes from index i on, low first, and the bytes of a number
+abbrev pub le4 : List ℕ → ℕ → ℕ
+le4 d i = getD d i 0 + getD d (i + 1) 0 * 256 + getD d (i + 2) 0 * 65536 + getD d (i + 3) 0 * 16777216
 
 abbrev pub bytes4 : ℕ → List ℕ
-bytes4 x = x / 16777216 ∷ x / 65536 % 256 ∷ x / 256 % 256 ∷ x % 256 ∷ []
+bytes4 x = x % 256 ∷ x / 256 % 256 ∷ x / 65536 % 256 ∷ x / 16777216 ∷ []
 
 abbrev pub timer : (task semaphore left period : ℕ) → TimerLeft
 timer t s l p = record { task = t; semaphore = s; left = l; period = p }
 
--- a record of ten bytes: task, semaphore, tocks left (4), period (4)
-unfoldable pub timerOf : List ℕ → TimerLeft
-timerOf r = timer (getD r 0 0) (getD r 1 0) (be4 r 2) (be4 r 6)
+abbrev pub entry : (task semaphore due period : ℕ) → Timer
+entry t s x p = record { task = t; semaphore = s; due = x; period = p }
 
--- the first n records
-unfoldable pub timersIn : ℕ → List ℕ → List TimerLeft
-timersIn n d = map timerOf (rowsOf 10 n d)
+-- a row of ten bytes: task, semaphore, the time at which it is due (4), period (4)
+unfoldable pub entryOf : List ℕ → Timer
+entryOf r = entry (getD r 0 0) (getD r 1 0) (le4 r 2) (le4 r 6)
+
+-- the n rows behind row 0
+unfoldable pub recordsIn : ℕ → List ℕ → List Timer
+recordsIn n d = map entryOf (rowsOf 10 n (drop 10 d))
 
 -- record k, byte by byte
-abbrev pub timerAt : List ℕ → ℕ → TimerLeft
-timerAt d k = timer (getD d (k * 10) 0) (getD d (k * 10 + 1) 0) (be4 d (k * 10 + 2)) (be4 d (k * 10 + 6))
+abbrev pub recordAt : List ℕ → ℕ → Timer
+recordAt d k = entry (getD d (k * 10 + 10) 0) (getD d (k * 10 + 11) 0) (le4 d (k * 10 + 12)) (le4 d (k * 10 + 16))
+
+-- ---- what the rows mean
+
+-- the least of x and the times of a list
+unfoldable pub lowest : ℕ → List Timer → ℕ
+lowest x [] = x
+lowest x (t ∷ ts) = min (t .due) (lowest x ts)
+
+-- the tocks from a time on until x, or until the floor if that is later
+abbrev pub untilDue : (time floor x : ℕ) → ℕ
+untilDue time floor x = max x floor - time
+
+-- the same timer by the tocks left
+abbrev pub leftAt : ℕ → Timer → TimerLeft
+leftAt x t = timer (t .task) (t .semaphore) x (t .period)
+
+-- a timer is due at the time that its row keeps, but no later than those behind it and not before the floor: so any rows mean an ordered list
+unfoldable pub shownBy : (time floor : ℕ) → List Timer → List TimerLeft
+shownBy time floor [] = []
+shownBy time floor (t ∷ ts) = leftAt (untilDue time floor (lowest (t .due) ts)) t ∷ shownBy time floor ts
+
+-- row 0 is the clock: two free bytes, the time (4), the floor (4)
+unfoldable pub timersIn : ℕ → List ℕ → List TimerLeft
+timersIn n d = shownBy (le4 d 2) (le4 d 6) (recordsIn n d)
 
 -- ---- tests and changes of one timer
 
@@ -71,3 +102,34 @@ putAgain t l = cond (eqb (t .period) 0) l (insertBy tocksLeft (timer (t .task) (
 -- the first due one is taken out, and put in again if it is cyclic
 unfoldable pub takenDue : List TimerLeft → List TimerLeft
 takenDue l = putAgain (firstDue l) (without isDue l)
+
+-- ---- the rows' changes
+
+-- what n rows behind row 0 and the clock in it keep
+abbrev pub Keeps : ℕ → List ℕ → (time floor : ℕ) → List Timer → Type 0
+Keeps n d time floor l = (le4 d 2 ≡ time) × (le4 d 6 ≡ floor) × (recordsIn n d ≡ l)
+
+abbrev pub noEntry : Timer
+noEntry = entry 0 0 0 0
+
+-- the same record, due at another time
+abbrev pub dueAt : ℕ → Timer → Timer
+dueAt x t = entry (t .task) (t .semaphore) x (t .period)
+
+-- due no earlier than the floor, on a clock that is set back
+abbrev pub settledBy : (back floor : ℕ) → Timer → Timer
+settledBy back floor t = dueAt (untilDue back floor (t .due)) t
+
+-- the record before record k is due no later than that one
+unfoldable pub handedOn : ℕ → List Timer → List Timer
+handedOn zero l = l
+handedOn (suc k) l = set l k (dueAt (min (getD l k noEntry .due) (getD l (suc k) noEntry .due)) (getD l k noEntry))
+
+-- none of a list is due before x
+abbrev pub allFrom : ℕ → List Timer → Type 0
+allFrom x l = x ≤ lowest x l
+
+-- the last of the first k, if there is one, is due by x
+abbrev pub reached : ℕ → ℕ → List Timer → Type 0
+reached x zero l = Unit {0}
+reached x (suc k) l = getD l k noEntry .due ≤ x

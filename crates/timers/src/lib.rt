@@ -1,28 +1,30 @@
-// Timers: records of ten bytes (task, semaphore, tocks left, period or 0 for a one-shot), n of them from the first byte of a lent slice on.
+// Timers: rows of ten bytes in a lent slice. Row 0 is the timers' own clock, rows 1 to n are the timers.
+// The clock keeps the time in tocks and a floor; a timer keeps its task, its semaphore, the time at which it is due and its period, or 0 for a one-shot.
+// So a tock changes the time alone, and with none due it looks at no timer; a timer that is due behind all others goes in without a search.
 // Promises: each function changes the list that the bytes mean as the ledger changes its list of timers, whatever the bytes are (specs/Timers; specs/Shown ties it to every ledger).
-// Rests on the crates rows (records moved in a slice) and ledger (the definitions).
+// Rests on the crates rows (rows moved in a slice) and ledger (the definitions).
 ghost use mathlib.Core.Path.{_≡_};
 ghost use mathlib.Core.List.{map};
-ghost use mathlib.Core.Bool.{cond};
-ghost use Prim.Native.Nat.{_+_, _-_, _*_, _<_, _≤_};
-ghost use lib.ListN.{length};
-ghost use lib.Dec.{eqb};
+ghost use mathlib.Core.Bool.{false};
+ghost use Prim.Native.Nat.{ℕ, suc, _+_, _-_, _*_, _^_, _<_, _≤_, min};
+ghost use lib.ListN.{length, drop, set};
 ghost use Rattle.ledger.specs.Lists.{any, keep, insertBy};
 ghost use Rattle.rows.specs.Splice.{splice};
-ghost use Rattle.rows.specs.First.{firstOf};
-ghost use Rattle.timers.specs.Timers.{be4, bytes4, timer, timerAt, timersIn, tocksLeft, later, startedFor, stays, tocked, isDue, dueIn, firstDue, takenDue};
+ghost use Rattle.rows.specs.Rows.{insertAt, removeAt};
+ghost use Rattle.rows.specs.First.{keepFrom};
+ghost use Rattle.timers.specs.Timers.{le4, bytes4, timer, entry, leftAt, dueAt, recordAt, recordsIn, timersIn, Keeps, untilDue, settledBy, handedOn, reached, allFrom, tocksLeft, startedFor, stays, tocked, dueIn, firstDue, takenDue};
 
-// The number of four bytes, high first.
+// The number of four bytes, low first.
 fn four(a: u8, b: u8, c: u8, d: u8) -> u32
-    ensures { λ r. ⌜ r ≡ a * 16777216 + b * 65536 + c * 256 + d ⌝ }
+    ensures { λ r. ⌜ r ≡ a + b * 256 + c * 65536 + d * 16777216 ⌝ }
 {
-    (a as u32) * 16777216 + (b as u32) * 65536 + (c as u32) * 256 + (d as u32)
+    (a as u32) + (b as u32) * 256 + (c as u32) * 65536 + (d as u32) * 16777216
 }
 
-// Four bytes from index i on, high first.
+// Four bytes from index i on, low first.
 pub fn get4(b: &[u8], i: usize) -> u32
     requires { ⌜ i + 4 ≤ length (now b) ⌝ }
-    ensures { λ r. ⌜ r ≡ be4 (now (b .entry)) i ⌝ }
+    ensures { λ r. ⌜ r ≡ le4 (now (b .entry)) i ⌝ }
 {
     four(b[i], b[i + 1], b[i + 2], b[i + 3])
 }
@@ -31,60 +33,159 @@ pub fn put4(b: &mut [u8], i: usize, x: u32)
     requires { ⌜ i + 4 ≤ length (now b) ⌝ }
     ensures { λ _. ⌜ now (b .exit) ≡ splice (now (b .entry)) i (bytes4 x) ⌝ }
 {
-    b[i] = (x / 16777216) as u8;
-    b[i + 1] = (x / 65536 % 256) as u8;
-    b[i + 2] = (x / 256 % 256) as u8;
-    b[i + 3] = (x % 256) as u8;
+    b[i] = (x % 256) as u8;
+    b[i + 1] = (x / 256 % 256) as u8;
+    b[i + 2] = (x / 65536 % 256) as u8;
+    b[i + 3] = (x / 16777216) as u8;
 }
 
-// Whether timer k has more tocks left.
-fn is_later(b: &[u8], k: usize, left: u32) -> bool
-    requires { ⌜ k * 10 + 10 ≤ length (now b) ⌝ }
-    ensures { λ r. ⌜ r ≡ later left (timerAt (now (b .entry)) k) ⌝ }
+// The time at which record k is due.
+fn due_at(b: &[u8], k: usize) -> u32
+    requires { ⌜ k * 10 + 20 ≤ length (now b) ⌝ }
+    ensures { λ r. ⌜ r ≡ recordAt (now (b .entry)) k .due ⌝ }
 {
-    left < get4(b, k * 10 + 2)
+    get4(b, k * 10 + 12)
 }
 
-// The place of the first of n timers with more tocks left, or n.
-fn place(b: &[u8], n: usize, left: u32) -> usize
-    requires { ⌜ n * 10 ≤ length (now b) ⌝ }
-    ensures { λ r. ⌜ (r ≤ n) × (r ≡ firstOf (later left) (timersIn n (now (b .entry)))) ⌝ }
+// Record k is due at another time.
+fn set_due(b: &mut [u8], k: usize, x: u32)
+    requires { ⌜ k * 10 + 20 ≤ length (now b) ⌝ }
+    ensures { λ _. ⌜ ((n : ℕ) → k < n → n * 10 + 10 ≤ length (now (b .entry)) → Keeps n (now (b .exit)) (le4 (now (b .entry)) 2) (le4 (now (b .entry)) 6) (set (recordsIn n (now (b .entry))) k (dueAt x (recordAt (now (b .entry)) k)))) ⌝ }
+{
+    put4(b, k * 10 + 12, x);
+}
+
+// The difference, or 0.
+fn minus(x: u32, y: u32) -> u32
+    ensures { λ r. ⌜ r ≡ x - y ⌝ }
+{
+    if x < y { 0 } else { x - y }
+}
+
+// A time, but not before the floor, on a clock that is set back.
+fn settled(x: u32, floor: u32, back: u32) -> u32
+    ensures { λ r. ⌜ r ≡ untilDue back floor x ⌝ }
+{
+    if x < floor {
+        return minus(floor, back);
+    }
+    minus(x, back)
+}
+
+// Each of n timers is due no earlier than the floor, on a clock that is set back.
+fn settle(b: &mut [u8], n: usize, floor: u32, back: u32)
+    requires { ⌜ n * 10 + 10 ≤ length (now b) ⌝ }
+    ensures { λ _. ⌜ Keeps n (now (b .exit)) (le4 (now (b .entry)) 2) (le4 (now (b .entry)) 6) (map (settledBy back floor) (recordsIn n (now (b .entry)))) ⌝ }
 {
     let mut k = 0;
     while k < n {
-        if is_later(b, k, left) {
-            return k;
-        }
+        let x = due_at(b, k);
+        set_due(b, k, settled(x, floor, back));
         k += 1;
     }
-    n
+}
+
+// The time. The clock is set back first where the time of something that many tocks away would not fit its four bytes.
+fn time_before(b: &mut [u8], n: usize, left: u32) -> u32
+    requires { ⌜ n * 10 + 10 ≤ length (now b) ⌝ }
+    ensures { λ r. ⌜ (r ≡ le4 (now (b .exit)) 2) × (r + left < 2 ^ 32) × (timersIn n (now (b .exit)) ≡ timersIn n (now (b .entry))) ⌝ }
+{
+    let time = get4(b, 2);
+    if left <= 4294967295 - time {
+        return time;
+    }
+    settle(b, n, 0, time);
+    put4(b, 2, 0);
+    let floor = get4(b, 6);
+    put4(b, 6, minus(floor, time));
+    0
+}
+
+// The lesser of two.
+fn lesser(x: u32, y: u32) -> u32
+    ensures { λ r. ⌜ r ≡ min x y ⌝ }
+{
+    if x < y { x } else { y }
+}
+
+// A time before which none of n timers is due.
+fn earliest(b: &[u8], n: usize) -> u32
+    requires { ⌜ n * 10 + 10 ≤ length (now b) ⌝ }
+    ensures { λ r. ⌜ allFrom r (recordsIn n (now (b .entry))) ⌝ }
+{
+    let mut k = n;
+    let mut time = 4294967295;
+    while 0 < k {
+        time = lesser(get4(b, k * 10 + 2), time);
+        k -= 1;
+    }
+    time
+}
+
+// How many of n timers are due by a time. They are in order, so these end with the last that keeps no later time.
+fn place(b: &[u8], n: usize, due: u32) -> usize
+    requires { ⌜ n * 10 + 10 ≤ length (now b) ⌝ }
+    ensures { λ r. ⌜ (r ≤ n) × reached due r (recordsIn n (now (b .entry))) × allFrom (suc due) (drop r (recordsIn n (now (b .entry)))) ⌝ }
+{
+    let mut k = n;
+    while 0 < k {
+        if get4(b, k * 10 + 2) <= due {
+            return k;
+        }
+        k -= 1;
+    }
+    0
+}
+
+// Lowers the floor to a time before it. No timer that was due at the floor is due earlier.
+fn lower(b: &mut [u8], n: usize, due: u32)
+    requires { ⌜ (n * 10 + 10 ≤ length (now b)) × (due < le4 (now b) 6) ⌝ }
+    ensures { λ _. ⌜ (le4 (now (b .exit)) 2 ≡ le4 (now (b .entry)) 2) × (le4 (now (b .exit)) 6 ≡ due) × allFrom (suc due) (recordsIn n (now (b .exit))) × (timersIn n (now (b .exit)) ≡ timersIn n (now (b .entry))) ⌝ }
+{
+    let floor = get4(b, 6);
+    settle(b, n, floor, 0);
+    put4(b, 6, due);
+}
+
+// Puts a record in before record at of n.
+fn put_in(b: &mut [u8], n: usize, at: usize, task: u8, semaphore: u8, due: u32, period: u32)
+    requires { ⌜ (at ≤ n) × (n * 10 + 20 ≤ length (now b)) ⌝ }
+    ensures { λ _. ⌜ Keeps (n + 1) (now (b .exit)) (le4 (now (b .entry)) 2) (le4 (now (b .entry)) 6) (insertAt at (entry task semaphore due period) (recordsIn n (now (b .entry)))) ⌝ }
+{
+    let mut row = [0u8; 10];
+    row[0] = task;
+    row[1] = semaphore;
+    put4(&mut row, 2, due);
+    put4(&mut row, 6, period);
+    rows::insert_at(b, n + 1, 10, at + 1, &row);
 }
 
 // Puts a timer in behind those of n that are due no later.
 pub fn insert(b: &mut [u8], n: usize, task: u8, semaphore: u8, left: u32, period: u32)
-    requires { ⌜ n * 10 + 10 ≤ length (now b) ⌝ }
+    requires { ⌜ n * 10 + 20 ≤ length (now b) ⌝ }
     ensures { λ _. ⌜ timersIn (n + 1) (now (b .exit)) ≡ insertBy tocksLeft (timer task semaphore left period) (timersIn n (now (b .entry))) ⌝ }
 {
-    let at = place(b, n, left);
-    let mut row = [0u8; 10];
-    row[0] = task;
-    row[1] = semaphore;
-    put4(&mut row, 2, left);
-    put4(&mut row, 6, period);
-    rows::insert_at(b, n, 10, at, &row);
+    let due = time_before(b, n, left) + left;
+    if due < get4(b, 6) {
+        lower(b, n, due);
+        put_in(b, n, 0, task, semaphore, due, period);
+        return;
+    }
+    let at = place(b, n, due);
+    put_in(b, n, at, task, semaphore, due, period);
 }
 
 // Whether timer k is for a task and a semaphore.
 fn is_for(b: &[u8], k: usize, task: u8, semaphore: u8) -> bool
-    requires { ⌜ k * 10 + 10 ≤ length (now b) ⌝ }
-    ensures { λ r. ⌜ r ≡ startedFor task semaphore (timerAt (now (b .entry)) k) ⌝ }
+    requires { ⌜ k * 10 + 20 ≤ length (now b) ⌝ }
+    ensures { λ r. ⌜ r ≡ startedFor task semaphore (leftAt 0 (recordAt (now (b .entry)) k)) ⌝ }
 {
-    b[k * 10] == task && b[k * 10 + 1] == semaphore
+    b[k * 10 + 10] == task && b[k * 10 + 11] == semaphore
 }
 
 // Whether one of n timers is for a task and a semaphore.
 pub fn has(b: &[u8], n: usize, task: u8, semaphore: u8) -> bool
-    requires { ⌜ n * 10 ≤ length (now b) ⌝ }
+    requires { ⌜ n * 10 + 10 ≤ length (now b) ⌝ }
     ensures { λ r. ⌜ r ≡ any (startedFor task semaphore) (timersIn n (now (b .entry))) ⌝ }
 {
     let mut k = 0;
@@ -99,96 +200,88 @@ pub fn has(b: &[u8], n: usize, task: u8, semaphore: u8) -> bool
 
 // Whether a purge leaves timer k.
 fn is_left(b: &[u8], k: usize, task: u8, all: bool, semaphore: u8) -> bool
-    requires { ⌜ k * 10 + 10 ≤ length (now b) ⌝ }
-    ensures { λ r. ⌜ r ≡ stays task all semaphore (timerAt (now (b .entry)) k) ⌝ }
+    requires { ⌜ k * 10 + 20 ≤ length (now b) ⌝ }
+    ensures { λ r. ⌜ r ≡ stays task all semaphore (leftAt 0 (recordAt (now (b .entry)) k)) ⌝ }
 {
-    if b[k * 10] != task {
+    if b[k * 10 + 10] != task {
         return true;
     }
     if all {
         return false;
     }
-    b[k * 10 + 1] != semaphore
+    b[k * 10 + 11] != semaphore
+}
+
+// The first of n timers, from timer k on, that a purge takes out, or n.
+fn next_out(b: &[u8], n: usize, k: usize, task: u8, all: bool, semaphore: u8) -> usize
+    requires { ⌜ (k ≤ n) × (n * 10 + 10 ≤ length (now b)) ⌝ }
+    ensures { λ r. ⌜ (r ≤ n) × (keepFrom (stays task all semaphore) r (timersIn n (now (b .entry))) ≡ keepFrom (stays task all semaphore) k (timersIn n (now (b .entry)))) × (r < n → stays task all semaphore (leftAt 0 (recordAt (now (b .entry)) r)) ≡ false) ⌝ }
+{
+    let mut i = k;
+    while i < n {
+        if is_left(b, i, task, all, semaphore) {
+            i += 1;
+        } else {
+            return i;
+        }
+    }
+    n
+}
+
+// Makes record k of n ready to be taken out: the one before it is due no later than it was.
+fn hand_on(b: &mut [u8], n: usize, k: usize)
+    requires { ⌜ (k < n) × (n * 10 + 10 ≤ length (now b)) ⌝ }
+    ensures { λ _. ⌜ Keeps n (now (b .exit)) (le4 (now (b .entry)) 2) (le4 (now (b .entry)) 6) (handedOn k (recordsIn n (now (b .entry)))) ⌝ }
+{
+    if k == 0 {
+        return;
+    }
+    let x = due_at(b, k - 1);
+    let y = due_at(b, k);
+    set_due(b, k - 1, lesser(x, y));
+}
+
+// Takes timer k of n out.
+fn remove(b: &mut [u8], n: usize, k: usize)
+    requires { ⌜ (k < n) × (n * 10 + 10 ≤ length (now b)) ⌝ }
+    ensures { λ _. ⌜ timersIn (n - 1) (now (b .exit)) ≡ removeAt k (timersIn n (now (b .entry))) ⌝ }
+{
+    hand_on(b, n, k);
+    rows::remove_at(b, n + 1, 10, k + 1);
 }
 
 // Takes out of n timers all of a task, or only those on a semaphore. Gives the number that is left.
 pub fn purge(b: &mut [u8], n: usize, task: u8, all: bool, semaphore: u8) -> usize
-    requires { ⌜ n * 10 ≤ length (now b) ⌝ }
+    requires { ⌜ n * 10 + 10 ≤ length (now b) ⌝ }
     ensures { λ r. ⌜ (r ≤ n) × (timersIn r (now (b .exit)) ≡ keep (stays task all semaphore) (timersIn n (now (b .entry)))) ⌝ }
 {
     let mut m = n;
-    let mut k = 0;
+    let mut k = next_out(b, n, 0, task, all, semaphore);
     while k < m {
-        if is_left(b, k, task, all, semaphore) {
-            k += 1;
-        } else {
-            rows::remove_at(b, m, 10, k);
-            m -= 1;
-        }
+        remove(b, m, k);
+        m -= 1;
+        k = next_out(b, m, k, task, all, semaphore);
     }
     m
 }
 
-// One less, and 0 stays.
-fn less(x: u32) -> u32
-    ensures { λ r. ⌜ r ≡ x - 1 ⌝ }
-{
-    if x == 0 { 0 } else { x - 1 }
-}
-
-// A tock passes for timer k. Gives the tocks left.
-fn pass_one(b: &mut [u8], k: usize) -> u32
-    requires { ⌜ k * 10 + 10 ≤ length (now b) ⌝ }
-    ensures { λ r. ⌜ (r ≡ be4 (now (b .entry)) (k * 10 + 2) - 1) × (now (b .exit) ≡ splice (now (b .entry)) (k * 10 + 2) (bytes4 r)) ⌝ }
-{
-    let at = k * 10 + 2;
-    let left = less(get4(b, at));
-    put4(b, at, left);
-    left
-}
-
-// 1 for a timer that is due, else 0.
-fn one_if_due(left: u32) -> usize
-    ensures { λ r. ⌜ (r ≤ 1) × (r ≡ cond (eqb left 0) 1 0) ⌝ }
-{
-    if left == 0 { 1 } else { 0 }
-}
-
 // A tock passes for each of n timers. Gives the number of those that are then due.
+// Before the floor none is due. From the floor on the timers are looked at, and where none is due, the floor goes up.
 pub fn pass(b: &mut [u8], n: usize) -> usize
-    requires { ⌜ n * 10 ≤ length (now b) ⌝ }
+    requires { ⌜ n * 10 + 10 ≤ length (now b) ⌝ }
     ensures { λ r. ⌜ (r ≤ n) × (r ≡ dueIn (timersIn n (now (b .exit)))) × (timersIn n (now (b .exit)) ≡ map tocked (timersIn n (now (b .entry)))) ⌝ }
 {
-    let mut due = 0;
-    let mut k = 0;
-    while k < n {
-        due += one_if_due(pass_one(b, k));
-        k += 1;
+    let time = time_before(b, n, 1) + 1;
+    put4(b, 2, time);
+    if time < get4(b, 6) {
+        return 0;
     }
-    due
-}
-
-// Whether timer k is due.
-fn is_due(b: &[u8], k: usize) -> bool
-    requires { ⌜ k * 10 + 10 ≤ length (now b) ⌝ }
-    ensures { λ r. ⌜ r ≡ isDue (timerAt (now (b .entry)) k) ⌝ }
-{
-    get4(b, k * 10 + 2) == 0
-}
-
-// The place of the first of n timers that is due.
-fn first_due(b: &[u8], n: usize) -> usize
-    requires { ⌜ (n * 10 ≤ length (now b)) × (0 < dueIn (timersIn n (now b))) ⌝ }
-    ensures { λ r. ⌜ (r < n) × (r ≡ firstOf isDue (timersIn n (now (b .entry)))) ⌝ }
-{
-    let mut k = 0;
-    while k < n {
-        if is_due(b, k) {
-            return k;
-        }
-        k += 1;
+    let first = earliest(b, n);
+    if time < first {
+        put4(b, 6, first);
+        return 0;
     }
-    n
+    place(b, n, time)
 }
 
 // The semaphore that a due timer signals, and the number of timers now.
@@ -197,16 +290,15 @@ pub struct Due {
     pub count: usize,
 }
 
-// Takes the first of n timers that is due out, and puts it in again if it is cyclic.
+// Takes the first of n timers, which is due, out, and puts it in again if it is cyclic.
 pub fn take_due(b: &mut [u8], n: usize) -> Due
-    requires { ⌜ (n * 10 ≤ length (now b)) × (0 < dueIn (timersIn n (now b))) ⌝ }
+    requires { ⌜ (n * 10 + 10 ≤ length (now b)) × (0 < dueIn (timersIn n (now b))) ⌝ }
     ensures { λ r. ⌜ (r .count ≤ n) × (r .semaphore ≡ firstDue (timersIn n (now (b .entry))) .semaphore) × (timersIn (r .count) (now (b .exit)) ≡ takenDue (timersIn n (now (b .entry)))) ⌝ }
 {
-    let at = first_due(b, n);
-    let task = b[at * 10];
-    let semaphore = b[at * 10 + 1];
-    let period = get4(b, at * 10 + 6);
-    rows::remove_at(b, n, 10, at);
+    let task = b[10];
+    let semaphore = b[11];
+    let period = get4(b, 16);
+    remove(b, n, 0);
     if period == 0 {
         return Due {
             semaphore: semaphore,

@@ -97,7 +97,7 @@ impl<Call: FnMut(&mut Lent, &[u8]) -> Number> Watch<Call> {
 /// The bytes of each block that a configuration needs.
 pub fn needed(configuration: &Configuration) -> [usize; 5] {
     let (tasks, queues) = (usize::from(configuration.tasks), configuration.queues.len());
-    let timers = 1 + 10 * usize::from(configuration.timers);
+    let timers = 11 + 10 * usize::from(configuration.timers);
     [8 + tasks + 2 * queues, Regions::of(configuration).end, 16 * tasks, timers, SIZES[4]]
 }
 
@@ -176,18 +176,22 @@ fn open_a_request(random: &mut Random, memory: &mut Lent, place: usize, value: u
     memory.tables[place + 1] = value;
 }
 
+/// The number of timers, a field of a row, or of the clock in row 0. Times are near now too.
 fn timer_field(random: &mut Random, memory: &mut Lent, configuration: &Configuration) {
-    if configuration.timers == 0 || random.percent(25) {
+    if random.percent(20) {
         memory.timers[0] = random.pick(&[configuration.timers, configuration.timers + 1, 255, 1, 0]);
         return;
     }
-    let record = 1 + 10 * random.below(configuration.timers.into());
-    let four = random.pick(&[0, 0, 1, 1, 2, 32_768, u32::MAX]).to_be_bytes();
-    match random.below(4) {
-        0 => memory.timers[record] = a_value(random, configuration),
-        1 => memory.timers[record + 1] = a_value(random, configuration),
-        2 => memory.timers[record + 2..record + 6].copy_from_slice(&four),
-        _ => memory.timers[record + 6..record + 10].copy_from_slice(&four),
+    let row = 1 + 10 * random.below(1 + usize::from(configuration.timers));
+    let time = memory.of_timers(0, 2);
+    let near = random.pick(&[0, 1, 2, 32_768, u32::MAX]);
+    let four = random.pick(&[near, near, time.wrapping_add(near), time.wrapping_sub(near)]).to_le_bytes();
+    match random.below(5) {
+        0 => memory.timers[row] = a_value(random, configuration),
+        1 => memory.timers[row + 1] = a_value(random, configuration),
+        2 => memory.timers[row + 2..row + 6].copy_from_slice(&four),
+        3 => memory.timers[row + 6..row + 10].copy_from_slice(&four),
+        _ => memory.timers[3 + 4 * random.below(2)..][..4].copy_from_slice(&four),
     }
 }
 

@@ -38,7 +38,7 @@ extern "C" {
 }
 
 /// The least sizes of the five blocks.
-pub const SIZES: [usize; 5] = [198, 7509, 2016, 641, 21];
+pub const SIZES: [usize; 5] = [198, 7509, 2016, 651, 21];
 
 /// Where the planes of the tasks' blocks begin in the tables, and the bytes of one.
 pub const PLANES: usize = 2;
@@ -118,6 +118,12 @@ impl Lent {
         &self.answer[1..=usize::from(self.answer[0])]
     }
 
+    /// Four bytes of a row of the timers' block, low byte first. Row 0 is the clock: at 2 the time, at 6 the floor.
+    pub fn of_timers(&self, row: usize, place: usize) -> u32 {
+        let from = 1 + 10 * row + place;
+        u32::from_le_bytes(self.timers[from..from + 4].try_into().expect("4 bytes"))
+    }
+
     /// What the memory means, whatever its bytes are; its sizes are right, and its configuration is this one.
     pub fn items(&self, configuration: &Configuration) -> Items {
         Reader::new(self, configuration).items()
@@ -166,14 +172,13 @@ impl<'lent> Reader<'lent> {
         let tasks = usize::from(self.configuration.tasks);
         let ticks = self.configuration.ticks_per_tock;
         let ticks_left = if (1..=ticks).contains(&self.at(0)) { self.at(0) } else { ticks };
-        let timers = self.lent.timers[0].min(self.configuration.timers);
         Items {
             ticks: ticks - ticks_left,
             tasks: (0..tasks).map(|index| self.task(index)).collect(),
             semaphores: (0..usize::from(self.configuration.semaphores())).map(|index| self.semaphore(index)).collect(),
             mailboxes: self.mailboxes(tasks),
             queues: self.queues(),
-            timers: (0..usize::from(timers)).map(|index| self.timer(index)).collect(),
+            timers: self.timers(),
         }
     }
 
@@ -262,9 +267,19 @@ impl<'lent> Reader<'lent> {
         queues
     }
 
-    fn timer(&self, index: usize) -> TimerItem {
-        let record = &self.lent.timers[1 + 10 * index..11 + 10 * index];
-        let four = |at: usize| u32::from_be_bytes(record[at..at + 4].try_into().expect("4 bytes"));
-        TimerItem { task: record[0], semaphore: record[1], tocks_left: u64::from(four(2)), period: four(6) }
+    /// A timer is due at the time in its row, but no later than those behind it and not before the floor.
+    fn timers(&self) -> Vec<TimerItem> {
+        let number = usize::from(self.lent.timers[0].min(self.configuration.timers));
+        let (time, floor) = (self.lent.of_timers(0, 2), self.lent.of_timers(0, 6));
+        let mut due = u32::MAX;
+        let mut timers = Vec::new();
+        for row in (1..=number).rev() {
+            due = due.min(self.lent.of_timers(row, 2));
+            let tocks_left = u64::from(due.max(floor).saturating_sub(time));
+            let [task, semaphore] = [0, 1].map(|place| self.lent.timers[1 + 10 * row + place]);
+            timers.push(TimerItem { task, semaphore, tocks_left, period: self.lent.of_timers(row, 6) });
+        }
+        timers.reverse();
+        timers
     }
 }

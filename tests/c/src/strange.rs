@@ -1,6 +1,7 @@
 //! What a memory holds that no session leaves: bytes that the program never writes, by docs/MEMORY.md, and states that it
 //! never reaches.
 
+use std::ops::RangeInclusive;
 use std::slice::ChunksExact;
 
 use plain_executive::configuration::{Configuration, QueueSize};
@@ -12,7 +13,7 @@ use crate::lent::{Lent, Regions, PLANE, PLANES};
 
 type Situation = (&'static str, fn(&Seen) -> bool);
 
-pub const STRANGE: [Situation; 26] = [
+pub const STRANGE: [Situation; 28] = [
     ("ticks left: 0", |seen| seen.lent.tables[0] == 0),
     ("ticks left: above K", |seen| seen.lent.tables[0] > seen.configuration.ticks_per_tock),
     ("messages: above G", |seen| seen.lent.tables[1] > seen.configuration.messages),
@@ -39,7 +40,13 @@ pub const STRANGE: [Situation; 26] = [
         seen.items.timers.iter().any(|timer| !numbers.contains(&timer.semaphore))
     }),
     ("timer: a task that there is not", |seen| seen.items.timers.iter().any(|timer| !seen.is_task(timer.task))),
-    ("timers: not by tocks left", |seen| !seen.items.timers.is_sorted_by_key(|timer| timer.tocks_left)),
+    ("timers: a row due later than one behind it", |seen| {
+        !seen.rows().is_sorted_by_key(|row| seen.lent.of_timers(row, 2))
+    }),
+    ("timers: a row due before the floor", |seen| {
+        seen.rows().any(|row| seen.lent.of_timers(row, 2) < seen.lent.of_timers(0, 6))
+    }),
+    ("timers: a time that no session here is long enough for", |seen| seen.lent.of_timers(0, 2) > u32::MAX - 32_768),
     ("message: for a task that there is not", |seen| seen.lying().any(|record| !seen.is_task(record[0]))),
     ("message: a number that there is not", |seen| {
         seen.lying().any(|record| !(1..=seen.configuration.messages).contains(&record[1]))
@@ -94,6 +101,11 @@ impl Seen<'_> {
     fn lying(&self) -> impl Iterator<Item = &[u8]> {
         let lying = usize::from(self.lent.tables[1].min(self.configuration.messages));
         self.lent.tables[self.regions.messages..].chunks_exact(4).take(lying)
+    }
+
+    /// Of the timers.
+    fn rows(&self) -> RangeInclusive<usize> {
+        1..=self.items.timers.len()
     }
 
     fn is_task(&self, task: u8) -> bool {

@@ -109,7 +109,7 @@ fn every_value_of_every_byte_of_a_small_memory() {
     let small = |script: &Script| {
         let configuration = rules::configuration(&after(script, 0, &mut Random::new(0)).config).expect("accepted");
         let all: usize = needed(&configuration)[..4].iter().sum();
-        all < 260 && configuration.queue_count() > 0 && configuration.timers > 0 && configuration.messages > 1
+        all < 270 && configuration.queue_count() > 0 && configuration.timers > 0 && configuration.messages > 1
     };
     for script in scripts.filter(small).take(3) {
         let memory = after(&script, 40, &mut random);
@@ -191,6 +191,7 @@ fn configurations_over_damaged_memory() {
         now([seed, 0, 0]);
         assert_eq!(fences.configure(&mut memory, &script.configuration, Side::Back), 0, "seed {seed}");
         assert_eq!(memory.config[..script.configuration.len()], script.configuration, "seed {seed}");
+        assert_eq!(memory.timers[..11], [0; 11], "seed {seed}");
         let fresh = Executive::configure(&script.configuration).expect("accepted");
         assert_eq!(memory.items(fresh.configuration()), fresh.items(), "seed {seed}");
         assert_eq!(memory.answered(), fresh.answer(0, 0).bytes(), "seed {seed}");

@@ -85,7 +85,7 @@ fn everything() -> Script {
 /// What a byte that is changed is called in the difference.
 type Fault = (&'static str, fn(&mut Lent, &Regions));
 
-const FAULTS: [Fault; 19] = [
+const FAULTS: [Fault; 21] = [
     ("the ticks", |memory, _| memory.tables[0] = memory.tables[0] % 3 + 1),
     ("the blocks of task 2", |memory, _| memory.tables[PLANES] ^= 2),
     ("the outcome of task 3", |memory, at| memory.tables[at.records + 12] ^= 1),
@@ -98,10 +98,12 @@ const FAULTS: [Fault; 19] = [
     ("queue 1", |memory, at| memory.tables[at.entries] ^= 1),
     ("queue 1", |memory, at| memory.tables[at.rings + 1] ^= 3),
     ("queue 1", |memory, at| memory.tables[at.rings] ^= 1),
-    ("timer 1", |memory, _| memory.timers[1] ^= 3),
-    ("timer 1", |memory, _| memory.timers[1 + 1] ^= 3),
-    ("timer 1", |memory, _| memory.timers[1 + 5] ^= 1),
-    ("timer 1", |memory, _| memory.timers[1 + 9] ^= 1),
+    ("timer 1", |memory, _| memory.timers[1 + 2] ^= 1),
+    ("timer 1", |memory, _| memory.timers[1 + 6] = 200),
+    ("timer 1", |memory, _| memory.timers[11] ^= 3),
+    ("timer 1", |memory, _| memory.timers[11 + 1] ^= 3),
+    ("timer 1", |memory, _| memory.timers[11 + 2] ^= 1),
+    ("timer 1", |memory, _| memory.timers[11 + 6] ^= 1),
     ("timers", |memory, _| memory.timers[0] = 0),
     ("the config block", |memory, _| memory.config[9] ^= 1),
     ("the answer", |memory, _| memory.answer[3] ^= 1),
@@ -136,7 +138,7 @@ fn numbers_strange_bytes_and_refused_frames_are_compared() {
         }),
         ("a refused frame wrote", &|memory, frame| {
             let number = memory.frame(frame);
-            memory.timers[640] ^= u8::from(number != 0);
+            memory.timers[650] ^= u8::from(number != 0);
             number
         }),
     ];

@@ -1,63 +1,72 @@
--- `insert`: the record is made byte by byte, and goes in at the place that the search gave.
+-- `insert`: before the floor the timer goes in first, else at the place that the search gave.
+use mathlib.Core.Path.{refl, sym, _∙_}
+use native.Mathlib.Omega.{arith}
+use Prim.Native.Nat.{_+_}
 use denote.Ref.{now}
-use Rattle.timers.specs.Laws.{row-made, timer-inserted}
+use Rattle.timers.specs.Ends.{insert-done}
 use borrow.Author.Needs.{needs}
 use Rattle.timers.proofs.insert.Statement.{statement}
 use Rattle.timers.proofs.insert.Tie as tie
 
-place-requires : tie.Need-place-requires
-place-requires c κs = search needs
+time-before-requires : tie.Need-time-before-requires
+time-before-requires c κs = search needs
 
-array-write-row : tie.Need-array-write-row
-array-write-row c = search needs
+add-due : tie.Need-add-due
+add-due c = search needs
 
-array-write-row-2 : tie.Need-array-write-row-2
-array-write-row-2 c = search needs
+get4-requires : tie.Need-get4-requires
+get4-requires c κs = search needs
 
-slice-aggregate-put4 : tie.Need-slice-aggregate-put4
-slice-aggregate-put4 c = search needs
+lower-requires : tie.Need-lower-requires
+lower-requires c κs = search needs
 
-put4-requires : tie.Need-put4-requires
-put4-requires c κs = search needs
-
-slice-aggregate-put4-2 : tie.Need-slice-aggregate-put4-2
-slice-aggregate-put4-2 c = search needs
-
-put4-requires-2 : tie.Need-put4-requires-2
-put4-requires-2 c κs = search needs
-
-slice-aggregate-insert-at : tie.Need-slice-aggregate-insert-at
-slice-aggregate-insert-at c = search needs
-
-insert-at-requires : tie.Need-insert-at-requires
-insert-at-requires c κs = search needs
+put-in-requires : tie.Need-put-in-requires
+put-in-requires c κs = search needs
 
 same-length : tie.Need-same-length
 same-length c = search needs
 
 returns : tie.Need-returns
 returns c =
+    let z = c .before .before .before .before .before .before .before .before .before .before .before .before .before .before .before .before in
+    let a = z .args in
+    let t = c .before .before .before .before .before .before .before .before .before .before .before .before .before .time-before in
+    let w = c .before .before .before .before .before .before .lower in
+    let p = c .before .before .put-in in
+    insert-done (a .n) 0 (a .task) (a .semaphore) (a .left) (a .period) (t .result) (t .result + a .left) (now (a .b)) (w .last .0) (p .last .0) (w .ensures .3 ∙ t .ensures .2) (t .ensures .0 ∙ sym (w .ensures .0)) refl
+    (omega (arith, w .ensures .1)) (omega arith) tt (w .ensures .2) (p .ensures)
+
+place-requires : tie.Need-place-requires
+place-requires c κs = search needs
+
+put-in-requires-2 : tie.Need-put-in-requires-2
+put-in-requires-2 c κs = search needs
+
+same-length-2 : tie.Need-same-length-2
+same-length-2 c = search needs
+
+returns-2 : tie.Need-returns-2
+returns-2 c =
     let z = c .before .before .before .before .before .before .before .before .before .before .before .before .before .before in
     let a = z .args in
-    let p = c .before .before .before .before .before .before .before .before .before .before .before .place in
-    let x = c .before .before .before .before .before .before .before .before .before .put4 in
-    let y = c .before .before .before .before .before .before .put42 in
-    let i = c .before .before .insert-at in
-    timer-inserted (a .n) (a .task) (a .semaphore) (a .left) (a .period) (p .result) (now (a .b)) (i .last .0) (y .last .0) (z .fits .left .fits) (z .fits .period .fits) (p .ensures .1)
-    (row-made (a .task) (a .semaphore) (a .left) (a .period) (x .last .0) (y .last .0) (x .ensures) (y .ensures)) (i .ensures)
+    let t = c .before .before .before .before .before .before .before .before .before .before .before .time-before in
+    let s = c .before .before .before .before .place in
+    let p = c .before .before .put-in2 in
+    insert-done (a .n) (s .result) (a .task) (a .semaphore) (a .left) (a .period) (t .result) (t .result + a .left) (now (a .b)) (t .last .0) (p .last .0) (t .ensures .2) (t .ensures .0) refl
+    (omega (arith, c .before .before .before .before .before .before .if1 .left, c .before .before .before .before .before .before .before .get4 .ensures)) (s .ensures .0) (s .ensures .1) (s .ensures .2) (p .ensures)
 
 pub insert-spec : {M : Type 1} → statement M
 insert-spec =
     tie.close
     (tie.spec
-    place-requires
-    array-write-row
-    array-write-row-2
-    slice-aggregate-put4
-    put4-requires
-    slice-aggregate-put4-2
-    put4-requires-2
-    slice-aggregate-insert-at
-    insert-at-requires
+    time-before-requires
+    add-due
+    get4-requires
+    lower-requires
+    put-in-requires
     same-length
-    returns)
+    returns
+    place-requires
+    put-in-requires-2
+    same-length-2
+    returns-2)

@@ -1,75 +1,81 @@
--- `pass`: a tock has passed for the first k timers, and those due among them are counted.
-use mathlib.Core.Path.{_≡_, refl}
-use mathlib.Core.List.{map}
-use Prim.Native.Nat.{_+_, _-_, _≤_}
-use native.Mathlib.Nat.{zero-add}
+-- `pass`: before the floor none is due; from there on either none is due before a later time, which is a floor, or the search counts those that are.
+use mathlib.Core.Path.{refl}
 use native.Mathlib.Omega.{arith}
-use lib.ListN.{length, drop}
+use Prim.Native.Nat.{_+_}
 use denote.Ref.{now}
-use Rattle.rows.specs.Rows.{mapUpto}
-use Rattle.timers.specs.Timers.{timersIn, tocked, dueIn}
-use Rattle.timers.specs.Laws.{pass-turn, count-turn, pass-end, count-end}
+use Rattle.timers.specs.Tocks.{pass-tocks, pass-none, pass-some, pass-quiet}
+use borrow.Author.Needs.{needs}
 use Rattle.timers.proofs.pass.Statement.{statement}
 use Rattle.timers.proofs.pass.Tie as tie
 
-abbrev Inv-loop : tie.InvT-loop
-Inv-loop b₀ n due₀ k₀ b due k = (k ≤ n) × (due ≤ k) × (length b ≡ length b₀) × (timersIn n b ≡ mapUpto tocked k (timersIn n b₀)) × (due + dueIn (map tocked (drop k (timersIn n b₀))) ≡ dueIn (map tocked (timersIn n b₀)))
+time-before-requires : tie.Need-time-before-requires
+time-before-requires c κs = search needs
 
-abbrev μ-loop : tie.MeasureT-loop
-μ-loop b₀ n due₀ k₀ b due k = n - k
+add-time : tie.Need-add-time
+add-time c = search needs
 
-loop-holds : tie.Need-loop-holds Inv-loop μ-loop
-loop-holds c = (omega arith, omega arith, refl, refl, zero-add _)
+put4-requires : tie.Need-put4-requires
+put4-requires c κs = search needs
 
-pass-one-requires : tie.Need-pass-one-requires Inv-loop μ-loop
-pass-one-requires c κs = omega arith
+get4-requires : tie.Need-get4-requires
+get4-requires c κs = search needs
 
-one-if-due-requires : tie.Need-one-if-due-requires Inv-loop μ-loop
-one-if-due-requires c κs = omega arith
+same-length : tie.Need-same-length
+same-length c = search needs
 
-add-due : tie.Need-add-due Inv-loop μ-loop
-add-due c = omega arith
-
-add-k : tie.Need-add-k Inv-loop μ-loop
-add-k c = omega arith
-
-loop-less : tie.Need-loop-less Inv-loop μ-loop
-loop-less c = omega arith
-
-loop-again : tie.Need-loop-again Inv-loop μ-loop
-loop-again c =
-    let z = c .before .before .before .before .before .before .before .before in
-    let l = c .before .before .before .before .before .before .loop in
-    let p = c .before .before .before .pass-one in
-    let o = c .one-if-due in (
-      omega arith,
-      omega arith,
-      omega arith,
-      pass-turn (z .args .n) (l .k) (now (z .args .b)) (l .b) (l .inv .3) (p .result) (p .last .0) (omega arith) (omega arith) (omega arith) (p .ensures .0) (p .ensures .1),
-      count-turn (z .args .n) (l .k) (now (z .args .b)) (l .b) (l .inv .3) (p .result) (o .result) (l .due) (omega arith) (p .ensures .0) (o .ensures .1) (l .inv .4),
-    )
-
-same-length : tie.Need-same-length Inv-loop μ-loop
-same-length c = omega arith
-
-returns : tie.Need-returns Inv-loop μ-loop
+returns : tie.Need-returns
 returns c =
-    let z = c .before .before .before in
-    let l = c .before .loop in
-    (omega arith, count-end (z .args .n) (l .k) (now (z .args .b)) (l .b) (l .inv .3) (l .due) (omega arith) (l .inv .4), pass-end (z .args .n) (l .k) (now (z .args .b)) (l .b) (l .inv .3) (omega arith))
+    let z = c .before .before .before .before .before .before .before .before .before .before .before .before in
+    let t = c .before .before .before .before .before .before .before .before .before .time-before in
+    let p = c .before .before .before .before .before .put4 in
+    (omega arith, pass-none (z .args .n) (t .result) (t .result + 1) (now (z .args .b)) (t .last .0) (p .last .0) (omega arith) (t .ensures .2) (t .ensures .0) refl (t .ensures .1) (p .ensures) (omega (arith, c .if1 .taken, c .before .get4 .ensures)), pass-tocks (z .args .n) (t .result) (t .result + 1) (now (z .args .b)) (t .last .0) (p .last .0) (omega arith) (t .ensures .2) (t .ensures .0) refl (t .ensures .1) (p .ensures))
+
+earliest-requires : tie.Need-earliest-requires
+earliest-requires c κs = search needs
+
+put4-requires-2 : tie.Need-put4-requires-2
+put4-requires-2 c κs = search needs
+
+same-length-2 : tie.Need-same-length-2
+same-length-2 c = search needs
+
+returns-2 : tie.Need-returns-2
+returns-2 c =
+    let z = c .before .before .before .before .before .before .before .before .before .before .before .before .before .before .before .before .before .before .before in
+    let t = c .before .before .before .before .before .before .before .before .before .before .before .before .before .before .before .before .time-before in
+    let p = c .before .before .before .before .before .before .before .before .before .before .before .before .put4 in
+    let f = c .before .before .before .before .before .earliest in
+    let q = c .before .before .put42 in
+    pass-quiet (z .args .n) (t .result) (t .result + 1) (now (z .args .b)) (t .last .0) (p .last .0) (omega arith) (t .ensures .2) (t .ensures .0) refl (t .ensures .1) (p .ensures) (f .result) (q .last .0) (omega (arith, c .before .before .before .before .before .before .before .if1 .left, c .before .before .before .before .before .before .before .before .get4 .ensures)) (c .before .before .before .before .if2 .taken) (f .ensures) (omega arith) (omega arith) (q .ensures)
+
+place-requires : tie.Need-place-requires
+place-requires c κs = search needs
+
+same-length-3 : tie.Need-same-length-3
+same-length-3 c = search needs
+
+returns-3 : tie.Need-returns-3
+returns-3 c =
+    let z = c .before .before .before .before .before .before .before .before .before .before .before .before .before .before .before .before .before in
+    let t = c .before .before .before .before .before .before .before .before .before .before .before .before .before .before .time-before in
+    let p = c .before .before .before .before .before .before .before .before .before .before .put4 in
+    let s = c .place in
+    (s .ensures .0, pass-some (z .args .n) (t .result) (t .result + 1) (now (z .args .b)) (t .last .0) (p .last .0) (omega arith) (t .ensures .2) (t .ensures .0) refl (t .ensures .1) (p .ensures) (s .result) (omega (arith, c .before .before .before .before .before .if1 .left, c .before .before .before .before .before .before .get4 .ensures)) (s .ensures .0) (s .ensures .1) (s .ensures .2), pass-tocks (z .args .n) (t .result) (t .result + 1) (now (z .args .b)) (t .last .0) (p .last .0) (omega arith) (t .ensures .2) (t .ensures .0) refl (t .ensures .1) (p .ensures))
 
 pub pass-spec : {M : Type 1} → statement M
 pass-spec =
     tie.close
     (tie.spec
-    Inv-loop
-    μ-loop
-    loop-holds
-    pass-one-requires
-    one-if-due-requires
-    add-due
-    add-k
-    loop-less
-    loop-again
+    time-before-requires
+    add-time
+    put4-requires
+    get4-requires
     same-length
-    returns)
+    returns
+    earliest-requires
+    put4-requires-2
+    same-length-2
+    returns-2
+    place-requires
+    same-length-3
+    returns-3)

@@ -1,36 +1,41 @@
--- `place` is a search: no timer before place k has more tocks left.
-use mathlib.Core.Path.{_≡_, sym}
-use Prim.Native.Nat.{_+_, _-_, _≤_}
-use native.Mathlib.Nat.{zero-add}
+-- `place` goes from the last record back: all from record k on are due later than the time.
+use mathlib.Core.Path.{_≡_, subst}
+use Prim.Native.Nat.{ℕ, suc, _≤_}
 use native.Mathlib.Omega.{arith}
 use lib.ListN.{drop}
 use denote.Ref.{now}
-use Rattle.rows.specs.First.{firstOf}
-use Rattle.timers.specs.Timers.{timersIn, later}
-use Rattle.timers.specs.Laws.{search-here, search-on, search-end}
+use Rattle.timers.specs.Timers.{recordsIn, allFrom}
+use Rattle.timers.specs.Loops.{place-start, place-on, place-here}
 use Rattle.timers.proofs.place.Statement.{statement}
 use Rattle.timers.proofs.place.Tie as tie
 
 abbrev Inv-loop : tie.InvT-loop
-Inv-loop b n left k₀ k = (k ≤ n) × (firstOf (later left) (timersIn n b) ≡ k + firstOf (later left) (drop k (timersIn n b)))
+Inv-loop b n due k₀ k = (k ≤ n) × allFrom (suc due) (drop k (recordsIn n b))
 
 abbrev μ-loop : tie.MeasureT-loop
-μ-loop b n left k₀ k = n - k
+μ-loop b n due k₀ k = k
 
 loop-holds : tie.Need-loop-holds Inv-loop μ-loop
-loop-holds c = (omega arith, sym (zero-add _))
+loop-holds c = let z = c .before in (omega arith, place-start (suc (z .args .due)) (z .args .n) (now (z .args .b)))
 
-is-later-requires : tie.Need-is-later-requires Inv-loop μ-loop
-is-later-requires c κs = omega arith
+mul-get4 : tie.Need-mul-get4 Inv-loop μ-loop
+mul-get4 c = omega arith
+
+add-get4 : tie.Need-add-get4 Inv-loop μ-loop
+add-get4 c = omega arith
+
+get4-requires : tie.Need-get4-requires Inv-loop μ-loop
+get4-requires c κs = omega arith
 
 returns : tie.Need-returns Inv-loop μ-loop
 returns c =
     let z = c .before .before .before .before .before in
     let l = c .before .before .before .loop in
-    (omega arith, search-here (later (z .args .left)) (z .args .n) (l .k) (now (z .args .b)) (l .inv .1) (c .before .is-later .result) (omega arith) (c .before .is-later .ensures) (c .if1 .taken))
+    let x = c .before .get4 in
+    (l .inv .0, place-here (z .args .n) (l .k) (x .result) (now (z .args .b)) (omega arith) (l .inv .0) (x .ensures) (z .args .due) (omega arith), l .inv .1)
 
-add-k : tie.Need-add-k Inv-loop μ-loop
-add-k c = omega arith
+sub-k : tie.Need-sub-k Inv-loop μ-loop
+sub-k c = omega arith
 
 loop-less : tie.Need-loop-less Inv-loop μ-loop
 loop-less c = omega arith
@@ -39,13 +44,15 @@ loop-again : tie.Need-loop-again Inv-loop μ-loop
 loop-again c =
     let z = c .before .before .before .before .before in
     let l = c .before .before .before .loop in
-    (omega arith, search-on (later (z .args .left)) (z .args .n) (l .k) (now (z .args .b)) (l .inv .1) (c .before .is-later .result) (omega arith) (c .before .is-later .ensures) (c .if1 .left))
+    let x = c .before .get4 in
+    (omega arith, place-on (z .args .n) (l .k) (x .result) (now (z .args .b)) (omega arith) (l .inv .0) (x .ensures) (suc (z .args .due)) (suc (z .args .due)) (omega arith) (omega arith) (l .inv .1))
 
 returns-2 : tie.Need-returns-2 Inv-loop μ-loop
 returns-2 c =
     let z = c .before .before .before in
     let l = c .before .loop in
-    (omega arith, search-end (later (z .args .left)) (z .args .n) (l .k) (now (z .args .b)) (l .inv .1) (omega arith) (omega arith))
+    let e : l .k ≡ 0 = omega arith in
+    (omega arith, tt, subst (λ (i : ℕ). allFrom (suc (z .args .due)) (drop i (recordsIn (z .args .n) (now (z .args .b))))) e (l .inv .1))
 
 pub place-spec : {M : Type 1} → statement M
 place-spec =
@@ -54,9 +61,11 @@ place-spec =
     Inv-loop
     μ-loop
     loop-holds
-    is-later-requires
+    mul-get4
+    add-get4
+    get4-requires
     returns
-    add-k
+    sub-k
     loop-less
     loop-again
     returns-2)

@@ -1,91 +1,64 @@
--- `take_due`: what is removed at the place of the search is the first due timer, and what goes in again is that one with its period left.
+-- `take_due`: the first of timers in order is due if any is. It goes out, and goes in again with its period left if it is cyclic.
 use native.Mathlib.Omega.{arith}
 use denote.Ref.{now}
-use Rattle.timers.specs.Laws.{first-semaphore, take-once, take-again}
+use Rattle.timers.specs.Tocks.{some-timer, first-semaphore, take-once, take-again}
 use borrow.Author.Needs.{needs}
 use Rattle.timers.proofs.take_due.Statement.{statement}
 use Rattle.timers.proofs.take_due.Tie as tie
 
-first-due-requires : tie.Need-first-due-requires
-first-due-requires c κs = search needs
-
-mul-task : tie.Need-mul-task
-mul-task c = search needs
-
 slice-read-task : tie.Need-slice-read-task
-slice-read-task c = search needs
-
-mul-semaphore : tie.Need-mul-semaphore
-mul-semaphore c = search needs
-
-add-semaphore : tie.Need-add-semaphore
-add-semaphore c = search needs
+slice-read-task c = omega (arith, some-timer (c .before .before .args .n) (now (c .before .before .args .b)) (c .before .before .pre .1))
 
 slice-read-semaphore : tie.Need-slice-read-semaphore
-slice-read-semaphore c = search needs
-
-mul-get4 : tie.Need-mul-get4
-mul-get4 c = search needs
-
-add-get4 : tie.Need-add-get4
-add-get4 c = search needs
+slice-read-semaphore c = omega (arith, some-timer (c .before .before .before .args .n) (now (c .before .before .before .args .b)) (c .before .before .before .pre .1))
 
 get4-requires : tie.Need-get4-requires
-get4-requires c κs = search needs
+get4-requires c κs = omega (arith, some-timer (c .before .before .before .before .args .n) (now (c .before .before .before .before .args .b)) (c .before .before .before .before .pre .1))
 
-remove-at-requires : tie.Need-remove-at-requires
-remove-at-requires c κs = search needs
+remove-requires : tie.Need-remove-requires
+remove-requires c κs = (some-timer (c .before .before .before .before .before .before .args .n) (now (c .before .before .before .before .before .before .args .b)) (c .before .before .before .before .before .before .pre .1), omega arith)
 
-sub-t20 : tie.Need-sub-t20
-sub-t20 c = search needs
+sub-t15 : tie.Need-sub-t15
+sub-t15 c = omega (arith, some-timer (c .before .before .before .before .before .before .before .before .before .before .args .n) (now (c .before .before .before .before .before .before .before .before .before .before .args .b)) (c .before .before .before .before .before .before .before .before .before .before .pre .1))
 
 same-length : tie.Need-same-length
 same-length c = search needs
 
 returns : tie.Need-returns
 returns c =
-    let z = c .before .before .before .before .before .before .before .before .before .before .before .before in
-    let f = c .before .before .before .before .before .before .before .before .before .first-due in
+    let z = c .before .before .before .before .before .before .before .before .before .before in
+    let d = now (z .args .b) in
     let g = c .before .before .before .before .before .get4 in
-    let r = c .before .before .before .remove-at in
-    (omega arith, first-semaphore (z .args .n) (f .result) (now (z .args .b)) (f .ensures .0) (f .ensures .1), take-once (z .args .n) (f .result) (now (z .args .b)) (r .last .0) (f .ensures .0) (f .ensures .1) (g .result) (g .ensures) (c .if1 .taken) (r .ensures))
+    let r = c .before .before .before .remove in
+    (omega arith, first-semaphore (z .args .n) d (z .pre .1), take-once (z .args .n) d (z .pre .1) (r .last .0) (r .ensures) (g .result) (g .ensures) (c .if1 .taken))
 
 sub-insert : tie.Need-sub-insert
-sub-insert c = search needs
+sub-insert c = omega (arith, some-timer (c .before .before .before .before .before .before .before .before .before .before .before .args .n) (now (c .before .before .before .before .before .before .before .before .before .before .before .args .b)) (c .before .before .before .before .before .before .before .before .before .before .before .pre .1))
 
 insert-requires : tie.Need-insert-requires
-insert-requires c κs = search needs
+insert-requires c κs = omega (arith, some-timer (c .before .before .before .before .before .before .before .before .before .before .before .args .n) (now (c .before .before .before .before .before .before .before .before .before .before .before .args .b)) (c .before .before .before .before .before .before .before .before .before .before .before .pre .1))
 
 same-length-2 : tie.Need-same-length-2
 same-length-2 c = search needs
 
 returns-2 : tie.Need-returns-2
 returns-2 c =
-    let z = c .before .before .before .before .before .before .before .before .before .before .before .before .before .before .before .before in
-    let f = c .before .before .before .before .before .before .before .before .before .before .before .before .before .first-due in
+    let z = c .before .before .before .before .before .before .before .before .before .before .before .before .before .before in
+    let d = now (z .args .b) in
     let g = c .before .before .before .before .before .before .before .before .before .get4 in
-    let r = c .before .before .before .before .before .before .before .remove-at in
-    let i = c .before .before .insert in (
-      omega arith,
-      first-semaphore (z .args .n) (f .result) (now (z .args .b)) (f .ensures .0) (f .ensures .1),
-      take-again (z .args .n) (f .result) (now (z .args .b)) (r .last .0) (f .ensures .0) (f .ensures .1) (g .result) (i .last .0) (g .ensures) (c .before .before .before .before .if1 .left) (r .ensures) (i .ensures),
-    )
+    let r = c .before .before .before .before .before .before .before .remove in
+    let i = c .before .before .insert in
+    (omega arith, first-semaphore (z .args .n) d (z .pre .1), take-again (z .args .n) d (z .pre .1) (r .last .0) (r .ensures) (g .result) (i .last .0) (g .ensures) (c .before .before .before .before .if1 .left) (i .ensures))
 
 pub take-due-spec : {M : Type 1} → statement M
 take-due-spec =
     tie.close
     (tie.spec
-    first-due-requires
-    mul-task
     slice-read-task
-    mul-semaphore
-    add-semaphore
     slice-read-semaphore
-    mul-get4
-    add-get4
     get4-requires
-    remove-at-requires
-    sub-t20
+    remove-requires
+    sub-t15
     same-length
     returns
     sub-insert

@@ -44,8 +44,17 @@ part-fill-end c = let s = c .before .before .before .before .before .before .bef
 fill-requires : tie.Need-fill-requires
 fill-requires c κs = search needs
 
-slice-write-timers : tie.Need-slice-write-timers
-slice-write-timers c = search needs
+sub-fill-2 : tie.Need-sub-fill-2
+sub-fill-2 c = search needs
+
+part-fill-start-2 : tie.Need-part-fill-start-2
+part-fill-start-2 c = search needs
+
+part-fill-end-2 : tie.Need-part-fill-end-2
+part-fill-end-2 c = search needs
+
+fill-requires-2 : tie.Need-fill-requires-2
+fill-requires-2 c κs = search needs
 
 same-length : tie.Need-same-length
 same-length c = search needs
@@ -58,9 +67,10 @@ same-length-3 c = search needs
 
 returns : tie.Need-returns
 returns c =
-    let s = c .before .before .before .before .before .before .before .before .before .before .before .before .before .before .before .before in
+    let s = c .before .before .before .before .before .before .before .before .before .before .before .before .before .before .before .before .before .before .before .before in
     let a = s .args in
-    started (now (a .frame)) (s .pre .0) (a .shape) (s .pre .1) _ (c .before .before .before .before .before .before .before .fresh-tables .ensures) (now (a .slots)) _ (now (a .timers)) (c .before .before .fill .ensures) (omega (arith, s .pre .2, c .before .before .before .before .before .before .before .fresh-tables .kept)) (s .pre .3) (s .pre .4)
+    let t = c .before .before .before .before .before .before .before .before .before .before .before .fresh-tables in
+    started (now (a .frame)) (s .pre .0) (a .shape) (s .pre .1) _ (t .ensures) (now (a .slots)) _ (now (a .timers)) _ (c .before .before .before .before .before .before .fill .ensures) (c .before .before .fill2 .ensures) (omega (arith, s .pre .2, t .kept)) (s .pre .3) (s .pre .4)
 
 pub start-spec : {M : Type 1} → statement M
 start-spec =
@@ -77,7 +87,10 @@ start-spec =
     part-fill-start
     part-fill-end
     fill-requires
-    slice-write-timers
+    sub-fill-2
+    part-fill-start-2
+    part-fill-end-2
+    fill-requires-2
     same-length
     same-length-2
     same-length-3

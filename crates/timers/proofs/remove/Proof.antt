@@ -1,0 +1,38 @@
+-- `remove`: what the record says of those before it is handed on, then its row goes.
+use native.Mathlib.Omega.{arith}
+use denote.Ref.{now}
+use Rattle.timers.specs.Ends.{remove-done}
+use borrow.Author.Needs.{needs}
+use Rattle.timers.proofs.remove.Statement.{statement}
+use Rattle.timers.proofs.remove.Tie as tie
+
+hand-on-requires : tie.Need-hand-on-requires
+hand-on-requires c κs = search needs
+
+add-remove-at : tie.Need-add-remove-at
+add-remove-at c = search needs
+
+add-remove-at-2 : tie.Need-add-remove-at-2
+add-remove-at-2 c = search needs
+
+remove-at-requires : tie.Need-remove-at-requires
+remove-at-requires c κs = search needs
+
+same-length : tie.Need-same-length
+same-length c = search needs
+
+returns : tie.Need-returns
+returns c =
+    let z = c .before .before .before .before .before .before .before .before .before in
+    remove-done (z .args .n) (z .args .k) (now (z .args .b)) (c .before .before .before .before .before .before .hand-on .last .0) (c .before .before .remove-at .last .0) (z .pre .0) (c .before .before .before .before .before .before .hand-on .ensures) (c .before .before .remove-at .ensures)
+
+pub remove-spec : {M : Type 1} → statement M
+remove-spec =
+    tie.close
+    (tie.spec
+    hand-on-requires
+    add-remove-at
+    add-remove-at-2
+    remove-at-requires
+    same-length
+    returns)
