@@ -8,21 +8,21 @@ use Rattle.ledger.specs.Config.{Config}
 use Rattle.tables.specs.declared.shape.Shape.{Shape}
 use Rattle.tables.specs.Layout.{Fits, fitting}
 use Rattle.tables.specs.Shows.{Of}
-use Rattle.configuration.specs.Block.{configured}
+use Rattle.ledger.specs.Config.{configIn}
 use Rattle.configuration.specs.Layout.{frameBytes}
 
 -- the value r is what f gives for every configuration of this shape
 abbrev pub Says : {A : Type 0} → Shape → (Config → A) → A → Type 0
 Says s f r = (c : Config) → Of c s → r ≡ f c
 
--- the block g holds a configuration, whose bytes are there, and the shape is its. (No record, so that its many parts stay out of sight where one fact of it is wanted)
+-- g is a configuration's frame, as long as it says, and the shape is its. (No record, so that its many parts stay out of sight where one fact of it is wanted)
 pub data Configures (g : List ℕ) (s : Shape) : Type 0 where
-  configures : frameBytes s ≤ length g → Of (configured g) s → Configures g s
+  configures : length g ≡ frameBytes s → Of (configIn g) s → Configures g s
 
-pub bytes : {g : List ℕ} {s : Shape} → Configures g s → frameBytes s ≤ length g
+pub bytes : {g : List ℕ} {s : Shape} → Configures g s → length g ≡ frameBytes s
 bytes (configures l o) = l
 
-pub of : {g : List ℕ} {s : Shape} → Configures g s → Of (configured g) s
+pub of : {g : List ℕ} {s : Shape} → Configures g s → Of (configIn g) s
 of (configures l o) = o
 
 pub fits : {g : List ℕ} {s : Shape} → Configures g s → Fits s (s .end)

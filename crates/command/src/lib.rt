@@ -13,7 +13,7 @@ ghost use lib.ListN.{length};
 ghost use Rattle.ledger.specs.Lists.{byte};
 ghost use Rattle.tables.specs.Layout.{Fits, OneOf};
 ghost use Rattle.clock.specs.Held.{Holds};
-ghost use Rattle.configuration.specs.Block.{configured};
+ghost use Rattle.ledger.specs.Config.{configIn};
 ghost use Rattle.command.specs.Configured.{Configures};
 ghost use Rattle.command.specs.Refused.{Refuses};
 
@@ -29,7 +29,7 @@ fn checked(
 ) -> u8
     requires { ⌜ (5 ≤ length (now frame)) × (byte 0 (now frame) ≡ code) × OneOf 17 code × Configures (now config) shape
         × Fits shape (length (now tables)) × Holds shape (length (now timers)) × (me ≤ shape .tasks) ⌝ }
-    ensures { λ r. ⌜ Refuses (configured (now (config .entry))) shape (now (frame .entry)) me (now (tables .entry)) (now (timers .entry)) r ⌝ }
+    ensures { λ r. ⌜ Refuses (configIn (now (config .entry))) shape (now (frame .entry)) me (now (tables .entry)) (now (timers .entry)) r ⌝ }
 {
     let u = codes::row(code);
     let n = input::input(u, frame, config, shape, me);
@@ -54,7 +54,7 @@ pub fn refusal(
     me: u8,
 ) -> u8
     requires { ⌜ Configures (now config) shape × Fits shape (length (now tables)) × Holds shape (length (now timers)) × (me ≤ shape .tasks) ⌝ }
-    ensures { λ r. ⌜ Refuses (configured (now (config .entry))) shape (now (frame .entry)) me (now (tables .entry)) (now (timers .entry)) r ⌝ }
+    ensures { λ r. ⌜ Refuses (configIn (now (config .entry))) shape (now (frame .entry)) me (now (tables .entry)) (now (timers .entry)) r ⌝ }
 {
     if frame.len() < 5 {
         return 2;

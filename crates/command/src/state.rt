@@ -16,7 +16,7 @@ ghost use Rattle.tables.specs.Layout.{Fits, OneOf};
 ghost use Rattle.tables.specs.Shows.{Tells};
 ghost use Rattle.clock.specs.Held.{Holds};
 ghost use Rattle.clock.specs.Does.{TellsTimers};
-ghost use Rattle.configuration.specs.Block.{configured};
+ghost use Rattle.ledger.specs.Config.{configIn};
 ghost use Rattle.command.specs.Codes.{viewX, viewWaits};
 ghost use Rattle.command.specs.Configured.{Configures};
 ghost use Rattle.command.specs.Table.{WaitsIn};
@@ -67,7 +67,7 @@ fn lies(kind: FieldX, tables: &[u8], shape: Shape, x: u8) -> bool
 // 21
 fn meets21(waits: Waits, config: &[u8], tables: &[u8], shape: Shape, a: u8, b: u8) -> bool
     requires { ⌜ Configures (now config) shape × Fits shape (length (now tables)) × WaitsIn shape (viewWaits waits) a b ⌝ }
-    ensures { λ r. ⌜ TellsOf (configured (now (config .entry))) shape (now (tables .entry)) (λ c L. ledger.meets21 c L (viewWaits waits) a b) r ⌝ }
+    ensures { λ r. ⌜ TellsOf (configIn (now (config .entry))) shape (now (tables .entry)) (λ c L. ledger.meets21 c L (viewWaits waits) a b) r ⌝ }
 {
     match waits {
         Waits::Nowhere => false,
@@ -123,7 +123,7 @@ pub fn state(
     x: u8,
 ) -> u8
     requires { ⌜ Configures (now config) shape × Fits shape (length (now tables)) × Holds shape (length (now timers)) × WaitsIn shape (viewWaits (u .waits)) a b ⌝ }
-    ensures { λ r. ⌜ StateSays (configured (now (config .entry))) shape (now (tables .entry)) (now (timers .entry)) u a b x r ⌝ }
+    ensures { λ r. ⌜ StateSays (configIn (now (config .entry))) shape (now (tables .entry)) (now (timers .entry)) u a b x r ⌝ }
 {
     let waits = u.waits;
     let kind = u.x;

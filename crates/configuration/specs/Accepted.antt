@@ -7,14 +7,14 @@ use native.Mathlib.Omega.{arith}
 use lib.Dec.{leb, ltb, eqb}
 use lib.ListN.{length, getD, take, drop, length-take, length-drop, List·getD-append}
 use lib.Seq.{take-at, take-all}
-use borrow.Author.Tests.{eqb-true, not-false}
+use borrow.Author.Tests.{eq-eqb, eqb-true, not-false}
 use Rattle.rows.specs.Splice.{cut}
 use Rattle.ledger.specs.Lists.{_⇒_, byte, word, sum, all}
 use Rattle.ledger.specs.Config.{configIn, controller, goodHead, goodRest, configRefusal}
 use Rattle.ledger.specs.Theorems.Checks.{and-left, and-right, passes}
 use Rattle.tables.specs.declared.shape.Shape.{Shape}
 use Rattle.tables.specs.Shows.{Of}
-use Rattle.configuration.specs.Block.{product, front, configured, goodQueues, rule, rest-halves}
+use Rattle.configuration.specs.Block.{product, goodQueues, rule, frameRule, rest-halves}
 use Rattle.configuration.specs.Limits.{controller-made}
 use Rattle.configuration.specs.Head.{Head}
 use Rattle.configuration.specs.Layout.{laidOut, shapeOf, rule-head, rule-room, of-shape}
@@ -42,6 +42,10 @@ module _ (f : List ℕ) (a : Accepted f) where
   pub accepted-head : Head controller (byte 0 f) (byte 1 f) (byte 2 f) (byte 3 f) (byte 4 f) (byte 5 f) (word 6 f)
   unfolding configIn
   accepted-head = rule-head controller controller-made (configIn f) (a .rule)
+
+  pub accepted-rule : frameRule controller f ≡ true
+  unfolding frameRule
+  accepted-rule = rw (eq-eqb _ _ (a .whole)) (a .rule)
 
   pub accepted-length : 8 ≤ length f
   accepted-length = omega (arith, a .whole)
@@ -72,18 +76,3 @@ module _ (f : List ℕ) (a : Accepted f) where
     pub accepted-laid : (s : Shape) → s ≡ laidOut (byte 0 f) (byte 1 f) (byte 2 f) (byte 3 f) (byte 4 f) (byte 5 f) n → Of (configIn f) s
     unfolding configIn shapeOf
     accepted-laid s es = subst (Of (configIn f)) (sym (es ∙ ap (laidOut (byte 0 f) (byte 1 f) (byte 2 f) (byte 3 f) (byte 4 f) (byte 5 f)) bytes-are)) accepted-of
-
-  -- a block that has it at its front
-  module _ (g r : List ℕ) (e : g ≡ f ++ r) where
-    same-byte : (i : ℕ) → i < 8 → byte i g ≡ byte i f
-    same-byte i h = ap (λ (x : List ℕ). getD x i 0) e ∙ List·getD-append f r 0 i (omega (arith, accepted-length))
-
-    same-front : front g ≡ f
-    unfolding front
-    same-front =
-        let n : length f ≡ 8 + byte 0 g + 2 * byte 2 g = omega (arith, a .whole, same-byte 0 (omega arith), same-byte 2 (omega arith)) in
-        ap (take (8 + byte 0 g + 2 * byte 2 g)) e ∙ take-at f r (8 + byte 0 g + 2 * byte 2 g) n
-
-    pub configured-in : configured g ≡ configIn f
-    unfolding configured
-    configured-in = ap configIn same-front

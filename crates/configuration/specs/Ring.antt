@@ -9,12 +9,12 @@ use Rattle.rows.specs.Splice.{cut}
 use Rattle.rows.specs.Laws.{length-cut}
 use Rattle.ledger.specs.Lists.{at, byte, sum}
 use Rattle.ledger.specs.Config as config
-use Rattle.ledger.specs.Config.{Config, shapesIn}
+use Rattle.ledger.specs.Config.{Config, shapesIn, configIn}
 use Rattle.ledger.specs.Services.{shape}
 use Rattle.tables.specs.declared.shape.Shape.{Shape}
 use Rattle.tables.specs.Shows.{bytesOf, begins, Of}
 use Rattle.queues.specs.Rings.{ringOf}
-use Rattle.configuration.specs.Block.{product, read, configured, configured-is}
+use Rattle.configuration.specs.Block.{product, read, configIn-is}
 use Rattle.configuration.specs.Layout.{frameBytes}
 use Rattle.configuration.specs.Room.{bytesIn}
 
@@ -101,9 +101,16 @@ module _ (g : List ℕ) (s : Shape) (long : frameBytes s ≤ length g) (o : Of (
   unfolding ringOf
   ring-read = λ x. record { width = sym pair-is x .width; depth = sym pair-is x .depth; base = s .bodyat + front-bytes x }
 
-module _ (g : List ℕ) (s : Shape) (long : frameBytes s ≤ length g) (o : Of (configured g) s) (q : ℕ) (lo : 1 ≤ q) (hi : q ≤ s .queues) where
+module _ (g : List ℕ) (s : Shape) (whole : length g ≡ frameBytes s) (o : Of (configIn g) s) (q : ℕ) (lo : 1 ≤ q) (hi : q ≤ s .queues) where
+  is-whole : length g ≡ 8 + byte 0 g + 2 * byte 2 g
+  unfolding configIn
+  is-whole = omega (arith, o .tasks, o .queues, whole)
+
+  abbrev long : frameBytes s ≤ length g
+  long = omega arith
+
   abbrev at-read : Of (read g) s
-  at-read = subst (λ (c : Config). Of c s) (configured-is g) o
+  at-read = subst (λ (c : Config). Of c s) (configIn-is g is-whole) o
 
   pub ring-inside : 8 + s .tasks + 2 * (q - 1) + 1 < length g
   ring-inside = ring-in g s long at-read (q - 1) (omega arith)
@@ -112,8 +119,8 @@ module _ (g : List ℕ) (s : Shape) (long : frameBytes s ≤ length g) (o : Of (
   ring-base = let l = o .laid in omega (arith, front-low g s long at-read (q - 1) (omega arith))
 
   pub ring-is : (w d n : ℕ) → w ≡ getD g (8 + s .tasks + 2 * (q - 1)) 0 → d ≡ getD g (8 + s .tasks + 2 * (q - 1) + 1) 0 → n ≡ bytesIn (cut g (8 + s .tasks) (8 + s .tasks + 2 * (q - 1)))
-      → record { width = w; depth = d; base = s .bodyat + n } ≡ ringOf (configured g) s q
+      → record { width = w; depth = d; base = s .bodyat + n } ≡ ringOf (configIn g) s q
   ring-is w d n ew ed en =
       let e : suc (q - 1) ≡ q = omega arith in
       let x : record { width = w; depth = d; base = s .bodyat + n } ≡ ringOf (read g) s (suc (q - 1)) = (λ i. record { width = ew i; depth = ed i; base = s .bodyat + en i }) ∙ ring-read g s long at-read (q - 1) (omega arith) in
-      x ∙ ap (ringOf (read g) s) e ∙ ap (λ (c : Config). ringOf c s q) (sym (configured-is g))
+      x ∙ ap (ringOf (read g) s) e ∙ ap (λ (c : Config). ringOf c s q) (sym (configIn-is g is-whole))

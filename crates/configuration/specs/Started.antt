@@ -8,14 +8,13 @@ use lib.ListN.{length, take, drop, replicate}
 use borrow.Rule.Slice.PartMut.{putMid}
 use Rattle.rows.specs.Splice.{cut, splice}
 use Rattle.ledger.specs.Lists.{byte}
-use Rattle.ledger.specs.Config.{Config, configIn, configRefusal, controller}
+use Rattle.ledger.specs.Config.{Config, configIn, configRefusal}
 use Rattle.ledger.specs.Ledger.{fresh}
 use Rattle.tables.specs.declared.shape.Shape.{Shape}
 use Rattle.tables.specs.Layout.{Fits, fitting}
 use Rattle.tables.specs.Shows.{Of, Shows}
-use Rattle.configuration.specs.Block.{configured, rule}
 use Rattle.configuration.specs.Layout.{of-one}
-use Rattle.configuration.specs.Accepted.{Accepted, accepted, accepted-length, accepted-states, configured-in}
+use Rattle.configuration.specs.Accepted.{Accepted, accepted, accepted-length, accepted-states}
 use Rattle.configuration.specs.Fresh.{FreshTables, fresh-shows}
 use Rattle.configuration.specs.Written.{cleared-length, cleared}
 

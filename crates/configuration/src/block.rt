@@ -15,7 +15,6 @@ ghost use Rattle.ledger.specs.Config.{configIn, configRefusal};
 ghost use Rattle.tables.specs.Shows.{Of};
 ghost use Rattle.queues.specs.Rings.{ringOf};
 ghost use Rattle.configuration.specs.Limits.{limitsOf, Made};
-ghost use Rattle.configuration.specs.Block.{configured};
 ghost use Rattle.configuration.specs.Layout.{frameBytes, laidOut, Lends};
 
 // The regions of the tables, one behind the other.
@@ -105,17 +104,17 @@ pub fn lent(limits: Limits, frame: &[u8]) -> Lent
 }
 
 // The ring of queue q. Its entries lie behind those of the queues before it.
-pub fn ring_of(config: &[u8], shape: Shape, q: usize) -> Ring
-    requires { ⌜ (frameBytes shape ≤ length (now config)) × Of (configured (now config)) shape × (1 ≤ q) × (q ≤ shape .queues) ⌝ }
-    ensures { λ r. ⌜ r ≡ ringOf (configured (now (config .entry))) shape q ⌝ }
+pub fn ring_of(frame: &[u8], shape: Shape, q: usize) -> Ring
+    requires { ⌜ (length (now frame) ≡ frameBytes shape) × Of (configIn (now frame)) shape × (1 ≤ q) × (q ≤ shape .queues) ⌝ }
+    ensures { λ r. ⌜ r ≡ ringOf (configIn (now (frame .entry))) shape q ⌝ }
 {
     let before = q - 1;
     let at = 8 + shape.tasks;
     let here = at + 2 * before;
-    let base = shape.bodyat + taken(&config[at..here], before) as usize;
+    let base = shape.bodyat + taken(&frame[at..here], before) as usize;
     Ring {
-        width: wide(config[here]),
-        depth: wide(config[here + 1]),
+        width: wide(frame[here]),
+        depth: wide(frame[here + 1]),
         base: base,
     }
 }

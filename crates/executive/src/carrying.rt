@@ -9,7 +9,7 @@ ghost use Rattle.ledger.specs.Lists.{byte};
 ghost use Rattle.ledger.specs.Ledger.{plain, setOutcome};
 ghost use Rattle.tables.specs.Layout.{Fits, OneOf, countAt};
 ghost use Rattle.tables.specs.Shows.{Does};
-ghost use Rattle.configuration.specs.Block.{configured};
+ghost use Rattle.ledger.specs.Config.{configIn};
 ghost use Rattle.executive.specs.Lent.{Lent};
 ghost use Rattle.executive.specs.Carried.{Meant, Effects, Passed, Carries};
 
@@ -38,8 +38,8 @@ fn by_family(
     shape: Shape,
 )
     requires { ⌜ (5 ≤ length (now frame)) × OneOf 17 code
-        × Lent (now config) shape (length (now tables)) (length (now slots)) (length (now timers)) × Meant (configured (now config)) shape code me a b (now frame) (now tables) ⌝ }
-    ensures { λ _. ⌜ Effects (configured (now (config .entry))) shape code me a b (now (frame .entry))
+        × Lent (now config) shape (length (now tables)) (length (now slots)) (length (now timers)) × Meant (configIn (now config)) shape code me a b (now frame) (now tables) ⌝ }
+    ensures { λ _. ⌜ Effects (configIn (now (config .entry))) shape code me a b (now (frame .entry))
         (now (tables .entry)) (now (slots .entry)) (now (timers .entry)) (now (tables .exit)) (now (slots .exit)) (now (timers .exit)) ⌝ }
 {
     match code {
@@ -67,8 +67,8 @@ fn carried(
     shape: Shape,
 )
     requires { ⌜ (5 ≤ length (now frame)) × (byte 0 (now frame) ≡ code) × OneOf 17 code
-        × Lent (now config) shape (length (now tables)) (length (now slots)) (length (now timers)) × Passed (configured (now config)) shape me (now frame) (now tables) ⌝ }
-    ensures { λ _. ⌜ Carries (configured (now (config .entry))) shape me (now (frame .entry))
+        × Lent (now config) shape (length (now tables)) (length (now slots)) (length (now timers)) × Passed (configIn (now config)) shape me (now frame) (now tables) ⌝ }
+    ensures { λ _. ⌜ Carries (configIn (now (config .entry))) shape me (now (frame .entry))
         (now (tables .entry)) (now (slots .entry)) (now (timers .entry)) (now (tables .exit)) (now (slots .exit)) (now (timers .exit)) ⌝ }
 {
     let u = command::codes::row(code);
@@ -90,8 +90,8 @@ pub fn carry_out(
     timers: &mut [u8],
     shape: Shape,
 )
-    requires { ⌜ Lent (now config) shape (length (now tables)) (length (now slots)) (length (now timers)) × Passed (configured (now config)) shape me (now frame) (now tables) ⌝ }
-    ensures { λ _. ⌜ Carries (configured (now (config .entry))) shape me (now (frame .entry))
+    requires { ⌜ Lent (now config) shape (length (now tables)) (length (now slots)) (length (now timers)) × Passed (configIn (now config)) shape me (now frame) (now tables) ⌝ }
+    ensures { λ _. ⌜ Carries (configIn (now (config .entry))) shape me (now (frame .entry))
         (now (tables .entry)) (now (slots .entry)) (now (timers .entry)) (now (tables .exit)) (now (slots .exit)) (now (timers .exit)) ⌝ }
 {
     carried(frame[0], me, frame, config, tables, slots, timers, shape);

@@ -5,7 +5,7 @@ ghost use mathlib.Core.Path.{_≡_};
 ghost use mathlib.Core.Bool.{true};
 ghost use Prim.Native.Nat.{_≤_};
 ghost use lib.ListN.{length};
-ghost use Rattle.configuration.specs.Block.{configured};
+ghost use Rattle.ledger.specs.Config.{configIn};
 ghost use Rattle.mailboxes.specs.Room.{soundIn};
 ghost use Rattle.executive.specs.Lent.{Lent};
 ghost use Rattle.executive.specs.Carried.{Passed};
@@ -21,8 +21,8 @@ fn act(
     timers: &mut [u8],
     shape: Shape,
 ) -> Settled
-    requires { ⌜ Lent (now config) shape (length (now tables)) (length (now slots)) (length (now timers)) × Passed (configured (now config)) shape me (now frame) (now tables) ⌝ }
-    ensures { λ r. ⌜ Acts (configured (now (config .entry))) shape me (now (frame .entry))
+    requires { ⌜ Lent (now config) shape (length (now tables)) (length (now slots)) (length (now timers)) × Passed (configIn (now config)) shape me (now frame) (now tables) ⌝ }
+    ensures { λ r. ⌜ Acts (configIn (now (config .entry))) shape me (now (frame .entry))
         (now (tables .entry)) (now (slots .entry)) (now (timers .entry)) (now (tables .exit)) (now (slots .exit)) (now (timers .exit)) r ⌝ }
 {
     crate::carrying::carry_out(me, frame, config, tables, slots, timers, shape);
@@ -40,7 +40,7 @@ pub fn step(
     answer: &mut [u8],
 ) -> u8
     requires { ⌜ Lent (now config) shape (length (now tables)) (length (now slots)) (length (now timers)) × (21 ≤ length (now answer)) × (soundIn shape (now tables) ≡ true) ⌝ }
-    ensures { λ r. ⌜ Steps (configured (now (config .entry))) shape (now (frame .entry))
+    ensures { λ r. ⌜ Steps (configIn (now (config .entry))) shape (now (frame .entry))
         (now (tables .entry)) (now (slots .entry)) (now (timers .entry)) (now (answer .entry))
         (now (tables .exit)) (now (slots .exit)) (now (timers .exit)) (now (answer .exit)) r ⌝ }
 {

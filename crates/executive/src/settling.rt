@@ -9,7 +9,7 @@ ghost use Prim.Native.Nat.{_*_, _≤_};
 ghost use lib.ListN.{length, take};
 ghost use Rattle.tables.specs.Layout.{Fits, OneOf};
 ghost use Rattle.tables.specs.Shows.{waitingIn, Does, Tells};
-ghost use Rattle.configuration.specs.Block.{configured};
+ghost use Rattle.ledger.specs.Config.{configIn};
 ghost use Rattle.command.specs.Configured.{Configures};
 ghost use Rattle.ledger.specs.Ledger as ledger;
 ghost use Rattle.ledger.specs.Services as ledger_services;
@@ -34,7 +34,7 @@ fn receive_again(tables: &mut [u8], shape: Shape, t: u8, from: u8)
 fn dequeue_again(tables: &mut [u8], slots: &mut [u8], config: &[u8], shape: Shape, t: u8, q: u8)
     requires { ⌜ Fits shape (length (now tables)) × Configures (now config) shape × (16 * shape .tasks ≤ length (now slots))
         × OneOf (shape .tasks) t × OneOf (shape .queues) q ⌝ }
-    ensures { λ _. ⌜ DoesWithSlotsOf (configured (now (config .entry))) shape (now (tables .entry)) (now (slots .entry))
+    ensures { λ _. ⌜ DoesWithSlotsOf (configIn (now (config .entry))) shape (now (tables .entry)) (now (slots .entry))
         (now (tables .exit)) (now (slots .exit)) (λ c L. session.issueAgain c t (ledger.dequeue q) (ledger.setRequest t ledger.none L)) ⌝ }
 {
     let r = ring(config, shape, q);
@@ -48,7 +48,7 @@ fn dequeue_again(tables: &mut [u8], slots: &mut [u8], config: &[u8], shape: Shap
 
 fn enqueue_again(tables: &mut [u8], config: &[u8], shape: Shape, t: u8, q: u8)
     requires { ⌜ Fits shape (length (now tables)) × Configures (now config) shape × OneOf (shape .tasks) t × OneOf (shape .queues) q ⌝ }
-    ensures { λ _. ⌜ DoesOf (configured (now (config .entry))) shape (now (tables .entry)) (now (tables .exit))
+    ensures { λ _. ⌜ DoesOf (configIn (now (config .entry))) shape (now (tables .entry)) (now (tables .exit))
         (λ c L. session.issueAgain c t (ledger.enqueue q (take (ledger_services.shape c q .width) (waitingIn shape
         (now (tables .entry)) t))) (ledger.setRequest t ledger.none L)) ⌝ }
 {
@@ -85,7 +85,7 @@ fn is_open(tables: &[u8], shape: Shape, t: u8) -> bool
 // The open request of the running task, closed and issued again.
 fn reissue(tables: &mut [u8], slots: &mut [u8], config: &[u8], shape: Shape, running: u8)
     requires { ⌜ Fits shape (length (now tables)) × Configures (now config) shape × (16 * shape .tasks ≤ length (now slots)) × OneOf (shape .tasks) running ⌝ }
-    ensures { λ _. ⌜ Reissues (configured (now (config .entry))) shape (now (tables .entry)) (now (slots .entry)) (now (tables .exit)) (now (slots .exit)) running ⌝ }
+    ensures { λ _. ⌜ Reissues (configIn (now (config .entry))) shape (now (tables .entry)) (now (slots .entry)) (now (tables .exit)) (now (slots .exit)) running ⌝ }
 {
     let task = tables::tasks::load(tables, shape, running);
     let request = task.request;
@@ -107,7 +107,7 @@ fn settle_open(
 ) -> Settled
     requires { ⌜ Fits shape (length (now tables)) × Configures (now config) shape × (16 * shape .tasks ≤ length (now slots))
         × OneOf (shape .tasks) first × Runs shape (now tables) first true ⌝ }
-    ensures { λ r. ⌜ Ends (configured (now (config .entry))) shape (now (tables .entry)) (now (slots .entry)) (now (tables .exit)) (now (slots .exit)) r ⌝ }
+    ensures { λ r. ⌜ Ends (configIn (now (config .entry))) shape (now (tables .entry)) (now (slots .entry)) (now (tables .exit)) (now (slots .exit)) r ⌝ }
 {
     let limit = 2 * shape.tasks;
     let mut n: usize = 0;
@@ -131,7 +131,7 @@ fn settle_open(
 
 pub fn settle(tables: &mut [u8], slots: &mut [u8], config: &[u8], shape: Shape) -> Settled
     requires { ⌜ Fits shape (length (now tables)) × Configures (now config) shape × (16 * shape .tasks ≤ length (now slots)) ⌝ }
-    ensures { λ r. ⌜ Ends (configured (now (config .entry))) shape (now (tables .entry)) (now (slots .entry)) (now (tables .exit)) (now (slots .exit)) r ⌝ }
+    ensures { λ r. ⌜ Ends (configIn (now (config .entry))) shape (now (tables .entry)) (now (slots .entry)) (now (tables .exit)) (now (slots .exit)) r ⌝ }
 {
     let running = tables::tasks::running(tables, shape);
     if !is_open(tables, shape, running) {

@@ -13,8 +13,10 @@ use Rattle.tables.specs.Layout.{recordsAt}
 use Rattle.tables.specs.Shows.{Shows}
 use Rattle.mailboxes.specs.Room.{counted, wholeIn}
 use Rattle.configuration.specs.Limits.{longest}
-use Rattle.configuration.specs.Block.{configured, rule}
+use Rattle.configuration.specs.Block.{frameRule}
 use Rattle.configuration.specs.Layout.{shapeOf}
+use Rattle.configuration.specs.Started.{timersBytes}
+use Rattle.parts.specs.Parts.{partAt, frameAt, markedBy, part, frameOf, Stays, Spares}
 use Rattle.answer.specs.Written.{written}
 
 -- all that the host lends
@@ -36,13 +38,14 @@ pub record Sizes : Type 0 where
   pub timers : ℕ
   pub answer : ℕ
 
--- the fixed sizes of docs/MEMORY.md: the most that a configuration within the limits needs. The semaphores are at most 255
+-- the fixed sizes of docs/MEMORY.md: the most that a configuration within the limits needs, and four bytes of a mark at both ends of all but the answer.
+-- The semaphores are at most 255
 unfoldable pub sizesOf : Limits → Sizes
 sizesOf k = record {
-  config = longest k;
-  tables = recordsAt + 22 * k .tasks + 255 + 2 * k .queues + 4 * k .messages + k .bytes;
-  slots = 16 * k .tasks;
-  timers = 11 + 10 * k .timers;
+  config = frameAt + longest k + 4;
+  tables = partAt + (recordsAt + 22 * k .tasks + 255 + 2 * k .queues + 4 * k .messages + k .bytes) + 4;
+  slots = partAt + 16 * k .tasks + 4;
+  timers = partAt + (11 + 10 * k .timers) + 4;
   answer = 21;
 }
 
@@ -55,21 +58,59 @@ hasSizes n m =
 unfoldable pub fullSize : Memory → Bool
 fullSize m = hasSizes (sizesOf controller) m
 
--- the structure rules there: the block holds a configuration; and fewer than G messages lie in the tables, or else no message lies there twice and
--- each is one of those that there are
+-- ---- the parts of the blocks
+
+-- the marks, four bytes that read MCXC, MCXT, MCXS and MCXR
+abbrev pub configMark : ℕ
+configMark = 0x4358434D
+
+abbrev pub tablesMark : ℕ
+tablesMark = 0x5458434D
+
+abbrev pub slotsMark : ℕ
+slotsMark = 0x5358434D
+
+abbrev pub timersMark : ℕ
+timersMark = 0x5258434D
+
+-- each block has its own at both ends
+unfoldable pub isMarked : Sizes → Memory → Bool
+isMarked n m =
+    markedBy configMark (n .config) (m .config) && markedBy tablesMark (n .tables) (m .tables) && markedBy slotsMark (n .slots) (m .slots) && markedBy timersMark (n .timers) (m .timers)
+
+-- the configuration that the memory holds, by its frame
+unfoldable pub configOf : Memory → Config
+configOf m = configIn (frameOf (m .config))
+
+-- the parts that a configuration needs
+unfoldable pub tablesIn : Config → Memory → List ℕ
+tablesIn c m = part (shapeOf c .end) (m .tables)
+
+unfoldable pub slotsIn : Config → Memory → List ℕ
+slotsIn c m = part (16 * shapeOf c .tasks) (m .slots)
+
+unfoldable pub timersIn : Config → Memory → List ℕ
+timersIn c m = part (timersBytes (shapeOf c)) (m .timers)
+
+-- ---- the test for number 11
+
+-- fewer than G messages lie in the tables, or else no message lies there twice and each is one of those that there are
 unfoldable pub messagesSound : Config → List ℕ → Bool
 messagesSound c d = let s = shapeOf c in ltb (counted s d) (s .messages) || wholeIn s d
 
--- by the limits of the executive that it is lent to
+-- the sizes, the marks, the frame of a configuration, and the messages, by the limits of the executive that the memory is lent to
 unfoldable pub lentWellFor : Limits → Memory → Bool
-lentWellFor k m = hasSizes (sizesOf k) m && rule k (configured (m .config)) && messagesSound (configured (m .config)) (m .tables)
+lentWellFor k m =
+    hasSizes (sizesOf k) m && isMarked (sizesOf k) m && frameRule k (frameOf (m .config)) && messagesSound (configOf m) (tablesIn (configOf m) m)
 
 unfoldable pub lentWell : Memory → Bool
 lentWell m = lentWellFor controller m
 
+-- ---- what a call leaves
+
 -- the memory shows the ledger
 unfoldable pub Displays : Config → Ledger → Memory → Type 0
-Displays c l m = Shows c (shapeOf c) l (m .tables) (m .slots) (m .timers)
+Displays c l m = Shows c (shapeOf c) l (tablesIn c m) (slotsIn c m) (timersIn c m)
 
 -- as many bytes in every block
 pub record SameSizes (m m' : Memory) : Type 0 where
@@ -79,25 +120,50 @@ pub record SameSizes (m m' : Memory) : Type 0 where
   pub timers : length (m' .timers) ≡ length (m .timers)
   pub answer : length (m' .answer) ≡ length (m .answer)
 
+-- every byte outside the parts is as it was
+pub record OutsideStays (c : Config) (m m' : Memory) : Type 0 where
+  pub tables : Stays (shapeOf c .end) (m .tables) (m' .tables)
+  pub slots : Stays (16 * shapeOf c .tasks) (m .slots) (m' .slots)
+  pub timers : Stays (timersBytes (shapeOf c)) (m .timers) (m' .timers)
+
+-- and of a configuration, which writes its frame with the two bytes of its length, and the marks
+pub record OutsideSpared (f : List ℕ) (m m' : Memory) : Type 0 where
+  pub config : Spares (2 + length f) (sizesOf controller .config) (m .config) (m' .config)
+  pub tables : Spares (shapeOf (configIn f) .end) (sizesOf controller .tables) (m .tables) (m' .tables)
+  pub slots : Spares (16 * shapeOf (configIn f) .tasks) (sizesOf controller .slots) (m .slots) (m' .slots)
+  pub timers : Spares (timersBytes (shapeOf (configIn f))) (sizesOf controller .timers) (m .timers) (m' .timers)
+
 -- the memory with another answer
 unfoldable pub answering : List ℕ → Memory → Memory
 answering a m = record { config = m .config; tables = m .tables; slots = m .slots; timers = m .timers; answer = written a (m .answer) }
 
--- ---- a configuration: 11 writes nothing; refused, it writes the answer alone; accepted, the memory shows the fresh ledger
+-- ---- a configuration: 11 writes nothing; refused, it writes the answer alone; accepted, the memory holds its frame and shows the fresh ledger
+
+pub record Begins (f : List ℕ) (m m' : Memory) (r : ℕ) : Type 0 where
+  pub number : r ≡ 0
+  pub frame : frameOf (m' .config) ≡ f
+  pub well : lentWell m' ≡ true
+  pub shown : Displays (configIn f) (fresh (configIn f)) m'
+  pub answered : m' .answer ≡ written (session.answer 0 0 (fresh (configIn f))) (m .answer)
+  pub outside : OutsideSpared f m m'
+
 pub record Configures (f : List ℕ) (m m' : Memory) (r : ℕ) : Type 0 where
   pub sizes : SameSizes m m'
   pub short : fullSize m ≡ false → (r ≡ 11) × (m' ≡ m)
   pub refused : fullSize m ≡ true → (configRefusal f ≡ 0 → ⊥) → (r ≡ configRefusal f) × (m' ≡ answering (session.refusedConfiguration (configRefusal f)) m)
-  pub accepted : fullSize m ≡ true → configRefusal f ≡ 0
-      → (r ≡ 0) × (configured (m' .config) ≡ configIn f) × (lentWell m' ≡ true) × Displays (configIn f) (fresh (configIn f)) m'
-      × (m' .answer ≡ written (session.answer 0 0 (fresh (configIn f))) (m .answer))
+  pub accepted : fullSize m ≡ true → configRefusal f ≡ 0 → Begins f m m' r
 
 -- ---- a frame: 11 writes nothing; else the number, the answer and the ledger shown are the ledger's, and a refused one changes the answer alone
+
+pub record Goes (c : Config) (l : Ledger) (f : List ℕ) (m m' : Memory) (r : ℕ) : Type 0 where
+  pub number : r ≡ refusal c l f
+  pub shown : Displays c (session.step c f l .ledger) m'
+  pub answered : m' .answer ≡ written (session.step c f l .answered) (m .answer)
+
 pub record Frames (f : List ℕ) (m m' : Memory) (r : ℕ) : Type 0 where
   pub sizes : SameSizes m m'
   pub config : m' .config ≡ m .config
   pub bad : lentWell m ≡ false → (r ≡ 11) × (m' ≡ m)
-  pub good : lentWell m ≡ true → (l : Ledger) → Displays (configured (m .config)) l m
-      → let c = configured (m .config) in
-      (r ≡ refusal c l f) × Displays c (session.step c f l .ledger) m' × (m' .answer ≡ written (session.step c f l .answered) (m .answer))
+  pub good : lentWell m ≡ true → (l : Ledger) → Displays (configOf m) l m → Goes (configOf m) l f m m' r
+  pub outside : lentWell m ≡ true → OutsideStays (configOf m) m m'
   pub unchanged : lentWell m ≡ true → (r ≡ 0 → ⊥) → (m' .tables ≡ m .tables) × (m' .slots ≡ m .slots) × (m' .timers ≡ m .timers)

@@ -18,22 +18,23 @@ use Rattle.tables.specs.Shows.{ticksIn, tasksIn, semaphoresIn, mailboxesIn, que
 use Rattle.ledger.specs.Theorems.Once.{Once}
 use Rattle.mailboxes.specs.Room.{soundIn}
 use Rattle.mailboxes.specs.Whole.{sound-shown}
-use Rattle.configuration.specs.Block.{configured, rule}
+use Rattle.configuration.specs.Block.{frameRule}
+use Rattle.parts.specs.Parts.{frameOf}
 use Rattle.configuration.specs.Layout.{shapeOf}
 use Rattle.answer.specs.Read as read
-use Rattle.mcx11.specs.Contract.{Memory, fullSize, messagesSound, lentWellFor, lentWell, Displays}
+use Rattle.mcx11.specs.Contract.{Memory, sizesOf, fullSize, isMarked, configOf, tablesIn, slotsIn, timersIn, messagesSound, lentWellFor, lentWell, Displays}
 
 -- the items that the memory's bytes are
 unfoldable pub itemsIn : Config → Memory → Items
 itemsIn c m =
-    let p = regions (shapeOf c) (m .tables) in
+    let p = regions (shapeOf c) (tablesIn c m) in
     record {
       ticks = ticksIn c p;
-      tasks = tasksIn c p (m .slots);
+      tasks = tasksIn c p (slotsIn c m);
       semaphores = semaphoresIn c p;
       mailboxes = mailboxesIn c p;
       queues = queuesIn c p;
-      timers = timersOf c (m .timers);
+      timers = timersOf c (timersIn c m);
     }
 
 pub items-shown : (c : Config) (l : Ledger) (m : Memory) → Displays c l m → items l ≡ itemsIn c m
@@ -52,10 +53,10 @@ items-shown c l m h =
 -- ---- lent well
 
 -- the messages' rule is kept where the ledger has none twice
-pub displays-well : (m : Memory) (l : Ledger) → fullSize m ≡ true → rule controller (configured (m .config)) ≡ true → Displays (configured (m .config)) l m
-    → Once (configured (m .config)) (l .mailboxes) → lentWell m ≡ true
+pub displays-well : (m : Memory) (l : Ledger) → fullSize m ≡ true → isMarked (sizesOf controller) m ≡ true → frameRule controller (frameOf (m .config)) ≡ true → Displays (configOf m) l m
+    → Once (configOf m) (l .mailboxes) → lentWell m ≡ true
 unfolding lentWell lentWellFor fullSize messagesSound soundIn Displays
-displays-well m l f r h o = let c = configured (m .config) in rw (f, r) (sound-shown c (shapeOf c) l (m .tables) (m .slots) (m .timers) h o)
+displays-well m l f k r h o = let c = configOf m in rw (f, k, r) (sound-shown c (shapeOf c) l (tablesIn c m) (slotsIn c m) (timersIn c m) h o)
 
 -- ---- an answer has 4 to 20 bytes
 
@@ -70,7 +71,7 @@ module _ (c : Config) (l : Ledger) (m : Memory) (h : Displays c l m) where
 
   pub answer-short : (n r : ℕ) → (4 ≤ length (answer n r l)) × (length (answer n r l) ≤ 20)
   unfolding Displays
-  answer-short n r = read.answer-short c (shapeOf c) l (m .tables) (m .slots) (m .timers) h running-most n r
+  answer-short n r = read.answer-short c (shapeOf c) l (tablesIn c m) (slotsIn c m) (timersIn c m) h running-most n r
 
 pub step-short : (c : Config) (f : List ℕ) (l : Ledger) (m : Memory) → Displays c (step c f l .ledger) m → length (step c f l .answered) ≤ 20
 unfolding step

@@ -8,38 +8,44 @@ use lib.Dec.{leb}
 use lib.ListN.{length}
 use Rattle.ledger.specs.Theorems.Checks.{and-left, and-right}
 use Rattle.ledger.specs.Config.{Limits, controller}
-use Rattle.configuration.specs.Block.{configured, rule}
+use Rattle.configuration.specs.Block.{frameRule}
+use Rattle.parts.specs.Parts.{frameOf}
 use Rattle.mcx11.specs.declared.lent.Sizes as code
-use Rattle.mcx11.specs.Contract.{Memory, memory, Sizes, sizesOf, hasSizes, fullSize, messagesSound, lentWellFor, lentWell, SameSizes}
+use Rattle.mcx11.specs.Contract.{Memory, memory, Sizes, sizesOf, hasSizes, fullSize, isMarked, configOf, tablesIn, messagesSound, lentWellFor, lentWell, SameSizes}
 
 -- the sizes as the program has them
 abbrev pub sizesIn : code.Sizes → Sizes
 sizesIn n = record { config = n .config; tables = n .tables; slots = n .slots; timers = n .timers; answer = n .answer }
 
+-- blocks that have their sizes, with room for both marks in each. (No record, so that its parts stay out of sight where one fact of it is wanted)
+pub data Sized (n : Sizes) (g d z w : ℕ) : Type 0 where
+  sized : (8 ≤ n .config) × (n .config ≤ g) → (8 ≤ n .tables) × (n .tables ≤ d) → (8 ≤ n .slots) × (n .slots ≤ z) → (8 ≤ n .timers) × (n .timers ≤ w) → Sized n g d z w
+
 pub record Full (m : Memory) : Type 0 where
-  pub config : 198 ≤ length (m .config)
-  pub tables : 7509 ≤ length (m .tables)
-  pub slots : 2016 ≤ length (m .slots)
-  pub timers : 651 ≤ length (m .timers)
+  pub config : 208 ≤ length (m .config)
+  pub tables : 7517 ≤ length (m .tables)
+  pub slots : 2024 ≤ length (m .slots)
+  pub timers : 659 ≤ length (m .timers)
   pub answer : 21 ≤ length (m .answer)
 
 pub full-sizes : (m : Memory) → fullSize m ≡ true → Full m
 unfolding fullSize hasSizes sizesOf
 full-sizes m h =
     record {
-      config = leb-true 198 _ (search (and-left, and-right) depth 9);
-      tables = leb-true 7509 _ (search (and-left, and-right) depth 9);
-      slots = leb-true 2016 _ (search (and-left, and-right) depth 9);
-      timers = leb-true 651 _ (search (and-left, and-right) depth 9);
+      config = leb-true 208 _ (search (and-left, and-right) depth 9);
+      tables = leb-true 7517 _ (search (and-left, and-right) depth 9);
+      slots = leb-true 2024 _ (search (and-left, and-right) depth 9);
+      timers = leb-true 659 _ (search (and-left, and-right) depth 9);
       answer = leb-true 21 _ (search (and-left, and-right) depth 9);
     }
 
 -- the sizes as the code tests them, by limits that are the controller's
-pub full-told : (k : Limits) → k ≡ controller → (g d z w a : List ℕ) (x y : Bool)
-    → x ≡ (leb (sizesOf k .config) (length g) && leb (sizesOf k .tables) (length d) && leb (sizesOf k .slots) (length z) && leb (sizesOf k .timers) (length w) && leb (sizesOf k .answer) (length a))
+pub full-told : (k : Limits) → k ≡ controller → (n : Sizes) → n ≡ sizesOf k → (g d z w a : List ℕ) (x y : Bool)
+    → x ≡ (leb (n .config) (length g) && leb (n .tables) (length d) && leb (n .slots) (length z) && leb (n .timers) (length w) && leb (n .answer) (length a))
     → x ≡ y → fullSize (memory g d z w a) ≡ y
 unfolding fullSize hasSizes
-full-told k e g d z w a x y t q = ap (λ (j : Limits). hasSizes (sizesOf j) (memory g d z w a)) (sym e) ∙ sym t ∙ q
+full-told k e n q g d z w a x y t r =
+    ap (λ (j : Limits). hasSizes (sizesOf j) (memory g d z w a)) (sym e) ∙ ap (λ (j : Sizes). hasSizes j (memory g d z w a)) (sym q) ∙ sym t ∙ r
 
 pub sizes-full : (m : Memory) → Full m → fullSize m ≡ true
 unfolding fullSize hasSizes sizesOf
@@ -51,14 +57,24 @@ full-kept s = rw (s .config, s .tables, s .slots, s .timers, s .answer)
 
 -- what the test for 11 found
 module _ (m : Memory) (h : lentWell m ≡ true) where
+  abbrev sound : Bool
+  sound = messagesSound (configOf m) (tablesIn (configOf m) m)
+
+  abbrev framed : Bool
+  framed = frameRule controller (frameOf (m .config))
+
   pub well-full : fullSize m ≡ true
   unfolding lentWell lentWellFor fullSize
-  well-full = and-left _ (rule controller (configured (m .config))) (and-left _ (messagesSound (configured (m .config)) (m .tables)) h)
+  well-full = and-left _ (isMarked (sizesOf controller) m) (and-left _ framed (and-left _ sound h))
 
-  pub well-rule : rule controller (configured (m .config)) ≡ true
+  pub well-marked : isMarked (sizesOf controller) m ≡ true
   unfolding lentWell lentWellFor
-  well-rule = and-right (hasSizes (sizesOf controller) m) _ (and-left _ (messagesSound (configured (m .config)) (m .tables)) h)
+  well-marked = and-right (hasSizes (sizesOf controller) m) _ (and-left _ framed (and-left _ sound h))
 
-  pub well-messages : messagesSound (configured (m .config)) (m .tables) ≡ true
+  pub well-frame : frameRule controller (frameOf (m .config)) ≡ true
   unfolding lentWell lentWellFor
-  well-messages = and-right (hasSizes (sizesOf controller) m && rule controller (configured (m .config))) _ h
+  well-frame = and-right (hasSizes (sizesOf controller) m && isMarked (sizesOf controller) m) _ (and-left _ sound h)
+
+  pub well-messages : messagesSound (configOf m) (tablesIn (configOf m) m) ≡ true
+  unfolding lentWell lentWellFor
+  well-messages = and-right (hasSizes (sizesOf controller) m && isMarked (sizesOf controller) m && framed) _ h

@@ -1,13 +1,14 @@
--- The test for number 11: what each of its ways out says of the memory, whatever lies in the slots, the timers and the answer.
-use Prim.Native.Nat.{ℕ, _≤_}
+-- The test for number 11: what each of its ways out says of the memory, whatever lies in the answer.
+use Prim.Native.Nat.{ℕ, _+_, _*_, _<_, _≤_}
 use mathlib.Core.Path.{_≡_, refl, sym, ap, _∙_, subst}
 use mathlib.Core.Bool.{Bool, true, false, cond, _&&_}
 use mathlib.Core.List.{List}
 use native.Mathlib.Omega.{arith}
 use lib.Dec.{leb}
-use borrow.Author.Tests.{leb-true}
-use lib.ListN.{length}
-use Rattle.ledger.specs.Config.{Config, Limits, controller}
+use borrow.Author.Tests.{leb-true, eqb-true}
+use lib.ListN.{length, length-take, length-drop}
+use Rattle.ledger.specs.Lists.{byte, word}
+use Rattle.ledger.specs.Config.{Config, Limits, controller, configIn, goodHead}
 use Rattle.ledger.specs.Theorems.Checks.{and-left, and-right}
 use Rattle.tables.specs.declared.shape.Shape.{Shape}
 use Rattle.tables.specs.Layout.{Fits, fitting}
@@ -16,31 +17,58 @@ use Rattle.mailboxes.specs.Room.{soundIn}
 use Rattle.configuration.specs.declared.Lent.{Lent}
 use Rattle.configuration.specs.declared.Lent.the-variants.{Bad, Good}
 use Rattle.configuration.specs.Limits.{longest, Made}
-use Rattle.configuration.specs.Block.{configured, rule}
+use Rattle.configuration.specs.Block.{rule, frameRule}
 use Rattle.configuration.specs.Layout.{shapeOf, of-one, Lends, rule-head, rule-room}
-use Rattle.mcx11.specs.Contract.{Memory, memory, sizesOf, hasSizes, messagesSound, lentWellFor, lentWell}
+use Rattle.configuration.specs.Started.{timersBytes}
+use Rattle.parts.specs.Parts.{partAt, frameAt, markedBy, part, frameOf}
+use Rattle.mcx11.specs.Contract.{Memory, memory, Sizes, sizesOf, hasSizes, configMark, tablesMark, slotsMark, timersMark, isMarked, configOf, tablesIn, messagesSound, lentWellFor, lentWell}
+use Rattle.mcx11.specs.Sizes.{Sized, sized}
 
--- all memories with these lengths of the slots, the timers and the answer
-abbrev pub AllWith : (nz nw na : ℕ) → (List ℕ → List ℕ → List ℕ → Type 0) → Type 0
-AllWith nz nw na P = (z w a : List ℕ) → length z ≡ nz → length w ≡ nw → length a ≡ na → P z w a
+-- all answers of a length
+abbrev pub AllAnswers : ℕ → (List ℕ → Type 0) → Type 0
+AllAnswers n P = (a : List ℕ) → length a ≡ n → P a
 
-abbrev pub Tested : Limits → (g d : List ℕ) → (nz nw na : ℕ) → Lent → Type 0
-Tested k g d nz nw na Bad = AllWith nz nw na (λ z w a. lentWellFor k (memory g d z w a) ≡ false)
-Tested k g d nz nw na (Good s) = Of (configured g) s × AllWith nz nw na (λ z w a. lentWellFor k (memory g d z w a) ≡ true)
+abbrev pub Tested : Limits → (g d z w : List ℕ) → ℕ → Lent → Type 0
+Tested k g d z w n Bad = AllAnswers n (λ a. lentWellFor k (memory g d z w a) ≡ false)
+Tested k g d z w n (Good s) = Of (configIn (frameOf g)) s × AllAnswers n (λ a. lentWellFor k (memory g d z w a) ≡ true)
 
--- what the reading of the block says
-pub lends-bad : (k : Limits) (c : Config) {r : Lent} → Lends k c r → r ≡ Bad → rule k c ≡ false
-lends-bad k c h e = subst (Lends k c) e h
+-- what the reading of the frame says
+pub lends-bad : (k : Limits) (f : List ℕ) {r : Lent} → Lends k f r → r ≡ Bad → frameRule k f ≡ false
+lends-bad k f h e = subst (Lends k f) e h
 
-pub lends-good : (k : Limits) (c : Config) {r : Lent} {s : Shape} → Lends k c r → r ≡ Good s → (rule k c ≡ true) × Of c s
-lends-good k c h e = subst (Lends k c) e h
+pub lends-good : (k : Limits) (f : List ℕ) {r : Lent} {s : Shape} → Lends k f r → r ≡ Good s → (frameRule k f ≡ true) × Of (configIn f) s
+lends-good k f h e = subst (Lends k f) e h
 
--- and by the controller's limits
-pub lent-bad : (k : Limits) → k ≡ controller → (c : Config) {r : Lent} → Lends k c r → r ≡ Bad → rule controller c ≡ false
-lent-bad k ek c h e = ap (λ (x : Limits). rule x c) (sym ek) ∙ lends-bad k c h e
+-- ---- a frame that keeps the rule
 
-pub lent-good : (k : Limits) → k ≡ controller → (c : Config) {r : Lent} {s : Shape} → Lends k c r → r ≡ Good s → (rule controller c ≡ true) × Of c s
-lent-good k ek c h e = let x = lends-good k c h e in (ap (λ (y : Limits). rule y c) (sym ek) ∙ x .0, x .1)
+module _ (k : Limits) (made : Made k) (f : List ℕ) (keeps : frameRule k f ≡ true) where
+  pub frame-rule : rule k (configIn f) ≡ true
+  unfolding frameRule
+  frame-rule = and-right _ (rule k (configIn f)) keeps
+
+  pub frame-whole : length f ≡ 8 + byte 0 f + 2 * byte 2 f
+  unfolding frameRule
+  frame-whole = eqb-true (length f) _ (and-left _ (rule k (configIn f)) keeps)
+
+  pub frame-short : length f ≤ longest k
+  unfolding configIn
+  frame-short = let h = rule-head k made (configIn f) frame-rule in omega (arith, frame-whole, h .few, h .queues)
+
+-- a length above the longest is no frame's
+module _ (k : Limits) (made : Made k) (g : List ℕ) (room : frameAt + longest k + 4 ≤ length g) (n : ℕ) (e : n ≡ word partAt g) where
+  pub frame-inside : n ≤ longest k → frameAt + n ≤ length g
+  frame-inside h = omega arith
+
+  frame-longer : longest k < n → longest k < length (frameOf g)
+  unfolding frameOf
+  frame-longer h = simp (length-take, length-drop) (omega arith)
+
+  pub too-long : longest k < n → frameRule k (frameOf g) ≡ false
+  too-long h = go (frameRule k (frameOf g)) refl
+    where
+      go : (b : Bool) → frameRule k (frameOf g) ≡ b → b ≡ false
+      go true q = absurd (omega (arith, frame-short k made (frameOf g) q, frame-longer h))
+      go false q = refl
 
 -- ---- the messages, in the configuration's terms
 
@@ -51,49 +79,89 @@ sound-is c s o d = ap (λ (x : Shape). soundIn x d) (of-one c s o)
 -- ---- the sizes have room for every configuration within the limits
 
 module _ (k : Limits) (made : Made k) (c : Config) (keeps : rule k c ≡ true) (s : Shape) (o : Of c s) where
-  pub end-within : s .end ≤ sizesOf k .tables
+  pub tables-within : partAt + s .end + 4 ≤ sizesOf k .tables
   unfolding sizesOf bytesOf
-  end-within =
+  tables-within =
       let l = o .laid in
       let h = rule-head k made c keeps in
       omega (arith, o .bodies, o .tasks, o .queues, o .messages, h .few, h .queues, h .messages, rule-room k made c keeps)
 
+  pub slots-within : partAt + 16 * s .tasks + 4 ≤ sizesOf k .slots
+  unfolding sizesOf
+  slots-within = let h = rule-head k made c keeps in omega (arith, o .tasks, h .few)
+
+  pub timers-within : partAt + timersBytes s + 4 ≤ sizesOf k .timers
+  unfolding sizesOf
+  timers-within = let h = rule-head k made c keeps in omega (arith, o .timers, h .timers)
+
 -- ---- the ways out
 
-module _ (k : Limits) (g d : List ℕ) (nz nw na : ℕ) where
-  sized : (b : Bool) → b ≡ (leb (sizesOf k .config) (length g) && leb (sizesOf k .tables) (length d) && leb (sizesOf k .slots) nz && leb (sizesOf k .timers) nw && leb (sizesOf k .answer) na)
-      → AllWith nz nw na (λ z w a. hasSizes (sizesOf k) (memory g d z w a) ≡ b)
+module _ (k : Limits) (g d z w : List ℕ) (na : ℕ) (n : Sizes) (en : n ≡ sizesOf k) where
+  told : (b : Bool) → b ≡ (leb (n .config) (length g) && leb (n .tables) (length d) && leb (n .slots) (length z) && leb (n .timers) (length w) && leb (n .answer) na)
+      → AllAnswers na (λ a. hasSizes (sizesOf k) (memory g d z w a) ≡ b)
   unfolding hasSizes
-  sized b e z w a ez ew ea = rw (ez, ew, ea) (sym e)
+  told b e a ea = ap (λ (x : Sizes). hasSizes x (memory g d z w a)) (sym en) ∙ rw ea (sym e)
 
-  module _ (b : Bool) (e : b ≡ (leb (sizesOf k .config) (length g) && leb (sizesOf k .tables) (length d) && leb (sizesOf k .slots) nz && leb (sizesOf k .timers) nw && leb (sizesOf k .answer) na)) where
-    pub tested-short : b ≡ false → Tested k g d nz nw na Bad
+  module _ (b : Bool) (e : b ≡ (leb (n .config) (length g) && leb (n .tables) (length d) && leb (n .slots) (length z) && leb (n .timers) (length w) && leb (n .answer) na)) where
+    pub tested-short : b ≡ false → Tested k g d z w na Bad
     unfolding lentWellFor
-    tested-short f z w a ez ew ea = rw (sized b e z w a ez ew ea ∙ f)
+    tested-short f a ea = rw (told b e a ea ∙ f)
 
     module _ (full : b ≡ true) where
-      pub tested-long : longest k ≤ length g
+      all-sizes : (leb (n .config) (length g) && leb (n .tables) (length d) && leb (n .slots) (length z) && leb (n .timers) (length w) && leb (n .answer) na) ≡ true
+      all-sizes = sym e ∙ full
+
+      pub tested-sized : Sized n (length g) (length d) (length z) (length w)
       unfolding sizesOf
-      tested-long = leb-true _ _ (and-left _ _ (and-left _ _ (and-left _ _ (and-left _ _ (sym e ∙ full)))))
+      tested-sized =
+          let t = all-sizes in
+          let c : n .config ≡ sizesOf k .config = ap (λ (x : Sizes). x .config) en in
+          let ts : n .tables ≡ sizesOf k .tables = ap (λ (x : Sizes). x .tables) en in
+          let ss : n .slots ≡ sizesOf k .slots = ap (λ (x : Sizes). x .slots) en in
+          let ws : n .timers ≡ sizesOf k .timers = ap (λ (x : Sizes). x .timers) en in
+          sized (omega arith, leb-true (n .config) (length g) (search (and-left, and-right) depth 9)) (omega arith, leb-true (n .tables) (length d) (search (and-left, and-right) depth 9))
+          (omega arith, leb-true (n .slots) (length z) (search (and-left, and-right) depth 9)) (omega arith, leb-true (n .timers) (length w) (search (and-left, and-right) depth 9))
 
-      pub tested-rule : rule k (configured g) ≡ false → Tested k g d nz nw na Bad
-      unfolding lentWellFor
-      tested-rule r z w a ez ew ea = rw (sized b e z w a ez ew ea ∙ full, r)
+      pub tested-long : frameAt + longest k + 4 ≤ length g
+      unfolding sizesOf
+      tested-long =
+          let t = all-sizes in
+          let h : n .config ≤ length g = leb-true (n .config) (length g) (search (and-left, and-right) depth 9) in
+          let c : n .config ≡ sizesOf k .config = ap (λ (x : Sizes). x .config) en in
+          omega arith
 
-      module _ (made : Made k) (keeps : rule k (configured g) ≡ true) (s : Shape) (o : Of (configured g) s) where
-        pub tested-fits : Fits s (length d)
-        tested-fits =
-            let t : (leb (sizesOf k .config) (length g) && leb (sizesOf k .tables) (length d) && leb (sizesOf k .slots) nz && leb (sizesOf k .timers) nw && leb (sizesOf k .answer) na) ≡ true = sym e ∙ full in
-            let n : sizesOf k .tables ≤ length d = leb-true (sizesOf k .tables) (length d) (search (and-left, and-right) depth 9) in
-            fitting (o .laid) (omega (arith, end-within k made (configured g) keeps s o))
+      module _ (x : Bool) (ex : x ≡ (markedBy configMark (n .config) g && markedBy tablesMark (n .tables) d && markedBy slotsMark (n .slots) z && markedBy timersMark (n .timers) w)) where
+        marks-told : (a : List ℕ) → isMarked (sizesOf k) (memory g d z w a) ≡ x
+        unfolding isMarked
+        marks-told a = ap (λ (y : Sizes). isMarked y (memory g d z w a)) (sym en) ∙ sym ex
 
-        pub tested-messages : (r : Lent) → r ≡ cond (soundIn s d) (Good s) Bad → Tested k g d nz nw na r
+        pub tested-unmarked : x ≡ false → Tested k g d z w na Bad
         unfolding lentWellFor
-        tested-messages r er = subst (Tested k g d nz nw na) (sym er) (go (soundIn s d) refl)
-          where
-            go : (x : Bool) → soundIn s d ≡ x → Tested k g d nz nw na (cond x (Good s) Bad)
-            go true h = (o, λ z w a ez ew ea. rw (sized b e z w a ez ew ea ∙ full, keeps) (sym (sound-is (configured g) s o d) ∙ h))
-            go false h = λ z w a ez ew ea. rw (sized b e z w a ez ew ea ∙ full, keeps) (sym (sound-is (configured g) s o d) ∙ h)
+        tested-unmarked f a ea = rw (told b e a ea ∙ full, marks-told a ∙ f)
+
+        module _ (marked : x ≡ true) where
+          pub tested-rule : frameRule k (frameOf g) ≡ false → Tested k g d z w na Bad
+          unfolding lentWellFor
+          tested-rule r a ea = rw (told b e a ea ∙ full, marks-told a ∙ marked, r)
+
+          module _ (made : Made k) (keeps : frameRule k (frameOf g) ≡ true) (s : Shape) (o : Of (configIn (frameOf g)) s) where
+            pub tested-fits : Fits s (s .end) × (partAt + s .end ≤ length d)
+            tested-fits =
+                let t = all-sizes in
+                let h : n .tables ≤ length d = leb-true (n .tables) (length d) (search (and-left, and-right) depth 9) in
+                let c : n .tables ≡ sizesOf k .tables = ap (λ (x : Sizes). x .tables) en in
+                (fitting (o .laid) (omega arith), omega (arith, tables-within k made (configIn (frameOf g)) (frame-rule k made (frameOf g) keeps) s o))
+
+            pub tested-messages : (r : Lent) → r ≡ cond (soundIn s (part (s .end) d)) (Good s) Bad → Tested k g d z w na r
+            unfolding lentWellFor tablesIn configOf
+            tested-messages r er = subst (Tested k g d z w na) (sym er) (go (soundIn s (part (s .end) d)) refl)
+              where
+                same : soundIn s (part (s .end) d) ≡ messagesSound (configIn (frameOf g)) (part (shapeOf (configIn (frameOf g)) .end) d)
+                same = sound-is (configIn (frameOf g)) s o (part (s .end) d) ∙ ap (λ (x : Shape). messagesSound (configIn (frameOf g)) (part (x .end) d)) (of-one (configIn (frameOf g)) s o)
+
+                go : (x : Bool) → soundIn s (part (s .end) d) ≡ x → Tested k g d z w na (cond x (Good s) Bad)
+                go true h = (o, λ a ea. rw (told b e a ea ∙ full, marks-told a ∙ marked, keeps) (sym same ∙ h))
+                go false h = λ a ea. rw (told b e a ea ∙ full, marks-told a ∙ marked, keeps) (sym same ∙ h)
 
 -- ---- what the controller's test says of a memory
 
@@ -101,9 +169,9 @@ for-controller : (k : Limits) → k ≡ controller → (m : Memory) (x : Bool) �
 unfolding lentWell
 for-controller k ek m x e = ap (λ (y : Limits). lentWellFor y m) (sym ek) ∙ e
 
-module _ (k : Limits) (ek : k ≡ controller) (g d z w a : List ℕ) (r : Lent) (h : Tested k g d (length z) (length w) (length a) r) where
+module _ (k : Limits) (ek : k ≡ controller) (g d z w a : List ℕ) (r : Lent) (h : Tested k g d z w (length a) r) where
   pub tested-bad : r ≡ Bad → lentWell (memory g d z w a) ≡ false
-  tested-bad e = for-controller k ek (memory g d z w a) false (subst (Tested k g d (length z) (length w) (length a)) e h z w a refl refl refl)
+  tested-bad e = for-controller k ek (memory g d z w a) false (subst (Tested k g d z w (length a)) e h a refl)
 
-  pub tested-good : {s : Shape} → r ≡ Good s → Of (configured g) s × (lentWell (memory g d z w a) ≡ true)
-  tested-good {s} e = let x = subst (Tested k g d (length z) (length w) (length a)) e h in (x .0, for-controller k ek (memory g d z w a) true (x .1 z w a refl refl refl))
+  pub tested-good : {s : Shape} → r ≡ Good s → Of (configIn (frameOf g)) s × (lentWell (memory g d z w a) ≡ true)
+  tested-good {s} e = let x = subst (Tested k g d z w (length a)) e h in (x .0, for-controller k ek (memory g d z w a) true (x .1 a refl))

@@ -1,18 +1,24 @@
-// The whole test for number 11: the sizes of the lent blocks, the configuration that they hold, and the messages.
+// The whole test for number 11: the sizes of the lent blocks, their marks, the configuration that they hold, and the messages.
 use configuration::Lent;
 use configuration::limits::Limits;
+use parts::FRAME_AT;
+use parts::PART_AT;
 use tables::shape::RECORDS_AT;
 use tables::shape::Shape;
 ghost use mathlib.Core.Path.{_≡_};
 ghost use mathlib.Core.Bool.{cond, _&&_};
+ghost use Prim.Native.Nat.{_+_, _≤_};
 ghost use lib.Dec.{leb};
 ghost use lib.ListN.{length};
 ghost use Rattle.tables.specs.Layout.{Fits};
 ghost use Rattle.mailboxes.specs.Room.{soundIn};
+ghost use Rattle.configuration.specs.Limits as limit;
 ghost use Rattle.configuration.specs.Limits.{limitsOf, Made};
+ghost use Rattle.configuration.specs.Layout.{Lends};
 ghost use Rattle.configuration.specs.declared.Lent.the-variants as variants;
-ghost use Rattle.mcx11.specs.Contract.{sizesOf};
-ghost use Rattle.mcx11.specs.Sizes.{sizesIn};
+ghost use Rattle.parts.specs.Parts.{partAt, frameAt, markedBy, part, frameOf};
+ghost use Rattle.mcx11.specs.Contract.{sizesOf, configMark, tablesMark, slotsMark, timersMark};
+ghost use Rattle.mcx11.specs.Sizes.{sizesIn, Sized};
 ghost use Rattle.mcx11.specs.Tested.{Tested};
 
 // The fixed sizes of the lent blocks.
@@ -24,32 +30,46 @@ pub struct Sizes {
     pub answer: usize,
 }
 
+// Four bytes at both ends of each block: MCXC, MCXT, MCXS and MCXR.
+pub const CONFIG_MARK: u32 = 0x4358434D;
+pub const TABLES_MARK: u32 = 0x5458434D;
+pub const SLOTS_MARK: u32 = 0x5358434D;
+pub const TIMERS_MARK: u32 = 0x5258434D;
+
 fn wide(x: u8) -> usize
     ensures { λ r. ⌜ r ≡ x ⌝ }
 {
     x as usize
 }
 
-// The most that a configuration within the limits needs.
-fn sizes_of(limits: Limits) -> Sizes
+// The longest frame of a configuration within the limits.
+fn longest(limits: Limits) -> usize
+    ensures { λ r. ⌜ (r ≡ limit.longest (limitsOf limits)) × (r ≤ 773) ⌝ }
+{
+    8 + wide(limits.tasks) + 2 * wide(limits.queues)
+}
+
+// The most that a configuration within the limits needs, with the marks.
+pub fn sizes_of(limits: Limits) -> Sizes
     ensures { λ r. ⌜ sizesIn r ≡ sizesOf (limitsOf limits) ⌝ }
 {
+    let frame = longest(limits);
     let tasks = wide(limits.tasks);
     let queues = wide(limits.queues);
     let messages = wide(limits.messages);
     let timers = wide(limits.timers);
     let bytes = limits.bytes as usize;
     Sizes {
-        config: 8 + tasks + 2 * queues,
-        tables: RECORDS_AT + 22 * tasks + 255 + 2 * queues + 4 * messages + bytes,
-        slots: 16 * tasks,
-        timers: 11 + 10 * timers,
+        config: FRAME_AT + frame + 4,
+        tables: PART_AT + (RECORDS_AT + 22 * tasks + 255 + 2 * queues + 4 * messages + bytes) + 4,
+        slots: PART_AT + 16 * tasks + 4,
+        timers: PART_AT + (11 + 10 * timers) + 4,
         answer: 21,
     }
 }
 
 // Whether blocks of these lengths have their sizes.
-fn has_sizes(
+pub fn has_sizes(
     n: Sizes,
     config: usize,
     tables: usize,
@@ -77,48 +97,78 @@ fn has_sizes(
     true
 }
 
-pub fn full_size(
-    limits: Limits,
-    config: usize,
-    tables: usize,
-    slots: usize,
-    timers: usize,
-    answer: usize,
-) -> bool
-    ensures { λ r. ⌜ r ≡ (leb (sizesOf (limitsOf limits) .config) config && leb (sizesOf (limitsOf limits) .tables) tables && leb (sizesOf (limitsOf limits) .slots) slots && leb (sizesOf (limitsOf limits) .timers) timers && leb (sizesOf (limitsOf limits) .answer) answer) ⌝ }
+// Whether each block has its own mark at both ends.
+fn is_marked(n: Sizes, config: &[u8], tables: &[u8], slots: &[u8], timers: &[u8]) -> bool
+    requires { ⌜ Sized (sizesIn n) (length (now config)) (length (now tables)) (length (now slots)) (length (now timers)) ⌝ }
+    ensures { λ r. ⌜ r ≡ (markedBy configMark (n .config) (now (config .entry)) && markedBy tablesMark (n .tables) (now (tables .entry))
+        && markedBy slotsMark (n .slots) (now (slots .entry)) && markedBy timersMark (n .timers) (now (timers .entry))) ⌝ }
 {
-    has_sizes(sizes_of(limits), config, tables, slots, timers, answer)
+    if !parts::is_marked(config, n.config, CONFIG_MARK) {
+        return false;
+    }
+    if !parts::is_marked(tables, n.tables, TABLES_MARK) {
+        return false;
+    }
+    if !parts::is_marked(slots, n.slots, SLOTS_MARK) {
+        return false;
+    }
+    parts::is_marked(timers, n.timers, TIMERS_MARK)
+}
+
+// The frame that the block keeps.
+pub fn by_frame(limits: Limits, config: &[u8]) -> Lent
+    requires { ⌜ Made (limitsOf limits) × (frameAt + limit.longest (limitsOf limits) + 4 ≤ length (now config)) ⌝ }
+    ensures { λ r. ⌜ Lends (limitsOf limits) (frameOf (now (config .entry))) r ⌝ }
+{
+    let n = parts::frame_length(config);
+    if n > longest(limits) {
+        return Lent::Bad;
+    }
+    let end = FRAME_AT + n;
+    configuration::block::lent(limits, &config[FRAME_AT..end])
 }
 
 // The messages of tables with this shape.
-fn with_messages(tables: &[u8], shape: Shape) -> Lent
-    requires { ⌜ Fits shape (length (now tables)) ⌝ }
-    ensures { λ r. ⌜ r ≡ cond (soundIn shape (now (tables .entry))) (variants.Good shape) variants.Bad ⌝ }
+fn by_messages(tables: &[u8], shape: Shape) -> Lent
+    requires { ⌜ Fits shape (shape .end) × (partAt + shape .end ≤ length (now tables)) ⌝ }
+    ensures { λ r. ⌜ r ≡ cond (soundIn shape (part (shape .end) (now (tables .entry)))) (variants.Good shape) variants.Bad ⌝ }
 {
-    if mailboxes::sound(tables, shape) {
+    let end = PART_AT + shape.end;
+    if mailboxes::sound(&tables[PART_AT..end], shape) {
         return Lent::Good(shape);
     }
     Lent::Bad
 }
 
-// The shape of memory that keeps the rules. Of the slots, the timers and the answer the lengths are told.
+// The shape of memory that keeps the rules. Of the answer the length is told.
 pub fn test(
     limits: Limits,
     config: &[u8],
     tables: &[u8],
-    slots: usize,
-    timers: usize,
+    slots: &[u8],
+    timers: &[u8],
     answer: usize,
 ) -> Lent
     requires { ⌜ Made (limitsOf limits) ⌝ }
-    ensures { λ r. ⌜ Tested (limitsOf limits) (now (config .entry)) (now (tables .entry)) slots timers answer r ⌝ }
+    ensures { λ r. ⌜ Tested (limitsOf limits) (now (config .entry)) (now (tables .entry)) (now (slots .entry)) (now (timers .entry)) answer r ⌝ }
 {
-    if !full_size(limits, config.len(), tables.len(), slots, timers, answer) {
+    let n = sizes_of(limits);
+    if !has_sizes(
+        n,
+        config.len(),
+        tables.len(),
+        slots.len(),
+        timers.len(),
+        answer,
+    ) {
         return Lent::Bad;
     }
-    let block = configuration::block::lent(limits, config);
+    if !is_marked(n, config, tables, slots, timers) {
+        return Lent::Bad;
+    }
+    let block = by_frame(limits, config);
     match block {
         Lent::Bad => Lent::Bad,
-        Lent::Good(shape) => with_messages(tables, shape),
+        Lent::Good(shape) => by_messages(tables, shape),
     }
 }

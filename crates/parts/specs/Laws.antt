@@ -11,10 +11,11 @@ use lib.Seq.{sets-eq}
 use borrow.Author.Tests.{eq-eqb}
 use Rattle.ledger.specs.Lists.{byte, word}
 use Rattle.rows.specs.Splice.{cut, splice}
-use Rattle.rows.specs.Laws.{length-splice, splice-splice, cut-whole, cut-behind}
+use Rattle.rows.specs.Laws.{length-cut, length-splice, splice-splice, cut-whole, cut-behind}
 use Rattle.rows.specs.Four.{le4, bytes4, four-back}
-use Rattle.rows.specs.Bytes.{byte-in, byte-below, byte-above}
-use Rattle.parts.specs.Parts.{partAt, frameAt, markedBy, part, frameOf, kept, Stays, Spares}
+use borrow.Rule.Slice.PartMut.{putMid, put-same}
+use Rattle.rows.specs.Bytes.{byte-in, byte-below, byte-above, lent-part}
+use Rattle.parts.specs.Parts.{partAt, frameAt, markedBy, ends, part, frameOf, kept, Stays, Spares}
 
 -- ---- four bytes of a block of which only others are new
 
@@ -34,41 +35,28 @@ module _ (b : List ℕ) (size k : ℕ) (least : 8 ≤ size) (room : size ≤ len
   abbrev front : List ℕ
   front = splice b 0 (bytes4 k)
 
-  abbrev pub marked : List ℕ
-  marked = splice front (size - 4) (bytes4 k)
-
   length-front : length front ≡ length b
   length-front = length-splice b 0 (bytes4 k) (omega arith)
 
-  pub length-marked : length marked ≡ length b
-  length-marked = length-splice front (size - 4) (bytes4 k) (omega (arith, length-front)) ∙ length-front
+  pub length-ends : length (ends k size b) ≡ length b
+  length-ends = length-splice front (size - 4) (bytes4 k) (omega (arith, length-front)) ∙ length-front
 
-  pub marks-stand : k < 2 ^ 32 → markedBy k size marked ≡ true
+  ends-stand : k < 2 ^ 32 → markedBy k size (ends k size b) ≡ true
   unfolding markedBy
-  marks-stand f =
-      let p : le4 marked 0 ≡ k = same4 front marked 0 (λ j a l. byte-below front (bytes4 k) (size - 4) (omega (arith, length-front)) j (omega arith)) ∙ put4-is b 0 k (omega arith) f in
-      let q : le4 marked (size - 4) ≡ k = put4-is front (size - 4) k (omega (arith, length-front)) f in
+  ends-stand f =
+      let p : le4 (ends k size b) 0 ≡ k = same4 front (ends k size b) 0 (λ j a l. byte-below front (bytes4 k) (size - 4) (omega (arith, length-front)) j (omega arith)) ∙ put4-is b 0 k (omega arith) f in
+      let q : le4 (ends k size b) (size - 4) ≡ k = put4-is front (size - 4) k (omega (arith, length-front)) f in
       rw (eq-eqb _ _ p, eq-eqb _ _ q)
 
   -- no byte between the marks, and none behind the block's size, is new
-  pub marks-spare : (i : ℕ) → partAt ≤ i → (i < size - 4) ⊎ (size ≤ i) → getD marked i 0 ≡ getD b i 0
-  marks-spare i h (inl l) =
+  ends-spare : (i : ℕ) → partAt ≤ i → (i < size - 4) ⊎ (size ≤ i) → getD (ends k size b) i 0 ≡ getD b i 0
+  ends-spare i h (inl l) =
       byte-below front (bytes4 k) (size - 4) (omega (arith, length-front)) i l ∙ byte-above b (bytes4 k) 0 (omega arith) i (omega arith)
-  marks-spare i h (inr l) =
+  ends-spare i h (inr l) =
       byte-above front (bytes4 k) (size - 4) (omega (arith, length-front)) i (omega arith) ∙ byte-above b (bytes4 k) 0 (omega arith) i (omega arith)
 
--- ---- a block with a new part
+-- ---- bytes that stay keep the marks
 
-module _ (b : List ℕ) (n : ℕ) (ys : List ℕ) (ny : length ys ≡ n) (room : partAt + n ≤ length b) where
-  pub part-new : part n (splice b partAt ys) ≡ ys
-  unfolding part
-  part-new = cut-whole b partAt (partAt + n) ys (omega arith) room (omega arith)
-
-  pub part-stays : Stays n b (splice b partAt ys)
-  part-stays i (inl h) = byte-below b ys partAt (omega arith) i h
-  part-stays i (inr h) = byte-above b ys partAt (omega arith) i (omega arith)
-
--- bytes that stay keep the marks
 pub marks-kept : (b b' : List ℕ) (n size k : ℕ) → partAt + n + 4 ≤ size → Stays n b b' → markedBy k size b' ≡ markedBy k size b
 unfolding markedBy
 marks-kept b b' n size k h s =
@@ -76,29 +64,41 @@ marks-kept b b' n size k h s =
     (same4 b b' 0 (λ j a l. s j (inl (omega arith))))
     (same4 b b' (size - 4) (λ j a l. s j (inr (omega arith))))
 
--- marked, and then with a new part
-module _ (b : List ℕ) (size k n : ℕ) (ys : List ℕ) (ny : length ys ≡ n) (fits : partAt + n + 4 ≤ size) (room : size ≤ length b) where
-  abbrev pub filled : List ℕ
-  filled = splice (marked b size k (omega arith) room) partAt ys
+-- a block that was marked, and then had a new part
+module _ (b b' : List ℕ) (size k n : ℕ) (fits : partAt + n + 4 ≤ size) (room : size ≤ length b) (s : Stays n (ends k size b) b') where
+  pub marks-after : k < 2 ^ 32 → markedBy k size b' ≡ true
+  marks-after f = marks-kept (ends k size b) b' n size k fits s ∙ ends-stand b size k (omega arith) room f
 
-  abbrev long : partAt + n ≤ length (marked b size k (omega arith) room)
-  long = omega (arith, length-marked b size k (omega arith) room)
+  pub spares-after : Spares n size b b'
+  spares-after i h l = s i (inr h) ∙ ends-spare b size k (omega arith) room i (omega arith) l
 
-  pub length-filled : length filled ≡ length b
-  length-filled = length-splice (marked b size k (omega arith) room) partAt ys (omega (arith, ny, length-marked b size k (omega arith) room)) ∙ length-marked b size k (omega arith) room
+-- ---- a block with a new part
 
-  pub filled-part : part n filled ≡ ys
-  filled-part = part-new (marked b size k (omega arith) room) n ys ny (omega (arith, length-marked b size k (omega arith) room))
+pub part-stays : (b : List ℕ) (n : ℕ) (ys : List ℕ) → length ys ≡ n → partAt + n ≤ length b → Stays n b (splice b partAt ys)
+part-stays b n ys ny room i (inl h) = byte-below b ys partAt (omega arith) i h
+part-stays b n ys ny room i (inr h) = byte-above b ys partAt (omega arith) i (omega arith)
 
-  pub filled-marks : k < 2 ^ 32 → markedBy k size filled ≡ true
-  filled-marks f =
-      marks-kept (marked b size k (omega arith) room) filled n size k fits (part-stays (marked b size k (omega arith) room) n ys ny (omega (arith, length-marked b size k (omega arith) room)))
-      ∙ marks-stand b size k (omega arith) room f
+-- the part was lent, and is back
+module _ (b : List ℕ) (n : ℕ) (ys : List ℕ) (ny : length ys ≡ length (cut b partAt (partAt + n))) (room : partAt + n ≤ length b) where
+  abbrev pub back : List ℕ
+  back = putMid partAt (partAt + n - partAt) b ys
 
-  pub filled-spares : Spares n size b filled
-  filled-spares i h l =
-      part-stays (marked b size k (omega arith) room) n ys ny (omega (arith, length-marked b size k (omega arith) room)) i (inr h)
-      ∙ marks-spare b size k (omega arith) room i (omega arith) l
+  back-length : length ys ≡ n
+  back-length = ny ∙ length-cut b partAt (partAt + n) room ∙ omega arith
+
+  back-is : back ≡ splice b partAt ys
+  back-is = lent-part b partAt (partAt + n) ys (omega arith) room (omega (arith, back-length))
+
+  pub back-part : part n back ≡ ys
+  unfolding part
+  back-part = ap (λ (x : List ℕ). cut x partAt (partAt + n)) back-is ∙ cut-whole b partAt (partAt + n) ys (omega arith) room (omega (arith, back-length))
+
+  pub back-stays : Stays n b back
+  back-stays i h = ap (λ (x : List ℕ). getD x i 0) back-is ∙ part-stays b n ys back-length room i h
+
+  pub back-same : ys ≡ part n b → back ≡ b
+  unfolding part
+  back-same e = ap (putMid partAt (partAt + n - partAt) b) e ∙ put-same partAt (partAt + n - partAt) b
 
 -- ---- the frame that is kept
 

@@ -7,8 +7,8 @@ use Prim.Native.Nat.{ℕ, _+_, _-_, _/_, _%_, _<_, _≤_}
 use lib.Dec.{eqb}
 use lib.ListN.{length, getD}
 use Rattle.ledger.specs.Lists.{word}
-use Rattle.rows.specs.Splice.{cut}
-use Rattle.rows.specs.Four.{le4}
+use Rattle.rows.specs.Splice.{cut, splice}
+use Rattle.rows.specs.Four.{le4, bytes4}
 
 abbrev pub partAt : ℕ
 partAt = 4
@@ -19,6 +19,10 @@ frameAt = 6
 -- both marks of a block of this size stand
 unfoldable pub markedBy : (mark size : ℕ) → List ℕ → Bool
 markedBy k n b = eqb (le4 b 0) k && eqb (le4 b (n - 4)) k
+
+-- a block with both marks set
+abbrev pub ends : (mark size : ℕ) → List ℕ → List ℕ
+ends k n b = splice (splice b 0 (bytes4 k)) (n - 4) (bytes4 k)
 
 -- the n bytes of a block that a configuration needs
 unfoldable pub part : ℕ → List ℕ → List ℕ

@@ -2,13 +2,13 @@
 // Promises: a block is marked exactly where both marks stand; what marks a block or keeps a frame changes the bytes named and no other.
 // Rests on rows, for copies and numbers of four bytes.
 ghost use mathlib.Core.Path.{_≡_};
-ghost use Prim.Native.Nat.{_+_, _-_, _*_, _≤_};
+ghost use Prim.Native.Nat.{_+_, _*_, _≤_};
 ghost use lib.Dec.{eqb};
 ghost use lib.ListN.{length};
 ghost use Rattle.ledger.specs.Lists as lists;
 ghost use Rattle.rows.specs.Splice.{splice};
-ghost use Rattle.rows.specs.Four.{le4, bytes4};
-ghost use Rattle.parts.specs.Parts.{partAt, frameAt, markedBy, kept};
+ghost use Rattle.rows.specs.Four.{le4};
+ghost use Rattle.parts.specs.Parts.{partAt, frameAt, markedBy, ends, kept};
 
 // Where the part begins; in the block of the configuration the frame's length lies there, and the frame behind it.
 pub const PART_AT: usize = 4;
@@ -37,7 +37,7 @@ pub fn is_marked(block: &[u8], size: usize, mark: u32) -> bool
 // Sets both marks.
 pub fn mark_ends(block: &mut [u8], size: usize, mark: u32)
     requires { ⌜ (8 ≤ size) × (size ≤ length (now block)) ⌝ }
-    ensures { λ _. ⌜ now (block .exit) ≡ splice (splice (now (block .entry)) 0 (bytes4 mark)) (size - 4) (bytes4 mark) ⌝ }
+    ensures { λ _. ⌜ now (block .exit) ≡ ends mark size (now (block .entry)) ⌝ }
 {
     rows::put4(block, 0, mark);
     rows::put4(block, size - 4, mark);

@@ -2,7 +2,7 @@
 use mathlib.Core.Path.{subst}
 use native.Mathlib.Omega.{arith}
 use denote.Ref.{now}
-use Rattle.configuration.specs.Block.{configured}
+use Rattle.ledger.specs.Config.{configIn}
 use Rattle.ledger.specs.Refusals.{wrongEntry}
 use Rattle.command.specs.declared.codes.Follows.{Follows}
 use Rattle.command.specs.Codes.{viewFollows}
@@ -30,7 +30,7 @@ unfolding wrongEntry
 returns c = λ e n. rw (c .enum-told .given .1)
 
 returns-2 : tie.Need-returns-2
-returns-2 c = let s = c .before .before .before .before .before .before in let t = c .before .before .before .enum-told2 .given .1 in let q = subst (λ (k : Follows). EntryIn (s .args .shape) (viewFollows k) (s .args .q)) t (s .pre .1) in λ e n. rw t (entry-told (configured (now (s .args .config))) (s .args .shape) (s .args .q) _ _ _ e (c .before .before .wide .ensures) (q .0) (c .before .ring-of .ensures) n)
+returns-2 c = let s = c .before .before .before .before .before .before in let t = c .before .before .before .enum-told2 .given .1 in let q = subst (λ (k : Follows). EntryIn (s .args .shape) (viewFollows k) (s .args .q)) t (s .pre .1) in λ e n. rw t (entry-told (configIn (now (s .args .config))) (s .args .shape) (s .args .q) _ _ _ e (c .before .before .wide .ensures) (q .0) (c .before .ring-of .ensures) n)
 
 pub wrong-entry-spec : {M : Type 1} → statement M
 wrong-entry-spec =

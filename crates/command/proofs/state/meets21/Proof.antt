@@ -6,7 +6,7 @@ use Rattle.ledger.specs.Lists.{at}
 use Rattle.ledger.specs.Ledger.{semaphoreOf}
 use Rattle.ledger.specs.Refusals.{isWaiting, wouldWaitOn, meets21}
 use Rattle.queues.specs.Rings.{ringOf}
-use Rattle.configuration.specs.Block.{configured}
+use Rattle.ledger.specs.Config.{configIn}
 use Rattle.command.specs.Configured.{bytes, of}
 use Rattle.command.specs.declared.codes.Waits.{Waits}
 use Rattle.command.specs.Codes.{viewWaits}
@@ -60,19 +60,19 @@ returns c = λ L z w h. rw (c .enum-told .given .1)
 
 returns-2 : tie.Need-returns-2
 unfolding meets21 wouldWaitOn
-returns-2 c = let s = c .before .before .before .before .before in λ L z w h. rw (c .before .enum-told2 .given .1) (c .is-waiting .ensures (configured (now (s .args .config))) L z w h)
+returns-2 c = let s = c .before .before .before .before .before in λ L z w h. rw (c .before .enum-told2 .given .1) (c .is-waiting .ensures (configIn (now (s .args .config))) L z w h)
 
 returns-3 : tie.Need-returns-3
 unfolding meets21 wouldWaitOn
-returns-3 c = let s = c .before .before .before .before .before in λ L z w h. rw (c .before .enum-told3 .given .1) (c .is-waiting2 .ensures (configured (now (s .args .config))) L z w h)
+returns-3 c = let s = c .before .before .before .before .before in λ L z w h. rw (c .before .enum-told3 .given .1) (c .is-waiting2 .ensures (configIn (now (s .args .config))) L z w h)
 
 returns-4 : tie.Need-returns-4
 unfolding meets21 wouldWaitOn
-returns-4 c = let s = c .before .before .before .before .before .before .before in let g = configured (now (s .args .config)) in λ L z w h. rw (c .before .before .before .enum-told4 .given .1) (c .take-waits .ensures g L z w (c .before .ring-of .ensures ∙ ap (ringOf g (s .args .shape)) (c .before .before .wide .ensures)) h)
+returns-4 c = let s = c .before .before .before .before .before .before .before in let g = configIn (now (s .args .config)) in λ L z w h. rw (c .before .before .before .enum-told4 .given .1) (c .take-waits .ensures g L z w (c .before .ring-of .ensures ∙ ap (ringOf g (s .args .shape)) (c .before .before .wide .ensures)) h)
 
 returns-5 : tie.Need-returns-5
 unfolding meets21 wouldWaitOn
-returns-5 c = let s = c .before .before .before .before .before .before .before in let g = configured (now (s .args .config)) in λ L z w h. rw (c .before .before .before .enum-told5 .given .1) (c .put-waits .ensures g L z w (c .before .ring-of2 .ensures ∙ ap (ringOf g (s .args .shape)) (c .before .before .wide2 .ensures)) h)
+returns-5 c = let s = c .before .before .before .before .before .before .before in let g = configIn (now (s .args .config)) in λ L z w h. rw (c .before .before .before .enum-told5 .given .1) (c .put-waits .ensures g L z w (c .before .ring-of2 .ensures ∙ ap (ringOf g (s .args .shape)) (c .before .before .wide2 .ensures)) h)
 
 pub meets21-spec : {M : Type 1} → statement M
 meets21-spec =

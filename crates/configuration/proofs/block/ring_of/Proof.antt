@@ -13,7 +13,7 @@ add-at : tie.Need-add-at
 add-at c =
     let s = c .before .before in
     let a = s .args in
-    omega (arith, ring-inside (now (a .config)) (a .shape) (s .pre .0) (s .pre .1) (a .q) (s .pre .2) (s .pre .3))
+    omega (arith, ring-inside (now (a .frame)) (a .shape) (s .pre .0) (s .pre .1) (a .q) (s .pre .2) (s .pre .3))
 
 mul-here : tie.Need-mul-here
 mul-here c = search needs
@@ -22,7 +22,7 @@ add-here : tie.Need-add-here
 add-here c =
     let s = c .before .before in
     let a = s .args in
-    omega (arith, ring-inside (now (a .config)) (a .shape) (s .pre .0) (s .pre .1) (a .q) (s .pre .2) (s .pre .3))
+    omega (arith, ring-inside (now (a .frame)) (a .shape) (s .pre .0) (s .pre .1) (a .q) (s .pre .2) (s .pre .3))
 
 sub-taken : tie.Need-sub-taken
 sub-taken c = search needs
@@ -34,7 +34,7 @@ part-taken-end : tie.Need-part-taken-end
 part-taken-end c =
     let s = c .before .before in
     let a = s .args in
-    omega (arith, ring-inside (now (a .config)) (a .shape) (s .pre .0) (s .pre .1) (a .q) (s .pre .2) (s .pre .3))
+    omega (arith, ring-inside (now (a .frame)) (a .shape) (s .pre .0) (s .pre .1) (a .q) (s .pre .2) (s .pre .3))
 
 taken-requires : tie.Need-taken-requires
 taken-requires c κs = search needs
@@ -46,13 +46,13 @@ add-base : tie.Need-add-base
 add-base c =
     let s = c .before .before .before .before .before in
     let a = s .args in
-    omega (arith, c .before .taken .ensures, ring-base (now (a .config)) (a .shape) (s .pre .0) (s .pre .1) (a .q) (s .pre .2) (s .pre .3))
+    omega (arith, c .before .taken .ensures, ring-base (now (a .frame)) (a .shape) (s .pre .0) (s .pre .1) (a .q) (s .pre .2) (s .pre .3))
 
 shared-slice-read-wide : tie.Need-shared-slice-read-wide
 shared-slice-read-wide c =
     let s = c .before .before .before .before .before .before in
     let a = s .args in
-    omega (arith, ring-inside (now (a .config)) (a .shape) (s .pre .0) (s .pre .1) (a .q) (s .pre .2) (s .pre .3))
+    omega (arith, ring-inside (now (a .frame)) (a .shape) (s .pre .0) (s .pre .1) (a .q) (s .pre .2) (s .pre .3))
 
 wide-requires : tie.Need-wide-requires
 wide-requires c κs = search needs
@@ -64,7 +64,7 @@ shared-slice-read-wide-2 : tie.Need-shared-slice-read-wide-2
 shared-slice-read-wide-2 c =
     let s = c .before .before .before .before .before .before .before .before in
     let a = s .args in
-    omega (arith, ring-inside (now (a .config)) (a .shape) (s .pre .0) (s .pre .1) (a .q) (s .pre .2) (s .pre .3))
+    omega (arith, ring-inside (now (a .frame)) (a .shape) (s .pre .0) (s .pre .1) (a .q) (s .pre .2) (s .pre .3))
 
 wide-requires-2 : tie.Need-wide-requires-2
 wide-requires-2 c κs = search needs
@@ -73,7 +73,7 @@ returns : tie.Need-returns
 returns c =
     let s = c .before .before .before .before .before .before .before .before .before in
     let a = s .args in
-    ring-is (now (a .config)) (a .shape) (s .pre .0) (s .pre .1) (a .q) (s .pre .2) (s .pre .3) _ _ _ (c .before .before .wide .ensures) (c .wide2 .ensures) (c .before .before .before .before .before .taken .ensures)
+    ring-is (now (a .frame)) (a .shape) (s .pre .0) (s .pre .1) (a .q) (s .pre .2) (s .pre .3) _ _ _ (c .before .before .wide .ensures) (c .wide2 .ensures) (c .before .before .before .before .before .taken .ensures)
 
 pub ring-of-spec : {M : Type 1} → statement M
 ring-of-spec =

@@ -1,7 +1,7 @@
 -- `step` asks for the number; refused, it answers for the task that runs; accepted, it acts, and answers for the task that then runs.
 use native.Mathlib.Omega.{arith}
 use denote.Ref.{now}
-use Rattle.configuration.specs.Block.{configured}
+use Rattle.ledger.specs.Config.{configIn}
 use Rattle.tables.specs.Layout.{still-fits, few}
 use Rattle.command.specs.Configured.{of}
 use Rattle.executive.specs.Lent.{configuration, tables, slots, timers}
@@ -32,7 +32,7 @@ same-length-4 : tie.Need-same-length-4
 same-length-4 c = search needs
 
 returns : tie.Need-returns
-returns c = let a = c .before .before .before .before .before .before .before .before .before .before .before .before .before .before .before .before .before .before .args in let g = configured (now (a .config)) in step-refused g (a .shape) (now (a .frame)) (now (a .tables)) (now (a .slots)) (now (a .timers)) (now (a .answer)) _ _ (c .before .before .before .before .before .before .before .before .before .before .running .ensures .1) (c .before .before .before .before .before .before .before .refusal .ensures) _ (c .before .before .before .before .before .before .if1 .taken) (λ L h r. c .before .before .write .ensures g L _ h r)
+returns c = let a = c .before .before .before .before .before .before .before .before .before .before .before .before .before .before .before .before .before .before .args in let g = configIn (now (a .config)) in step-refused g (a .shape) (now (a .frame)) (now (a .tables)) (now (a .slots)) (now (a .timers)) (now (a .answer)) _ _ (c .before .before .before .before .before .before .before .before .before .before .running .ensures .1) (c .before .before .before .before .before .before .before .refusal .ensures) _ (c .before .before .before .before .before .before .if1 .taken) (λ L h r. c .before .before .write .ensures g L _ h r)
 
 act-requires : tie.Need-act-requires
 act-requires c κs =
@@ -46,7 +46,7 @@ act-requires c κs =
       record {
         low = me .ensures .0;
         input = r .ensures .good z;
-        room = room-found (configured (now (a .config))) (a .shape) (now (a .frame)) (now (a .tables)) (now (a .slots)) (now (a .timers)) (now (a .answer)) _ _ (me .ensures .1) (r .ensures) z (of (configuration l)) (tables l) (slots l) (timers l) (s .pre .2);
+        room = room-found (configIn (now (a .config))) (a .shape) (now (a .frame)) (now (a .tables)) (now (a .slots)) (now (a .timers)) (now (a .answer)) _ _ (me .ensures .1) (r .ensures) z (of (configuration l)) (tables l) (slots l) (timers l) (s .pre .2);
       },
     )
 
@@ -69,7 +69,7 @@ same-length-8 : tie.Need-same-length-8
 same-length-8 c = search needs
 
 returns-2 : tie.Need-returns-2
-returns-2 c = let a = c .before .before .before .before .before .before .before .before .before .before .before .before .before .before .before .before .before .before .before .before .before .before .before .before .before .before .before .before .before .args in let g = configured (now (a .config)) in step-accepted g (a .shape) (now (a .frame)) (now (a .tables)) (now (a .slots)) (now (a .timers)) (now (a .answer)) _ _ (c .before .before .before .before .before .before .before .before .before .before .before .before .before .before .before .before .before .before .before .before .before .running .ensures .1) (c .before .before .before .before .before .before .before .before .before .before .before .before .before .before .before .before .before .before .refusal .ensures) _ _ _ _ _ (c .before .before .before .before .before .before .before .before .before .before .before .before .before .before .before .before .before .if1 .left) (c .before .before .before .before .before .before .before .before .before .before .before .before .before .act .ensures) (λ M h r. c .before .before .write2 .ensures g M _ h r)
+returns-2 c = let a = c .before .before .before .before .before .before .before .before .before .before .before .before .before .before .before .before .before .before .before .before .before .before .before .before .before .before .before .before .before .args in let g = configIn (now (a .config)) in step-accepted g (a .shape) (now (a .frame)) (now (a .tables)) (now (a .slots)) (now (a .timers)) (now (a .answer)) _ _ (c .before .before .before .before .before .before .before .before .before .before .before .before .before .before .before .before .before .before .before .before .before .running .ensures .1) (c .before .before .before .before .before .before .before .before .before .before .before .before .before .before .before .before .before .before .refusal .ensures) _ _ _ _ _ (c .before .before .before .before .before .before .before .before .before .before .before .before .before .before .before .before .before .if1 .left) (c .before .before .before .before .before .before .before .before .before .before .before .before .before .act .ensures) (λ M h r. c .before .before .write2 .ensures g M _ h r)
 
 pub step-spec : {M : Type 1} → statement M
 step-spec =

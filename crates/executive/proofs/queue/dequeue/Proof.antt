@@ -1,6 +1,6 @@
 -- `dequeue`: the ring is the queue's.
 use denote.Ref.{now}
-use Rattle.configuration.specs.Block.{configured}
+use Rattle.ledger.specs.Config.{configIn}
 use borrow.Author.Needs.{needs}
 use Rattle.executive.proofs.queue.dequeue.Statement.{statement}
 use Rattle.executive.proofs.queue.dequeue.Tie as tie
@@ -18,7 +18,7 @@ same-length-2 : tie.Need-same-length-2
 same-length-2 c = search needs
 
 returns : tie.Need-returns
-returns c = let a = c .before .before .before .before .before .before .before .before .before .before .before .args in λ L w h. c .before .before .before .before .dequeue .ensures (configured (now (a .config))) L w (c .before .before .before .before .before .before .before .ring .ensures .0) h
+returns c = let a = c .before .before .before .before .before .before .before .before .before .before .before .args in λ L w h. c .before .before .before .before .dequeue .ensures (configIn (now (a .config))) L w (c .before .before .before .before .before .before .before .ring .ensures .0) h
 
 pub dequeue-spec : {M : Type 1} → statement M
 dequeue-spec =

@@ -5,7 +5,7 @@ use Prim.Native.Nat.{ℕ}
 use native.Mathlib.Omega.{arith}
 use denote.Ref.{now}
 use lib.ListN.{drop}
-use Rattle.configuration.specs.Block.{configured}
+use Rattle.ledger.specs.Config.{configIn}
 use Rattle.ledger.specs.Services.{effect}
 use Rattle.ledger.specs.Lists.{at}
 use Rattle.ledger.specs.Refusals.{fields, codeAt}
@@ -21,7 +21,7 @@ dequeue-requires c κs = let s = c .before .before .before .before .before .befo
 
 enqueue-requires : tie.Need-enqueue-requires
 unfolding fields codeAt at
-enqueue-requires c κs = let s = c .before .before .before .before .before .before in let r = c .before .match .rest in let n1 : s .args .code ≡ 7 → ⊥ = r .1 in let e : s .args .code ≡ 8 = omega (arith, s .pre .3, s .pre .4, n1) in (s .pre .0, s .pre .1, subst (λ (n : ℕ). Asks (s .args .shape) n (s .args .me)) e (s .pre .5) refl, subst (λ (n : ℕ). MeansA (s .args .shape) n (s .args .q)) e (s .pre .6), subst (λ (n : ℕ). MeansEntry (configured (now (s .args .config))) n (s .args .q) (drop 5 (now (s .args .frame)))) e (s .pre .7))
+enqueue-requires c κs = let s = c .before .before .before .before .before .before in let r = c .before .match .rest in let n1 : s .args .code ≡ 7 → ⊥ = r .1 in let e : s .args .code ≡ 8 = omega (arith, s .pre .3, s .pre .4, n1) in (s .pre .0, s .pre .1, subst (λ (n : ℕ). Asks (s .args .shape) n (s .args .me)) e (s .pre .5) refl, subst (λ (n : ℕ). MeansA (s .args .shape) n (s .args .q)) e (s .pre .6), subst (λ (n : ℕ). MeansEntry (configIn (now (s .args .config))) n (s .args .q) (drop 5 (now (s .args .frame)))) e (s .pre .7))
 
 same-length : tie.Need-same-length
 same-length c = search needs
@@ -31,14 +31,14 @@ same-length-2 c = search needs
 
 returns : tie.Need-returns
 unfolding effect fields codeAt at
-returns c = let s = c .before .before .before .before .before .before .before .before .before .before .before .before in let g = configured (now (s .args .config)) in let f = now (s .args .frame) in λ b x L w h. by-code g (s .args .shape) (s .args .me) (s .args .q) b x (drop 5 f) L (s .args .code) 7 (c .before .before .before .before .before .before .before .match .keys1) (c .before .before .before .before .dequeue .ensures L w h)
+returns c = let s = c .before .before .before .before .before .before .before .before .before .before .before .before in let g = configIn (now (s .args .config)) in let f = now (s .args .frame) in λ b x L w h. by-code g (s .args .shape) (s .args .me) (s .args .q) b x (drop 5 f) L (s .args .code) 7 (c .before .before .before .before .before .before .before .match .keys1) (c .before .before .before .before .dequeue .ensures L w h)
 
 same-length-3 : tie.Need-same-length-3
 same-length-3 c = search needs
 
 returns-2 : tie.Need-returns-2
 unfolding effect fields codeAt at
-returns-2 c = let s = c .before .before .before .before .before .before .before .before .before in let g = configured (now (s .args .config)) in let f = now (s .args .frame) in let r = c .before .before .before .before .match .rest in let n1 : s .args .code ≡ 7 → ⊥ = r .1 in let e : s .args .code ≡ 8 = omega (arith, s .pre .3, s .pre .4, n1) in λ b x L w h. by-code g (s .args .shape) (s .args .me) (s .args .q) b x (drop 5 f) L (s .args .code) 8 e (c .before .before .enqueue .ensures L _ w h)
+returns-2 c = let s = c .before .before .before .before .before .before .before .before .before in let g = configIn (now (s .args .config)) in let f = now (s .args .frame) in let r = c .before .before .before .before .match .rest in let n1 : s .args .code ≡ 7 → ⊥ = r .1 in let e : s .args .code ≡ 8 = omega (arith, s .pre .3, s .pre .4, n1) in λ b x L w h. by-code g (s .args .shape) (s .args .me) (s .args .q) b x (drop 5 f) L (s .args .code) 8 e (c .before .before .enqueue .ensures L _ w h)
 
 pub serve-spec : {M : Type 1} → statement M
 serve-spec =

@@ -3,7 +3,7 @@ use native.Mathlib.Omega.{arith}
 use denote.Ref.{now}
 use Rattle.tables.specs.Layout.{still-fits}
 use Rattle.tables.specs.Decode.{viewOutcome, viewRequest}
-use Rattle.configuration.specs.Block.{configured}
+use Rattle.ledger.specs.Config.{configIn}
 use Rattle.ledger.specs.Ledger.{setRequest, none}
 use Rattle.ledger.specs.Session.{refused21}
 use Rattle.tables.specs.Shows.{moved}
@@ -32,7 +32,7 @@ unfolding viewOutcome viewRequest refused21
 returns c =
     let a = c .before .before .before .before .before .before .before .before .before .before .before .before .before .before .before .args in
     λ L w h.
-    let g = configured (now (a .config)) in
+    let g = configIn (now (a .config)) in
     let M = setRequest (a .t) none L in
     let k = c .before .before .before .before .before .before .before .before .before .store-request .ensures g L (now (a .slots)) w h in
     moved (again-yes g (a .t) _ M _ (c .before .before .before .before .before .take-waits .ensures g M (now (a .slots)) w (c .before .before .before .before .before .before .before .before .before .before .before .ring .ensures .0) k) (c .before .before .before .before .if1 .taken)) (c .before .before .store-outcome .ensures .0 g M (now (a .slots)) w k)
@@ -51,7 +51,7 @@ unfolding viewRequest refused21
 returns-2 c =
     let a = c .before .before .before .before .before .before .before .before .before .before .before .before .before .before .before .before .before .before .args in
     λ L w h.
-    let g = configured (now (a .config)) in
+    let g = configIn (now (a .config)) in
     let M = setRequest (a .t) none L in
     let k = c .before .before .before .before .before .before .before .before .before .before .before .before .store-request .ensures g L (now (a .slots)) w h in
     moved (again-no g (a .t) _ M _ (c .before .before .before .before .before .before .before .before .take-waits .ensures g M (now (a .slots)) w (c .before .before .before .before .before .before .before .before .before .before .before .before .before .before .ring .ensures .0) k) (c .before .before .before .before .before .before .before .if1 .left)) (c .before .before .before .before .dequeue .ensures g M w (c .before .before .before .before .before .before .before .before .before .before .before .before .before .before .ring .ensures .0) k)

@@ -8,7 +8,7 @@ use denote.Ref.{now}
 use Rattle.tables.specs.Layout.{still-fits}
 use Rattle.tables.specs.Decode.{viewOutcome, viewRequest}
 use Rattle.queues.specs.Rings.{width-is}
-use Rattle.configuration.specs.Block.{configured}
+use Rattle.ledger.specs.Config.{configIn}
 use Rattle.ledger.specs.Ledger as ledger
 use Rattle.ledger.specs.Ledger.{setRequest, none}
 use Rattle.ledger.specs.Session.{refused21}
@@ -45,7 +45,7 @@ unfolding viewOutcome viewRequest refused21
 returns c =
     let a = c .before .before .before .before .before .before .before .before .before .before .before .before .before .before .before .before .before .before .args in
     λ L z w h.
-    let g = configured (now (a .config)) in
+    let g = configIn (now (a .config)) in
     let M = setRequest (a .t) none L in
     let k = c .before .before .before .before .before .before .before .before .before .store-request .ensures g L z w h in
     moved (again-yes g (a .t) _ M _ (c .before .before .before .before .before .put-waits .ensures g M z w (c .before .before .before .before .before .before .before .before .before .before .before .before .before .before .before .ring .ensures .0) k) (c .before .before .before .before .if1 .taken)) (c .before .before .store-outcome .ensures .0 g M z w k)
@@ -72,7 +72,7 @@ returns-2 c =
     let a = s .args in
     let r = c .before .before .before .before .before .before .before .before .before .before .before .before .before .before .before .before .before .ring in
     λ L z w h.
-    let g = configured (now (a .config)) in
+    let g = configIn (now (a .config)) in
     let M = setRequest (a .t) none L in
     let k = c .before .before .before .before .before .before .before .before .before .before .before .store-request .ensures g L z w h in
     let x = entry-is _ _ _ _ (c .before .before .before .before .before .before .before .before .before .before .before .before .before .before .load-waiting .ensures) (ap (λ y. y .width) (r .ensures .0) ∙ width-is g (a .shape) (a .q) (s .pre .3 .0)) in

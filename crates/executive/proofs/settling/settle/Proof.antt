@@ -2,7 +2,7 @@
 use native.Mathlib.Omega.{arith}
 use borrow.Author.Tests.{not-true, not-false}
 use denote.Ref.{now}
-use Rattle.configuration.specs.Block.{configured}
+use Rattle.ledger.specs.Config.{configIn}
 use Rattle.executive.specs.Kept.{runs-so, kept-start, kept-stop}
 use borrow.Author.Needs.{needs}
 use Rattle.executive.proofs.settling.settle.Statement.{statement}
@@ -21,7 +21,7 @@ returns : tie.Need-returns
 returns c =
     let a = c .before .before .before .before .before .before .before .before .args in
     let r = c .before .before .before .running in
-    let g = configured (now (a .config)) in
+    let g = configIn (now (a .config)) in
     kept-stop g (a .shape) (now (a .tables)) (now (a .slots)) (now (a .tables)) (now (a .slots)) 0 (kept-start g (a .shape) (now (a .tables)) (now (a .slots))) _
     (runs-so (a .shape) (now (a .tables)) _ _ _ (r .ensures .1) (c .before .is-open .ensures .1) (not-true _ (c .if1 .taken))) (r .ensures .0) (omega arith)
 

@@ -7,14 +7,14 @@ use mathlib.Core.Path.{_≡_, refl}
 use denote.Ref.{now}
 use lib.ListN.{length}
 use Rattle.tables.specs.Layout.{OneOf, still-fits, few}
-use Rattle.configuration.specs.Block.{configured}
+use Rattle.ledger.specs.Config.{configIn}
 use Rattle.executive.specs.Kept.{Runs, Kept, runs-so, kept-start, kept-next, kept-stop, kept-out}
 use Rattle.executive.proofs.settling.settle_open.Statement.{statement}
 use Rattle.executive.proofs.settling.settle_open.Tie as tie
 
 abbrev Inv-loop : tie.InvT-loop
 Inv-loop tables₀ slots₀ config shape first limit n₀ running₀ tables slots n running =
-    (n ≤ limit) × (length tables ≡ length tables₀) × (length slots ≡ length slots₀) × OneOf (shape .tasks) running × Runs shape tables running true × Kept (configured config) shape tables₀ slots₀ tables slots n
+    (n ≤ limit) × (length tables ≡ length tables₀) × (length slots ≡ length slots₀) × OneOf (shape .tasks) running × Runs shape tables running true × Kept (configIn config) shape tables₀ slots₀ tables slots n
 
 abbrev μ-loop : tie.MeasureT-loop
 μ-loop tables₀ slots₀ config shape first limit n₀ running₀ tables slots n running = limit - n
@@ -26,7 +26,7 @@ loop-holds : tie.Need-loop-holds Inv-loop μ-loop
 loop-holds c =
     let s = c .before .before .before .before in
     let a = s .args in
-    (omega arith, refl, refl, s .pre .3, s .pre .4, kept-start (configured (now (a .config))) (a .shape) (now (a .tables)) (now (a .slots)))
+    (omega arith, refl, refl, s .pre .3, s .pre .4, kept-start (configIn (now (a .config))) (a .shape) (now (a .tables)) (now (a .slots)))
 
 reissue-requires : tie.Need-reissue-requires Inv-loop μ-loop
 reissue-requires c κs =
@@ -53,9 +53,9 @@ returns : tie.Need-returns Inv-loop μ-loop
 returns c =
     let a = c .before .before .before .before .before .before .before .before .before .before .before .before .before .before .before .before .before .before .args in
     let l = c .before .before .before .before .before .before .before .before .before .before .before .before .before .loop in
-    let k = kept-next (configured (now (a .config))) (a .shape) (now (a .tables)) (now (a .slots)) (l .tables) (l .slots) (l .n) (l .inv .5) (l .running) (l .inv .4) _ _ (c .before .before .before .before .before .before .before .before .before .reissue .ensures) in
+    let k = kept-next (configIn (now (a .config))) (a .shape) (now (a .tables)) (now (a .slots)) (l .tables) (l .slots) (l .n) (l .inv .5) (l .running) (l .inv .4) _ _ (c .before .before .before .before .before .before .before .before .before .reissue .ensures) in
     let r = c .before .before .before .running in
-    kept-stop (configured (now (a .config))) (a .shape) (now (a .tables)) (now (a .slots)) _ _ _ k _
+    kept-stop (configIn (now (a .config))) (a .shape) (now (a .tables)) (now (a .slots)) _ _ _ k _
     (runs-so (a .shape) _ _ _ _ (r .ensures .1) (c .before .is-open .ensures .1) (not-true _ (c .if1 .taken))) (r .ensures .0) (omega arith)
 
 loop-less : tie.Need-loop-less Inv-loop μ-loop
@@ -72,7 +72,7 @@ loop-again c =
       omega (arith, l .inv .2, c .before .before .before .before .before .before .before .before .before .reissue .kept),
       (o .ensures .0 (not-false _ (c .if1 .left)), r .ensures .0),
       runs-so (a .shape) _ _ _ _ (r .ensures .1) (o .ensures .1) (not-false _ (c .if1 .left)),
-      kept-next (configured (now (a .config))) (a .shape) (now (a .tables)) (now (a .slots)) (l .tables) (l .slots) (l .n) (l .inv .5) (l .running) (l .inv .4) _ _ (c .before .before .before .before .before .before .before .before .before .reissue .ensures),
+      kept-next (configIn (now (a .config))) (a .shape) (now (a .tables)) (now (a .slots)) (l .tables) (l .slots) (l .n) (l .inv .5) (l .running) (l .inv .4) _ _ (c .before .before .before .before .before .before .before .before .before .reissue .ensures),
     )
 
 same-length-3 : tie.Need-same-length-3 Inv-loop μ-loop
@@ -85,7 +85,7 @@ returns-2 : tie.Need-returns-2 Inv-loop μ-loop
 returns-2 c =
     let a = c .before .before .before .before .before .before .args in
     let l = c .before .loop in
-    kept-out (configured (now (a .config))) (a .shape) (now (a .tables)) (now (a .slots)) (l .tables) (l .slots) (l .n) (l .inv .5) (l .running) (l .inv .4) (l .inv .3 .1) (omega arith) (omega arith)
+    kept-out (configIn (now (a .config))) (a .shape) (now (a .tables)) (now (a .slots)) (l .tables) (l .slots) (l .n) (l .inv .5) (l .running) (l .inv .4) (l .inv .3 .1) (omega arith) (omega arith)
 
 pub settle-open-spec : {M : Type 1} → statement M
 settle-open-spec =
