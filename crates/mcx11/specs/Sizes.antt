@@ -21,6 +21,19 @@ sizesIn n = record { config = n .config; tables = n .tables; slots = n .slots; t
 pub data Sized (n : Sizes) (g d z w : ℕ) : Type 0 where
   sized : (8 ≤ n .config) × (n .config ≤ g) → (8 ≤ n .tables) × (n .tables ≤ d) → (8 ≤ n .slots) × (n .slots ≤ z) → (8 ≤ n .timers) × (n .timers ≤ w) → Sized n g d z w
 
+module _ {n : Sizes} {g d z w : ℕ} where
+  pub config-sized : Sized n g d z w → (8 ≤ n .config) × (n .config ≤ g)
+  config-sized (sized a b c e) = a
+
+  pub tables-sized : Sized n g d z w → (8 ≤ n .tables) × (n .tables ≤ d)
+  tables-sized (sized a b c e) = b
+
+  pub slots-sized : Sized n g d z w → (8 ≤ n .slots) × (n .slots ≤ z)
+  slots-sized (sized a b c e) = c
+
+  pub timers-sized : Sized n g d z w → (8 ≤ n .timers) × (n .timers ≤ w)
+  timers-sized (sized a b c e) = e
+
 pub record Full (m : Memory) : Type 0 where
   pub config : 208 ≤ length (m .config)
   pub tables : 7517 ≤ length (m .tables)

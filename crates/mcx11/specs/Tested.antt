@@ -4,7 +4,7 @@ use mathlib.Core.Path.{_≡_, refl, sym, ap, _∙_, subst}
 use mathlib.Core.Bool.{Bool, true, false, cond, _&&_}
 use mathlib.Core.List.{List}
 use native.Mathlib.Omega.{arith}
-use lib.Dec.{leb}
+use lib.Dec.{eqb, leb}
 use borrow.Author.Tests.{leb-true, eqb-true}
 use lib.ListN.{length, length-take, length-drop}
 use Rattle.ledger.specs.Lists.{byte, word}
@@ -20,6 +20,7 @@ use Rattle.configuration.specs.Limits.{longest, Made}
 use Rattle.configuration.specs.Block.{rule, frameRule}
 use Rattle.configuration.specs.Layout.{shapeOf, of-one, Lends, rule-head, rule-room}
 use Rattle.configuration.specs.Started.{timersBytes}
+use Rattle.rows.specs.Splice.{cut}
 use Rattle.parts.specs.Parts.{partAt, frameAt, markedBy, part, frameOf}
 use Rattle.mcx11.specs.Contract.{Memory, memory, Sizes, sizesOf, hasSizes, configMark, tablesMark, slotsMark, timersMark, isMarked, configOf, tablesIn, messagesSound, lentWellFor, lentWell}
 use Rattle.mcx11.specs.Sizes.{Sized, sized}
@@ -44,15 +45,20 @@ lends-good k f h e = subst (Lends k f) e h
 module _ (k : Limits) (made : Made k) (f : List ℕ) (keeps : frameRule k f ≡ true) where
   pub frame-rule : rule k (configIn f) ≡ true
   unfolding frameRule
-  frame-rule = and-right _ (rule k (configIn f)) keeps
+  frame-rule = and-right (eqb (length f) (8 + byte 0 f + 2 * byte 2 f)) (rule k (configIn f)) keeps
 
   pub frame-whole : length f ≡ 8 + byte 0 f + 2 * byte 2 f
   unfolding frameRule
-  frame-whole = eqb-true (length f) _ (and-left _ (rule k (configIn f)) keeps)
+  frame-whole = eqb-true (length f) (8 + byte 0 f + 2 * byte 2 f) (and-left _ (rule k (configIn f)) keeps)
 
   pub frame-short : length f ≤ longest k
   unfolding configIn
   frame-short = let h = rule-head k made (configIn f) frame-rule in omega (arith, frame-whole, h .few, h .queues)
+
+-- by the length that was read
+pub frame-is : (g : List ℕ) (n : ℕ) → n ≡ word partAt g → cut g frameAt (frameAt + n) ≡ frameOf g
+unfolding frameOf
+frame-is g n e = ap (λ (x : ℕ). cut g frameAt (frameAt + x)) e
 
 -- a length above the longest is no frame's
 module _ (k : Limits) (made : Made k) (g : List ℕ) (room : frameAt + longest k + 4 ≤ length g) (n : ℕ) (e : n ≡ word partAt g) where

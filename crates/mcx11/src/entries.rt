@@ -11,13 +11,15 @@ use parts::FRAME_AT;
 use parts::PART_AT;
 use tables::shape::Shape;
 ghost use mathlib.Core.Path.{_≡_};
+ghost use mathlib.Core.Bool.{true};
 ghost use Prim.Native.Nat.{_+_, _*_, _≤_};
 ghost use lib.ListN.{length};
+ghost use Rattle.ledger.specs.Config as limits;
 ghost use Rattle.ledger.specs.Config.{configIn, configRefusal};
 ghost use Rattle.tables.specs.Layout.{Fits};
 ghost use Rattle.tables.specs.Shows.{Of};
 ghost use Rattle.configuration.specs.Started.{timersBytes};
-ghost use Rattle.parts.specs.Parts.{partAt, frameAt, ends};
+ghost use Rattle.parts.specs.Parts.{partAt, ends};
 ghost use Rattle.mcx11.specs.Contract as contract;
 ghost use Rattle.mcx11.specs.Contract.{memory, Configures, Frames};
 ghost use Rattle.mcx11.specs.Sizes.{sizesIn, Sized};
@@ -73,13 +75,7 @@ pub extern "C" fn mcx11_frame_blocks(
 }
 
 // Sets the marks of all blocks.
-fn mark_blocks(
-    n: Sizes,
-    config: &mut [u8],
-    tables: &mut [u8],
-    slots: &mut [u8],
-    timers: &mut [u8],
-)
+fn mark_blocks(n: Sizes, config: &mut [u8], tables: &mut [u8], slots: &mut [u8], timers: &mut [u8])
     requires { ⌜ Sized (sizesIn n) (length (now config)) (length (now tables)) (length (now slots)) (length (now timers)) ⌝ }
     ensures { λ _. ⌜ (now (config .exit) ≡ ends contract.configMark (n .config) (now (config .entry))) × (now (tables .exit) ≡ ends contract.tablesMark (n .tables) (now (tables .entry)))
         × (now (slots .exit) ≡ ends contract.slotsMark (n .slots) (now (slots .entry))) × (now (timers .exit) ≡ ends contract.timersMark (n .timers) (now (timers .entry))) ⌝ }
@@ -137,7 +133,7 @@ fn begin(
     timers: &mut [u8],
     answer: &mut [u8],
 )
-    requires { ⌜ (configRefusal (now frame) ≡ 0) × (sizesIn n ≡ contract.sizesOf contract.controller)
+    requires { ⌜ (configRefusal (now frame) ≡ 0) × (sizesIn n ≡ contract.sizesOf limits.controller)
         × (contract.fullSize (memory (now config) (now tables) (now slots) (now timers) (now answer)) ≡ true) ⌝ }
     ensures { λ _. ⌜ Begun (now (frame .entry)) (memory (now (config .entry)) (now (tables .entry)) (now (slots .entry)) (now (timers .entry)) (now (answer .entry)))
         (memory (now (config .exit)) (now (tables .exit)) (now (slots .exit)) (now (timers .exit)) (now (answer .exit))) ⌝ }

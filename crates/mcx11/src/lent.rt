@@ -32,8 +32,11 @@ pub struct Sizes {
 
 // Four bytes at both ends of each block: MCXC, MCXT, MCXS and MCXR.
 pub const CONFIG_MARK: u32 = 0x4358434D;
+
 pub const TABLES_MARK: u32 = 0x5458434D;
+
 pub const SLOTS_MARK: u32 = 0x5358434D;
+
 pub const TIMERS_MARK: u32 = 0x5258434D;
 
 fn wide(x: u8) -> usize

@@ -1,8 +1,11 @@
--- The shape is that of the memory that the start leaves, which shows the fresh ledger; the answer is for the task that runs there.
+-- The blocks are marked, the frame is kept, the parts show the fresh ledger; the answer is for the task that runs there.
 use native.Mathlib.Omega.{arith}
 use denote.Ref.{now}
+use mathlib.Core.Path.{_∙_}
 use Rattle.tables.specs.Layout.{fitting}
-use Rattle.mcx11.specs.Entries.{begun-fits, begun-room, begun}
+use Rattle.mcx11.specs.Contract.{memory}
+use Rattle.mcx11.specs.Sizes.{full-sizes}
+use Rattle.mcx11.specs.Entries.{begin-fits, begin-sized, begun-by}
 use borrow.Author.Needs.{needs}
 use Rattle.mcx11.proofs.entries.begin.Statement.{statement}
 use Rattle.mcx11.proofs.entries.begin.Tie as tie
@@ -10,25 +13,36 @@ use Rattle.mcx11.proofs.entries.begin.Tie as tie
 shape-of-requires : tie.Need-shape-of-requires
 shape-of-requires c κs = search needs
 
-start-requires : tie.Need-start-requires
-start-requires c κs =
-    let p = c .before .before .before .before .before .before .before .before .before .before .before .pre in
-    let o = c .before .before .before .before .shape-of .ensures in
-    let r = begun-fits (now (c .before .before .before .before .before .before .before .before .before .before .before .args .frame)) (p .0) _ o in
-    (p .0, o, omega (arith, r .0, p .1), omega (arith, r .1, p .2), omega (arith, r .2, p .3), omega (arith, r .3, p .4))
+mark-blocks-requires : tie.Need-mark-blocks-requires
+mark-blocks-requires c κs =
+    let s = c .before .before .before .before .before .before .before .before .before .before .before in
+    begin-sized _ (s .pre .1) (now (s .args .config)) (now (s .args .tables)) (now (s .args .slots)) (now (s .args .timers)) (now (s .args .answer)) (s .pre .2)
 
-running-requires : tie.Need-running-requires
-running-requires c κs =
-    let o = c .before .before .before .before .before .before .before .before .before .before .before .before .before .before .shape-of .ensures in
-    fitting (o .laid) (omega (arith, begun-room o .0, c .before .before .before .before .before .before .before .before .before .before .before .before .before .before .before .before .before .before .before .before .before .pre .2, c .before .before .before .before .before .before .before .before .before .start .kept .1 .1 .0))
+keep-frame-requires : tie.Need-keep-frame-requires
+keep-frame-requires c κs =
+    let s = c .before .before .before .before .before .before .before .before .before .before .before .before .before .before .before .before .before .before .before .before .before in
+    let b = begin-fits (now (s .args .frame)) (s .pre .0) _ (c .before .before .before .before .before .before .before .before .before .before .before .before .before .before .shape-of .ensures) in
+    let n = full-sizes (memory (now (s .args .config)) (now (s .args .tables)) (now (s .args .slots)) (now (s .args .timers)) (now (s .args .answer))) (s .pre .2) in
+    (omega (arith, b .0), omega (arith, b .0, n .config, c .before .before .before .before .before .before .before .before .before .mark-blocks .kept .1 .0))
 
-write-requires : tie.Need-write-requires
-write-requires c κs =
-    let p = c .before .before .before .before .before .before .before .before .before .before .before .before .before .before .before .before .before .before .before .before .before .before .before .before .before .pre in
-    let k = c .before .before .before .before .before .before .before .before .before .before .before .before .before .start .kept in
-    let o = c .before .before .before .before .before .before .before .before .before .before .before .before .before .before .before .before .before .before .shape-of .ensures in
-    let r = begun-room o in
-    (fitting (o .laid) (omega (arith, r .0, p .2, k .1 .1 .0)), omega (arith, r .1, p .3, k .1 .1 .1 .0), p .5, c .before .before .before .running .ensures .0)
+place-requires : tie.Need-place-requires
+place-requires c κs =
+    let s = c .before .before .before .before .before .before .before .before .before .before .before .before .before .before .before .before .before .before .before .before .before .before .before .before .before .before .before in
+    let o = c .before .before .before .before .before .before .before .before .before .before .before .before .before .before .before .before .before .before .before .before .shape-of .ensures in
+    let b = begin-fits (now (s .args .frame)) (s .pre .0) _ o in
+    let n = full-sizes (memory (now (s .args .config)) (now (s .args .tables)) (now (s .args .slots)) (now (s .args .timers)) (now (s .args .answer))) (s .pre .2) in
+    let k = c .before .before .before .before .before .before .before .before .before .before .before .before .before .before .before .mark-blocks .kept in
+    (s .pre .0, o, omega (arith, b .1, n .tables, k .1 .1 .0), omega (arith, b .2, n .slots, k .1 .1 .1 .0), omega (arith, b .3, n .timers, k .1 .1 .1 .1 .0))
+
+tell-requires : tie.Need-tell-requires
+tell-requires c κs =
+    let s = c .before .before .before .before .before .before .before .before .before .before .before .before .before .before .before .before .before .before .before .before .before .before .before .before .before .before .before .before .before .before .before .before .before .before .before .before .before in
+    let o = c .before .before .before .before .before .before .before .before .before .before .before .before .before .before .before .before .before .before .before .before .before .before .before .before .before .before .before .before .before .before .shape-of .ensures in
+    let b = begin-fits (now (s .args .frame)) (s .pre .0) _ o in
+    let n = full-sizes (memory (now (s .args .config)) (now (s .args .tables)) (now (s .args .slots)) (now (s .args .timers)) (now (s .args .answer))) (s .pre .2) in
+    let k = c .before .before .before .before .before .before .before .before .before .before .before .before .before .before .before .before .before .before .before .before .before .before .before .before .before .mark-blocks .kept in
+    let p = c .before .before .before .before .before .before .before .before .before .place .kept in
+    (fitting (o .laid) (omega arith), omega (arith, b .1, n .tables, k .1 .1 .0, p .1 .0), omega (arith, b .2, n .slots, k .1 .1 .1 .0, p .1 .1 .0), n .answer)
 
 same-length : tie.Need-same-length
 same-length c = search needs
@@ -47,16 +61,21 @@ same-length-5 c = search needs
 
 returns : tie.Need-returns
 returns c =
-    begun _ _ _ _ _ _ _ _ (c .before .before .before .before .before .before .before .before .before .before .before .before .before .before .before .before .start .ensures) (c .before .before .before .before .before .before .before .before .before .before .before .before .before .before .before .before .before .before .before .before .before .shape-of .ensures) (λ x L w h. c .before .before .write .ensures x L w h (c .before .before .before .before .before .before .running .ensures .1 x L _ w h))
+    let s = c .before .before .before .before .before .before .before .before .before .before .before .before .before .before .before .before .before .before .before .before .before .before .before .before .before .before .before .before .before .before .before .before .before .before .before .before .before .before .before .before in
+    let k = c .before .before .before .before .before .before .before .before .before .before .before .before .before .before .before .before .before .before .before .before .before .before .before .before .before .before .before .before .mark-blocks .kept in
+    let p = c .before .before .before .before .before .before .before .before .before .before .before .before .place .kept in
+    begun-by (now (s .args .frame)) (s .pre .0) _ (c .before .before .before .before .before .before .before .before .before .before .before .before .before .before .before .before .before .before .before .before .before .before .before .before .before .before .before .before .before .before .before .before .before .shape-of .ensures) _ (s .pre .1) (now (s .args .config)) (now (s .args .tables)) (now (s .args .slots)) (now (s .args .timers)) (now (s .args .answer)) _ _ _ _ _ _ _ _ _ (s .pre .2) (c .before .before .before .before .before .before .before .before .before .before .before .before .before .before .before .before .before .before .before .before .before .before .before .before .before .before .before .before .mark-blocks .ensures) (c .before .before .before .before .before .before .before .before .before .before .before .before .before .before .before .before .before .before .keep-frame .ensures) (c .before .before .before .before .before .before .before .before .before .before .before .before .place .ensures) (c .before .before .tell .ensures)
+    record { config = c .before .before .before .before .before .before .before .before .before .before .before .before .before .before .before .before .before .before .keep-frame .kept .1 .0 ∙ k .1 .0; tables = p .1 .0 ∙ k .1 .1 .0; slots = p .1 .1 .0 ∙ k .1 .1 .1 .0; timers = p .1 .1 .1 .0 ∙ k .1 .1 .1 .1 .0; answer = c .before .before .tell .kept .1 .1 .1 .1 .0 }
 
 pub begin-spec : {M : Type 1} → statement M
 begin-spec =
     tie.close
     (tie.spec
     shape-of-requires
-    start-requires
-    running-requires
-    write-requires
+    mark-blocks-requires
+    keep-frame-requires
+    place-requires
+    tell-requires
     same-length
     same-length-2
     same-length-3

@@ -1,8 +1,8 @@
--- The sizes, then the frame's number; 0 begins.
-use mathlib.Core.Path.{refl, sym, _∙_}
-use borrow.Author.Tests.{not-true, not-false}
+-- The sizes, then the configuration's number: each way out promises its case.
 use denote.Ref.{now}
-use Rattle.mcx11.specs.Contract.{memory}
+use mathlib.Core.Path.{refl, sym, ap, _∙_}
+use borrow.Author.Tests.{not-true, not-false}
+use Rattle.mcx11.specs.Contract.{memory, sizesOf}
 use Rattle.mcx11.specs.Sizes.{full-sizes, full-told}
 use Rattle.mcx11.specs.Entries.{configure-short, configure-refused, configure-accepted}
 use borrow.Author.Needs.{needs}
@@ -12,34 +12,38 @@ use Rattle.mcx11.proofs.entries.mcx11_configure_blocks.Tie as tie
 controller-requires : tie.Need-controller-requires
 controller-requires c κs = search needs
 
-full-size-requires : tie.Need-full-size-requires
-full-size-requires c κs = search needs
+sizes-of-requires : tie.Need-sizes-of-requires
+sizes-of-requires c κs = search needs
+
+has-sizes-requires : tie.Need-has-sizes-requires
+has-sizes-requires c κs = search needs
 
 returns : tie.Need-returns
-returns c = configure-short (now (c .before .before .before .before .before .before .before .before .before .args .frame)) (now (c .before .before .before .before .before .before .before .before .before .args .config)) (now (c .before .before .before .before .before .before .before .before .before .args .tables)) (now (c .before .before .before .before .before .before .before .before .before .args .slots)) (now (c .before .before .before .before .before .before .before .before .before .args .timers)) (now (c .before .before .before .before .before .before .before .before .before .args .answer)) (full-told _ (c .before .before .controller .ensures) (now (c .before .before .before .before .before .before .before .before .before .args .config)) (now (c .before .before .before .before .before .before .before .before .before .args .tables)) (now (c .before .before .before .before .before .before .before .before .before .args .slots)) (now (c .before .before .before .before .before .before .before .before .before .args .timers)) (now (c .before .before .before .before .before .before .before .before .before .args .answer)) _ _ (c .before .full-size .ensures) (not-true _ (c .if1 .taken)))
+returns c =
+    let s = c .before .before .before .before .before .before .before .before .before .before in
+    configure-short (now (s .args .frame)) (now (s .args .config)) (now (s .args .tables)) (now (s .args .slots)) (now (s .args .timers)) (now (s .args .answer)) (full-told _ (c .before .before .before .controller .ensures) _ (c .before .before .sizes-of .ensures) (now (s .args .config)) (now (s .args .tables)) (now (s .args .slots)) (now (s .args .timers)) (now (s .args .answer)) _ _ (c .before .has-sizes .ensures) (not-true _ (c .if1 .taken)))
 
 refusal-requires : tie.Need-refusal-requires
 refusal-requires c κs = search needs
 
 refuse-configuration-requires : tie.Need-refuse-configuration-requires
-refuse-configuration-requires c κs = full-sizes (memory (now (c .before .before .before .before .before .before .before .before .before .before .before .before .args .config)) (now (c .before .before .before .before .before .before .before .before .before .before .before .before .args .tables)) (now (c .before .before .before .before .before .before .before .before .before .before .before .before .args .slots)) (now (c .before .before .before .before .before .before .before .before .before .before .before .before .args .timers)) (now (c .before .before .before .before .before .before .before .before .before .before .before .before .args .answer))) (full-told _ (c .before .before .before .before .before .controller .ensures) (now (c .before .before .before .before .before .before .before .before .before .before .before .before .args .config)) (now (c .before .before .before .before .before .before .before .before .before .before .before .before .args .tables)) (now (c .before .before .before .before .before .before .before .before .before .before .before .before .args .slots)) (now (c .before .before .before .before .before .before .before .before .before .before .before .before .args .timers)) (now (c .before .before .before .before .before .before .before .before .before .before .before .before .args .answer)) _ _ (c .before .before .before .before .full-size .ensures) (not-false _ (c .before .before .before .if1 .left))) .answer
+refuse-configuration-requires c κs =
+    let s = c .before .before .before .before .before .before .before .before .before .before .before .before .before in
+    full-sizes (memory (now (s .args .config)) (now (s .args .tables)) (now (s .args .slots)) (now (s .args .timers)) (now (s .args .answer))) (full-told _ (c .before .before .before .before .before .before .controller .ensures) _ (c .before .before .before .before .before .sizes-of .ensures) (now (s .args .config)) (now (s .args .tables)) (now (s .args .slots)) (now (s .args .timers)) (now (s .args .answer)) _ _ (c .before .before .before .before .has-sizes .ensures) (not-false _ (c .before .before .before .if1 .left))) .answer
 
 same-length : tie.Need-same-length
 same-length c = search needs
 
 returns-2 : tie.Need-returns-2
 returns-2 c =
-    configure-refused (now (c .before .before .before .before .before .before .before .before .before .before .before .before .before .before .before .args .frame)) (now (c .before .before .before .before .before .before .before .before .before .before .before .before .before .before .before .args .config)) (now (c .before .before .before .before .before .before .before .before .before .before .before .before .before .before .before .args .tables)) (now (c .before .before .before .before .before .before .before .before .before .before .before .before .before .before .before .args .slots)) (now (c .before .before .before .before .before .before .before .before .before .before .before .before .before .before .before .args .timers)) (now (c .before .before .before .before .before .before .before .before .before .before .before .before .before .before .before .args .answer)) _ _
-    record { config = refl; tables = refl; slots = refl; timers = refl; answer = c .before .before .refuse-configuration .kept .1 .0 }
-    (full-told _ (c .before .before .before .before .before .before .before .before .controller .ensures) (now (c .before .before .before .before .before .before .before .before .before .before .before .before .before .before .before .args .config)) (now (c .before .before .before .before .before .before .before .before .before .before .before .before .before .before .before .args .tables)) (now (c .before .before .before .before .before .before .before .before .before .before .before .before .before .before .before .args .slots)) (now (c .before .before .before .before .before .before .before .before .before .before .before .before .before .before .before .args .timers)) (now (c .before .before .before .before .before .before .before .before .before .before .before .before .before .before .before .args .answer)) _ _ (c .before .before .before .before .before .before .before .full-size .ensures) (not-false _ (c .before .before .before .before .before .before .if1 .left)))
-    (c .before .before .before .before .before .refusal .ensures)
-    (c .before .before .before .before .if2 .taken)
-    (c .before .before .refuse-configuration .ensures)
+    let s = c .before .before .before .before .before .before .before .before .before .before .before .before .before .before .before .before in
+    configure-refused (now (s .args .frame)) (now (s .args .config)) (now (s .args .tables)) (now (s .args .slots)) (now (s .args .timers)) (now (s .args .answer)) _ _ record { config = refl; tables = refl; slots = refl; timers = refl; answer = c .before .before .refuse-configuration .kept .1 .0 }
+    (full-told _ (c .before .before .before .before .before .before .before .before .before .controller .ensures) _ (c .before .before .before .before .before .before .before .before .sizes-of .ensures) (now (s .args .config)) (now (s .args .tables)) (now (s .args .slots)) (now (s .args .timers)) (now (s .args .answer)) _ _ (c .before .before .before .before .before .before .before .has-sizes .ensures) (not-false _ (c .before .before .before .before .before .before .if1 .left))) (c .before .before .before .before .before .refusal .ensures) (c .before .before .before .before .if2 .taken) (c .before .before .refuse-configuration .ensures)
 
 begin-requires : tie.Need-begin-requires
 begin-requires c κs =
-    let n = full-sizes (memory (now (c .before .before .before .before .before .before .before .before .before .before .before .before .before .before .before .before .args .config)) (now (c .before .before .before .before .before .before .before .before .before .before .before .before .before .before .before .before .args .tables)) (now (c .before .before .before .before .before .before .before .before .before .before .before .before .before .before .before .before .args .slots)) (now (c .before .before .before .before .before .before .before .before .before .before .before .before .before .before .before .before .args .timers)) (now (c .before .before .before .before .before .before .before .before .before .before .before .before .before .before .before .before .args .answer))) (full-told _ (c .before .before .before .before .before .before .before .before .before .controller .ensures) (now (c .before .before .before .before .before .before .before .before .before .before .before .before .before .before .before .before .args .config)) (now (c .before .before .before .before .before .before .before .before .before .before .before .before .before .before .before .before .args .tables)) (now (c .before .before .before .before .before .before .before .before .before .before .before .before .before .before .before .before .args .slots)) (now (c .before .before .before .before .before .before .before .before .before .before .before .before .before .before .before .before .args .timers)) (now (c .before .before .before .before .before .before .before .before .before .before .before .before .before .before .before .before .args .answer)) _ _ (c .before .before .before .before .before .before .before .before .full-size .ensures) (not-false _ (c .before .before .before .before .before .before .before .if1 .left))) in
-    (sym (c .before .before .before .before .before .before .refusal .ensures) ∙ c .before .before .before .before .before .if2 .left, n .config, n .tables, n .slots, n .timers, n .answer)
+    let s = c .before .before .before .before .before .before .before .before .before .before .before .before .before .before .before .before .before in
+    (sym (c .before .before .before .before .before .before .refusal .ensures) ∙ c .before .before .before .before .before .if2 .left, c .before .before .before .before .before .before .before .before .before .sizes-of .ensures ∙ ap sizesOf (c .before .before .before .before .before .before .before .before .before .before .controller .ensures), full-told _ (c .before .before .before .before .before .before .before .before .before .before .controller .ensures) _ (c .before .before .before .before .before .before .before .before .before .sizes-of .ensures) (now (s .args .config)) (now (s .args .tables)) (now (s .args .slots)) (now (s .args .timers)) (now (s .args .answer)) _ _ (c .before .before .before .before .before .before .before .before .has-sizes .ensures) (not-false _ (c .before .before .before .before .before .before .before .if1 .left)))
 
 same-length-2 : tie.Need-same-length-2
 same-length-2 c = search needs
@@ -58,20 +62,18 @@ same-length-6 c = search needs
 
 returns-3 : tie.Need-returns-3
 returns-3 c =
+    let s = c .before .before .before .before .before .before .before .before .before .before .before .before .before .before .before .before .before .before .before .before .before .before .before .before .before .before .before .before in
     let k = c .before .before .before .before .before .before .before .before .before .before .begin .kept in
-    configure-accepted (now (c .before .before .before .before .before .before .before .before .before .before .before .before .before .before .before .before .before .before .before .before .before .before .before .before .before .before .before .args .frame)) (now (c .before .before .before .before .before .before .before .before .before .before .before .before .before .before .before .before .before .before .before .before .before .before .before .before .before .before .before .args .config)) (now (c .before .before .before .before .before .before .before .before .before .before .before .before .before .before .before .before .before .before .before .before .before .before .before .before .before .before .before .args .tables)) (now (c .before .before .before .before .before .before .before .before .before .before .before .before .before .before .before .before .before .before .before .before .before .before .before .before .before .before .before .args .slots)) (now (c .before .before .before .before .before .before .before .before .before .before .before .before .before .before .before .before .before .before .before .before .before .before .before .before .before .before .before .args .timers)) (now (c .before .before .before .before .before .before .before .before .before .before .before .before .before .before .before .before .before .before .before .before .before .before .before .before .before .before .before .args .answer)) _ _ _ _ _ _
-    record { config = k .1 .0; tables = k .1 .1 .0; slots = k .1 .1 .1 .0; timers = k .1 .1 .1 .1 .0; answer = k .1 .1 .1 .1 .1 .0 }
-    (full-told _ (c .before .before .before .before .before .before .before .before .before .before .before .before .before .before .before .before .before .before .before .before .controller .ensures) (now (c .before .before .before .before .before .before .before .before .before .before .before .before .before .before .before .before .before .before .before .before .before .before .before .before .before .before .before .args .config)) (now (c .before .before .before .before .before .before .before .before .before .before .before .before .before .before .before .before .before .before .before .before .before .before .before .before .before .before .before .args .tables)) (now (c .before .before .before .before .before .before .before .before .before .before .before .before .before .before .before .before .before .before .before .before .before .before .before .before .before .before .before .args .slots)) (now (c .before .before .before .before .before .before .before .before .before .before .before .before .before .before .before .before .before .before .before .before .before .before .before .before .before .before .before .args .timers)) (now (c .before .before .before .before .before .before .before .before .before .before .before .before .before .before .before .before .before .before .before .before .before .before .before .before .before .before .before .args .answer)) _ _ (c .before .before .before .before .before .before .before .before .before .before .before .before .before .before .before .before .before .before .before .full-size .ensures) (not-false _ (c .before .before .before .before .before .before .before .before .before .before .before .before .before .before .before .before .before .before .if1 .left)))
-    (c .before .before .before .before .before .before .before .before .before .before .before .before .before .before .before .before .before .refusal .ensures)
-    (c .before .before .before .before .before .before .before .before .before .before .before .before .before .before .before .before .if2 .left)
-    (c .before .before .before .before .before .before .before .before .before .before .begin .ensures)
+    configure-accepted (now (s .args .frame)) (now (s .args .config)) (now (s .args .tables)) (now (s .args .slots)) (now (s .args .timers)) (now (s .args .answer)) _ _ record { config = k .1 .1 .0; tables = k .1 .1 .1 .0; slots = k .1 .1 .1 .1 .0; timers = k .1 .1 .1 .1 .1 .0; answer = k .1 .1 .1 .1 .1 .1 .0 }
+    (full-told _ (c .before .before .before .before .before .before .before .before .before .before .before .before .before .before .before .before .before .before .before .before .before .controller .ensures) _ (c .before .before .before .before .before .before .before .before .before .before .before .before .before .before .before .before .before .before .before .before .sizes-of .ensures) (now (s .args .config)) (now (s .args .tables)) (now (s .args .slots)) (now (s .args .timers)) (now (s .args .answer)) _ _ (c .before .before .before .before .before .before .before .before .before .before .before .before .before .before .before .before .before .before .before .has-sizes .ensures) (not-false _ (c .before .before .before .before .before .before .before .before .before .before .before .before .before .before .before .before .before .before .if1 .left))) (c .before .before .before .before .before .before .before .before .before .before .before .before .before .before .before .before .before .refusal .ensures) (c .before .before .before .before .before .before .before .before .before .before .before .before .before .before .before .before .if2 .left) (c .before .before .before .before .before .before .before .before .before .before .begin .ensures)
 
 pub mcx11-configure-blocks-spec : {M : Type 1} → statement M
 mcx11-configure-blocks-spec =
     tie.close
     (tie.spec
     controller-requires
-    full-size-requires
+    sizes-of-requires
+    has-sizes-requires
     returns
     refusal-requires
     refuse-configuration-requires

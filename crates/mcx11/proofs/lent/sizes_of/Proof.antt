@@ -4,6 +4,9 @@ use borrow.Author.Needs.{needs}
 use Rattle.mcx11.proofs.lent.sizes_of.Statement.{statement}
 use Rattle.mcx11.proofs.lent.sizes_of.Tie as tie
 
+longest-requires : tie.Need-longest-requires
+longest-requires c κs = search needs
+
 wide-requires : tie.Need-wide-requires
 wide-requires c κs = search needs
 
@@ -19,11 +22,8 @@ wide-requires-4 c κs = search needs
 cast-bytes : tie.Need-cast-bytes
 cast-bytes c = search needs
 
-add-t7 : tie.Need-add-t7
-add-t7 c = search needs
-
-mul-t8 : tie.Need-mul-t8
-mul-t8 c = search needs
+add-t8 : tie.Need-add-t8
+add-t8 c = search needs
 
 add-t9 : tie.Need-add-t9
 add-t9 c = search needs
@@ -52,30 +52,48 @@ add-t16 c = search needs
 add-t17 : tie.Need-add-t17
 add-t17 c = search needs
 
-mul-t18 : tie.Need-mul-t18
-mul-t18 c = search needs
+add-t18 : tie.Need-add-t18
+add-t18 c = search needs
 
-mul-t19 : tie.Need-mul-t19
-mul-t19 c = search needs
+add-t19 : tie.Need-add-t19
+add-t19 c = search needs
 
-add-t20 : tie.Need-add-t20
-add-t20 c = search needs
+mul-t20 : tie.Need-mul-t20
+mul-t20 c = search needs
+
+add-t21 : tie.Need-add-t21
+add-t21 c = search needs
+
+add-t22 : tie.Need-add-t22
+add-t22 c = search needs
+
+mul-t23 : tie.Need-mul-t23
+mul-t23 c = search needs
+
+add-t24 : tie.Need-add-t24
+add-t24 c = search needs
+
+add-t25 : tie.Need-add-t25
+add-t25 c = search needs
+
+add-t26 : tie.Need-add-t26
+add-t26 c = search needs
 
 returns : tie.Need-returns
 unfolding sizesOf
-returns c = rw (c .before .before .before .before .wide .ensures, c .before .before .before .wide2 .ensures, c .before .before .wide3 .ensures, c .before .wide4 .ensures)
+returns c = rw (c .before .before .before .before .before .longest .ensures .0, c .before .before .before .before .wide .ensures, c .before .before .before .wide2 .ensures, c .before .before .wide3 .ensures, c .before .wide4 .ensures)
 
 pub sizes-of-spec : {M : Type 1} → statement M
 sizes-of-spec =
     tie.close
     (tie.spec
+    longest-requires
     wide-requires
     wide-requires-2
     wide-requires-3
     wide-requires-4
     cast-bytes
-    add-t7
-    mul-t8
+    add-t8
     add-t9
     mul-t10
     add-t11
@@ -85,7 +103,13 @@ sizes-of-spec =
     mul-t15
     add-t16
     add-t17
-    mul-t18
-    mul-t19
-    add-t20
+    add-t18
+    add-t19
+    mul-t20
+    add-t21
+    add-t22
+    mul-t23
+    add-t24
+    add-t25
+    add-t26
     returns)
