@@ -17,7 +17,7 @@ use Rattle.configuration.specs.declared.Lent.{Lent}
 use Rattle.configuration.specs.declared.Lent.the-variants.{Bad, Good}
 use Rattle.configuration.specs.Limits.{longest, Made}
 use Rattle.configuration.specs.Block.{configured, rule}
-use Rattle.configuration.specs.Layout.{shapeOf, of-one, Lends, rule-head, rule-room}
+use Rattle.configuration.specs.Layout.{of-one, Lends, rule-head, rule-room}
 use Rattle.mcx11.specs.Contract.{Memory, memory, sizesOf, hasSizes, messagesSound, lentWellFor, lentWell}
 
 -- all memories with these lengths of the slots, the timers and the answer
