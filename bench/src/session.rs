@@ -109,8 +109,8 @@ impl Session {
         assert_eq!(memory.items(other.configuration()), other.items(), "{}", self.name);
     }
 
-    /// Before each frame, the break that the test for 11 meets last: in the last message that lies, else in the last queue,
-    /// else in the semaphore sum.
+    /// Before each frame, the break that the test for 11 meets last: in the last message that lies if G lie, else in the last
+    /// queue, else in the semaphore sum.
     pub fn breaks(&self) -> Vec<Break> {
         let mut memory = self.memory();
         let [tasks, named, queues] = [0, 1, 2].map(|place| usize::from(self.configuration[place]));

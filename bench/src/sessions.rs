@@ -213,7 +213,7 @@ pub fn growing() -> Vec<Session> {
     let mut sessions = vec![signal(LITTLE), signal(Held { running: 8, ..LITTLE })];
     sessions.extend([1, 32, 64, 126].map(|running| signal(Held { tasks: 126, running, ..LITTLE })));
     sessions.extend([4, 32].map(|queues| signal(Held { queues, ..LITTLE })));
-    sessions.extend([16, 32, 64].map(|messages| signal(Held { messages, ..LITTLE })));
+    sessions.extend([16, 32, 63, 64].map(|messages| signal(Held { messages, ..LITTLE })));
     sessions.push(signal(MUCH));
     sessions.extend([0, 16, 32, 64].map(|timers| tick(Held { timers, ..LITTLE })));
     sessions.push(tick(MUCH));

@@ -1,13 +1,11 @@
 // Send, sendw and receive.
 use tables::shape::Shape;
-ghost use mathlib.Core.Path.{_≡_};
-ghost use mathlib.Core.Bool.{true};
 ghost use mathlib.Core.List.{List};
 ghost use Prim.Native.Nat.{ℕ, _+_, _*_, _≤_};
-ghost use lib.ListN.{length, drop};
+ghost use lib.ListN.{length};
 ghost use Rattle.ledger.specs.Services.{effect};
 ghost use Rattle.ledger.specs.Refusals.{codeAt};
-ghost use Rattle.tables.specs.Layout.{Fits, OneOf};
+ghost use Rattle.tables.specs.Layout.{Fits};
 ghost use Rattle.tables.specs.Shows.{Does};
 ghost use Rattle.executive.specs.Meant.{MeansA, MeansB, MeansX, Asks, HasRoom};
 

@@ -5,5 +5,5 @@ pub mod Room
 -- Where the messages lie, and what is shown when they change.
 pub mod Mail
 pub mod Operations
--- A frame leaves memory that keeps the whole rule.
+-- The rule, by the ledger's mailboxes.
 pub mod Whole

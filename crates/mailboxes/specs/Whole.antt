@@ -1,23 +1,24 @@
--- The whole of rule 2 is what the ledger's mailboxes say: messages 1 to G, none twice. Every step keeps that, so a frame leaves memory that keeps the whole rule.
+-- Rule 2 is what the ledger's mailboxes say: whole, that they hold messages 1 to G, none twice, which every step keeps. So a frame finds
+-- the rule kept in memory that calls left, and memories that show the same ledger both keep it or neither does.
 use mathlib.Core.Path.{_≡_, refl, sym, ap, ap₂, _∙_, subst}
-use mathlib.Core.Bool.{Bool, true, false, cond}
+use mathlib.Core.Bool.{Bool, true, false, cond, _||_}
 use mathlib.Core.List.{List}
 use Prim.Native.Nat.{ℕ, _≤_}
 use native.Mathlib.Omega.{arith}
-use lib.Dec.{leb}
+use lib.Dec.{ltb, leb}
 use lib.ListN.{getD}
 use borrow.Author.Tests.{leb-true}
 use Rattle.messages.specs.Pending.{pendingIn, mailboxesOf, numbersIn, occurs, completeIn}
 use Rattle.messages.specs.Counted.{once-complete, complete-once}
+use Rattle.messages.specs.Lying.{lying, lying-are}
 use Rattle.tables.specs.declared.shape.Shape.{Shape}
 use Rattle.tables.specs.Layout.{OneOf, countAt, regions}
 use Rattle.tables.specs.Decode.{countOf}
 use Rattle.tables.specs.Shows.{pendingOf, mailboxesIn, Shows}
 use Rattle.ledger.specs.Config.{Config}
-use Rattle.ledger.specs.Ledger.{Ledger, fresh}
+use Rattle.ledger.specs.Ledger.{Ledger}
 use Rattle.ledger.specs.Refusals.{inAMailbox}
-use Rattle.ledger.specs.Session.{step}
-use Rattle.ledger.specs.Theorems.Once.{Once, once-step, once-fresh}
+use Rattle.ledger.specs.Theorems.Once.{Once}
 use Rattle.mailboxes.specs.Room.{counted, Roomy, wholeIn, soundIn, whole-sound, room-left}
 use Rattle.mailboxes.specs.Mail.{bytes, bytes-are, counter}
 use Rattle.mailboxes.specs.Operations.{holds-told}
@@ -45,10 +46,16 @@ module _ (c : Config) (s : Shape) (L : Ledger) (d z w : List ℕ) (h : Shows c s
   some : 1 ≤ c .T
   some = let l = h .of .laid in omega (arith, l .some, h .of .tasks)
 
-  pub whole-shown : Once c (L .mailboxes) → wholeIn s d ≡ true
+  -- as many records are taken as messages lie in the ledger's mailboxes
+  counted-shown : counted s d ≡ lying (L .mailboxes)
+  counted-shown =
+      ap₂ countOf (h .of .messages) (sym (counter c s L d z w h))
+      ∙ sym (lying-are (c .T) some many (regions s d .messages)) ∙ sym (ap lying boxes-are)
+
+  whole-shown : Once c (L .mailboxes) → wholeIn s d ≡ true
   whole-shown o = whole-is ∙ once-complete (c .T) some c many (regions s d .messages) (subst (Once c) boxes-are o)
 
-  pub shown-once : wholeIn s d ≡ true → Once c (L .mailboxes)
+  shown-once : wholeIn s d ≡ true → Once c (L .mailboxes)
   shown-once e = subst (Once c) (sym boxes-are) (complete-once (c .T) some c many (regions s d .messages) (sym whole-is ∙ e))
 
   -- a message of those that there are, which the ledger has in no mailbox, has room where a frame found the rule kept
@@ -62,11 +69,16 @@ module _ (c : Config) (s : Shape) (L : Ledger) (d z w : List ℕ) (h : Shows c s
   pub sound-shown : Once c (L .mailboxes) → soundIn s d ≡ true
   sound-shown o = whole-sound s d (whole-shown o)
 
--- a frame leaves memory that keeps the whole rule, if the memory before kept it
-pub whole-kept : (c : Config) (s : Shape) (f : List ℕ) (L : Ledger) (d z w d' z' w' : List ℕ) → Shows c s L d z w → wholeIn s d ≡ true
-    → Shows c s (step c f L .ledger) d' z' w' → wholeIn s d' ≡ true
-whole-kept c s f L d z w d' z' w' h e k = whole-shown c s (step c f L .ledger) d' z' w' k (once-step c f L (shown-once c s L d z w h e))
+-- two memories that show the same ledger: the rule as a frame asks it is kept in both or in none
+module _ (c : Config) (s : Shape) (L : Ledger) (d z w d' z' w' : List ℕ) (h : Shows c s L d z w) (k : Shows c s L d' z' w') where
+  whole-same : wholeIn s d ≡ wholeIn s d'
+  whole-same = go (wholeIn s d) (wholeIn s d') (λ e. whole-shown c s L d' z' w' k (shown-once c s L d z w h e)) (λ e. whole-shown c s L d z w h (shown-once c s L d' z' w' k e))
+    where
+      go : (a b : Bool) → (a ≡ true → b ≡ true) → (b ≡ true → a ≡ true) → a ≡ b
+      go true b f g = sym (f refl)
+      go false true f g = g refl
+      go false false f g = refl
 
--- and so does a configuration
-pub whole-fresh : (c : Config) (s : Shape) (d z w : List ℕ) → Shows c s (fresh c) d z w → wholeIn s d ≡ true
-whole-fresh c s d z w h = whole-shown c s (fresh c) d z w h (once-fresh c)
+  pub sound-same : soundIn s d ≡ soundIn s d'
+  unfolding soundIn
+  sound-same = ap₂ (λ (n : ℕ) (b : Bool). ltb n (s .messages) || b) (counted-shown c s L d z w h ∙ sym (counted-shown c s L d' z' w' k)) whole-same

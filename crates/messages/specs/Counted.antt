@@ -120,7 +120,7 @@ module _ (p : Pending) (l : List Pending) where
   mailbox-skip t n = rw (ne-eqb (p .to) t n)
 
   module _ (T : ℕ) (low : 1 ≤ p .to) (high : p .to ≤ T) where
-    mailboxes-front : mailboxesOf T (p ∷ l) ≡ put (mailboxesOf T l) (p .to) (p .message ∷ at (mailboxesOf T l) (p .to) [])
+    pub mailboxes-front : mailboxesOf T (p ∷ l) ≡ put (mailboxesOf T l) (p .to) (p .message ∷ at (mailboxesOf T l) (p .to) [])
     unfolding mailboxesOf
     mailboxes-front =
         let f : ℕ → List Message = λ i. mailboxOf (suc i) l in
@@ -129,7 +129,7 @@ module _ (p : Pending) (l : List Pending) where
         ap (λ (b : List Message). p .message ∷ b) (tab-at T (p .to) f [] low high) ∙ sym (mailbox-front (suc (p .to - 1)) (sym e)) in
         sym (tab-put T (p .to) f (λ i. mailboxOf (suc i) (p ∷ l)) _ low (λ j b ne. sym (mailbox-skip (suc j) (λ q. ne (omega (arith, q))))) (λ q. v))
 
-    many : length (mailboxesOf T l) ≡ T
+    pub many : length (mailboxesOf T l) ≡ T
     unfolding mailboxesOf
     many = tab-length T _
 
@@ -137,7 +137,7 @@ module _ (p : Pending) (l : List Pending) where
     copies-front x = ap (copies x) mailboxes-front ∙ front-more x (mailboxesOf T l) (p .to) (p .message) (record { from = low; upto = omega (arith, many) })
 
 module _ (T : ℕ) (some : 1 ≤ T) where
-  means-within : (b : ℕ) → (1 ≤ receiver T b) × (receiver T b ≤ T)
+  pub means-within : (b : ℕ) → (1 ≤ receiver T b) × (receiver T b ≤ T)
   means-within b =
       let w : within 1 T (receiver T b) ≡ true = means-one T b some in
       (leb-true 1 (receiver T b) (and-left (leb 1 (receiver T b)) (leb (receiver T b) T) w), leb-true (receiver T b) T (and-right (leb 1 (receiver T b)) (leb (receiver T b) T) w))

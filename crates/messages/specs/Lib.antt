@@ -6,8 +6,9 @@ pub mod Lists
 pub mod Mailboxes
 pub mod Records
 pub mod Full
--- What is complete, by the mailboxes.
+-- What is complete, and how many records are taken, by the mailboxes.
 pub mod Counted
+pub mod Lying
 -- The loop that tests for a complete table.
 pub mod Marks
 pub mod Checks

@@ -1,19 +1,27 @@
--- Two executives that meet the contract don't differ: what each call leaves is the same function of a ledger that the memory
--- shows, and every memory that is lent well shows one.
-use Prim.Native.Nat.{ℕ}
-use mathlib.Core.Path.{_≡_, refl, ap, sym, _∙_}
-use mathlib.Core.Bool.{Bool, true, false}
-use mathlib.Core.List.{List}
+-- Two executives that meet the contract don't differ: what each call leaves is the same function of a ledger that the memory shows, every
+-- memory that is lent well shows one, and whether a memory is lent well is told by what it shows.
+use Prim.Native.Nat.{ℕ, _+_}
+use mathlib.Core.Path.{_≡_, refl, ap, ap₂, sym, _∙_, subst}
+use mathlib.Core.Bool.{Bool, true, false, _&&_}
+use mathlib.Core.List.{List, _∷_}
 use native.Mathlib.Decide.{ℕ-discrete}
-use Rattle.ledger.specs.Config.{Config, configIn, configRefusal}
+use lib.ListN.{getD}
+use Rattle.rows.specs.Splice.{cut}
+use Rattle.ledger.specs.Config.{Config, controller, configIn, configRefusal}
 use Rattle.ledger.specs.Ledger.{Ledger, fresh}
-use Rattle.ledger.specs.Session.{Items, items, step, runFrom}
-use Rattle.configuration.specs.Block.{configured}
-use Rattle.mcx11.specs.Contract.{Memory, fullSize, lentWell, Displays, Configures, Frames}
-use Rattle.theorems.specs.Calls.{FrameCalls}
+use Rattle.ledger.specs.Refusals.{refusal}
+use Rattle.ledger.specs.Session.{Items, items, step}
+use Rattle.mailboxes.specs.Room.{soundIn}
+use Rattle.mailboxes.specs.Whole.{sound-same}
+use Rattle.configuration.specs.Block.{configured, rule}
+use Rattle.configuration.specs.Layout.{shapeOf}
+use Rattle.answer.specs.Written.{written}
+use Rattle.mcx11.specs.Contract.{Memory, fullSize, messagesSound, lentWellFor, lentWell, Displays, Configures, Frames}
+use Rattle.mcx11.specs.Sizes.{full-kept, well-full, well-rule}
+use Rattle.mcx11.specs.Answer.{answerOf}
 use Rattle.mcx11.specs.Displayed.{itemsIn, items-shown}
-use Rattle.theorems.specs.SomeLedger.{ledgerIn, displays-some}
-use Rattle.theorems.specs.Follows.{follows}
+use Rattle.theorems.specs.Calls.{FrameCalls, none, call}
+use Rattle.theorems.specs.SomeLedger.{ledgerIn, displays-ledger, displays-some}
 
 -- the items of a memory, by its own configuration
 unfoldable pub itemsOf : Memory → Items
@@ -25,6 +33,96 @@ shown-both : (c : Config) (l : Ledger) (m₁ m₂ : Memory) → configured (m₁
 unfolding itemsOf
 shown-both c l m₁ m₂ e₁ e₂ h₁ h₂ =
     ap (λ (k : Config). itemsIn k m₁) e₁ ∙ sym (items-shown c l m₁ h₁) ∙ items-shown c l m₂ h₂ ∙ ap (λ (k : Config). itemsIn k m₂) (sym e₂)
+
+-- ---- from memories that are alike
+
+-- what the executive can tell of a memory: whether it has the sizes, its configuration, its answer and its items
+pub record Alike (m₁ m₂ : Memory) : Type 0 where
+  pub sizes : fullSize m₁ ≡ fullSize m₂
+  pub configs : configured (m₁ .config) ≡ configured (m₂ .config)
+  pub answers : m₁ .answer ≡ m₂ .answer
+  pub items : itemsOf m₁ ≡ itemsOf m₂
+
+alike-self : (m : Memory) → Alike m m
+alike-self m = record { sizes = refl; configs = refl; answers = refl; items = refl }
+
+-- what the one shows, the other shows
+displays-both : (c : Config) (l k : Ledger) (m₁ m₂ : Memory) → itemsIn c m₁ ≡ itemsIn c m₂ → Displays c l m₁ → Displays c k m₂ → Displays c l m₂
+unfolding Displays itemsIn
+displays-both c l k m₁ m₂ e h g =
+    let s = h .shown in
+    record {
+      of = g .of;
+      room = g .room;
+      slots = g .slots;
+      counted = g .counted;
+      shown = record {
+        ticks = s .ticks ∙ ap (λ (i : Items). i .ticks) e;
+        tasks = s .tasks ∙ ap (λ (i : Items). i .tasks) e;
+        semaphores = s .semaphores ∙ ap (λ (i : Items). i .semaphores) e;
+        mailboxes = s .mailboxes ∙ ap (λ (i : Items). i .mailboxes) e;
+        queues = s .queues ∙ ap (λ (i : Items). i .queues) e;
+        taken = s .taken;
+        timers = s .timers ∙ ap (λ (i : Items). i .timers) e;
+      };
+    }
+
+module _ {m m' : Memory} (a : Alike m m') where
+  abbrev c : Config
+  c = configured (m .config)
+
+  items-alike : itemsIn c m ≡ itemsIn c m'
+  unfolding itemsOf
+  items-alike = a .items ∙ ap (λ (k : Config). itemsIn k m') (sym (a .configs))
+
+  module _ (full : fullSize m ≡ true) (keeps : rule controller c ≡ true) where
+    ledger-alike : Displays c (ledgerIn m) m'
+    ledger-alike =
+        let e = a .configs in
+        let k : Displays (configured (m' .config)) (ledgerIn m') m' = displays-ledger m' (sym (a .sizes) ∙ full) (ap (rule controller) (sym e) ∙ keeps) in
+        displays-both c (ledgerIn m) (ledgerIn m') m m' items-alike (displays-ledger m full keeps) (subst (λ (x : Config). Displays x (ledgerIn m') m') (sym e) k)
+
+    messages-alike : messagesSound c (m .tables) ≡ messagesSound c (m' .tables)
+    unfolding messagesSound soundIn Displays
+    messages-alike =
+        sound-same c (shapeOf c) (ledgerIn m) (m .tables) (m .slots) (m .timers) (m' .tables) (m' .slots) (m' .timers) (displays-ledger m full keeps) ledger-alike
+
+  -- both are lent well, or neither is
+  well-alike : lentWell m ≡ lentWell m'
+  unfolding lentWell lentWellFor fullSize
+  well-alike =
+      go (fullSize m) refl (rule controller c) refl
+      ∙ ap₂ (λ (b : Bool) (k : Config). b && rule controller k && messagesSound k (m' .tables)) (a .sizes) (a .configs)
+    where
+      go : (x : Bool) → fullSize m ≡ x → (y : Bool) → rule controller c ≡ y → (x && y && messagesSound c (m .tables)) ≡ (x && y && messagesSound c (m' .tables))
+      go false e y k = refl
+      go true e false k = refl
+      go true e true k = messages-alike e k
+
+  pub frames-alike : {f : List ℕ} {m₁ m₂ : Memory} {r₁ r₂ : ℕ} → Frames f m m₁ r₁ → Frames f m' m₂ r₂ → (r₁ ≡ r₂) × Alike m₁ m₂
+  frames-alike {f} {m₁} {m₂} {r₁} {r₂} s₁ s₂ = go (lentWell m) refl
+    where
+      go : (b : Bool) → lentWell m ≡ b → (r₁ ≡ r₂) × Alike m₁ m₂
+      go false w =
+          let x = s₁ .bad w in
+          let y = s₂ .bad (sym well-alike ∙ w) in
+          (x .0 ∙ sym (y .0), subst (λ (n : Memory). Alike m₁ n) (sym (y .1)) (subst (λ (n : Memory). Alike n m') (sym (x .1)) a))
+      go true w =
+          let l = ledgerIn m in
+          let h : Displays c l m' = ledger-alike (well-full m w) (well-rule m w) in
+          let g₁ = s₁ .good w l (displays-some m w) in
+          let g₂ : (r₂ ≡ refusal c l f) × Displays c (step c f l .ledger) m₂ × (m₂ .answer ≡ written (step c f l .answered) (m' .answer)) =
+          subst (λ (k : Config). Displays k l m' → (r₂ ≡ refusal k l f) × Displays k (step k f l .ledger) m₂ × (m₂ .answer ≡ written (step k f l .answered) (m' .answer))) (sym (a .configs)) (s₂ .good (sym well-alike ∙ w) l) h in
+          let e₁ : configured (m₁ .config) ≡ c = ap configured (s₁ .config) in
+          let e₂ : configured (m₂ .config) ≡ c = ap configured (s₂ .config) ∙ sym (a .configs) in (
+            g₁ .0 ∙ sym (g₂ .0),
+            record {
+              sizes = full-kept (s₁ .sizes) ∙ a .sizes ∙ sym (full-kept (s₂ .sizes));
+              configs = e₁ ∙ sym e₂;
+              answers = g₁ .2 ∙ ap (written (step c f l .answered)) (a .answers) ∙ sym (g₂ .2);
+              items = shown-both c (step c f l .ledger) m₁ m₂ e₁ e₂ (g₁ .1) (g₂ .1);
+            },
+          )
 
 -- ---- one call
 
@@ -42,23 +140,9 @@ same-memory m m₁ m₂ r r₁ r₂ a b =
 
 -- for every frame and every memory, well lent or not
 pub frames-agree : {f : List ℕ} {m m₁ m₂ : Memory} {r₁ r₂ : ℕ} → Frames f m m₁ r₁ → Frames f m m₂ r₂ → Agree m₁ m₂ r₁ r₂
-frames-agree {f} {m} {m₁} {m₂} {r₁} {r₂} s₁ s₂ = go (lentWell m) refl
-  where
-    go : (b : Bool) → lentWell m ≡ b → Agree m₁ m₂ r₁ r₂
-    go false w = same-memory m m₁ m₂ 11 r₁ r₂ (s₁ .bad w) (s₂ .bad w)
-    go true w =
-        let c = configured (m .config) in
-        let l = ledgerIn m in
-        let g₁ = s₁ .good w l (displays-some m w) in
-        let g₂ = s₂ .good w l (displays-some m w) in
-        let e₁ : configured (m₁ .config) ≡ c = ap configured (s₁ .config) in
-        let e₂ : configured (m₂ .config) ≡ c = ap configured (s₂ .config) in
-        record {
-          numbers = g₁ .0 ∙ sym (g₂ .0);
-          configs = e₁ ∙ sym e₂;
-          answers = g₁ .2 ∙ sym (g₂ .2);
-          items = shown-both c (step c f l .ledger) m₁ m₂ e₁ e₂ (g₁ .1) (g₂ .1);
-        }
+frames-agree {m = m} s₁ s₂ =
+    let a = frames-alike (alike-self m) s₁ s₂ in
+    record { numbers = a .0; configs = a .1 .configs; answers = a .1 .answers; items = a .1 .items }
 
 -- for every configuration, accepted or not, and every memory
 pub configurations-agree : {g : List ℕ} {m m₁ m₂ : Memory} {r₁ r₂ : ℕ} → Configures g m m₁ r₁ → Configures g m m₂ r₂ → Agree m₁ m₂ r₁ r₂
@@ -80,22 +164,26 @@ configurations-agree {g} {m} {m₁} {m₂} {r₁} {r₂} s₁ s₂ = go (fullSiz
     go false f = same-memory m m₁ m₂ 11 r₁ r₂ (s₁ .short f) (s₂ .short f)
     go true f = elim (ℕ-discrete (configRefusal g) 0) [ yes h ↦ fits f h | no h ↦ same-memory _ m₁ m₂ _ r₁ r₂ (s₁ .refused f h) (s₂ .refused f h) ]
 
--- ---- a list of calls, from a memory that is lent well, however it came about
+-- ---- a list of calls, from any memory
 
 pub record AgreeOnLists (answered₁ answered₂ : List (List ℕ)) (returned₁ returned₂ : List ℕ) (m₁ m₂ : Memory) : Type 0 where
   pub numbers : returned₁ ≡ returned₂
   pub answers : answered₁ ≡ answered₂
   pub items : itemsOf m₁ ≡ itemsOf m₂
 
-pub lists-agree : {m m₁ m₂ : Memory} {fs answered₁ answered₂ : List (List ℕ)} {returned₁ returned₂ : List ℕ} → lentWell m ≡ true
-    → FrameCalls m fs answered₁ returned₁ m₁ → FrameCalls m fs answered₂ returned₂ m₂ → AgreeOnLists answered₁ answered₂ returned₁ returned₂ m₁ m₂
-lists-agree {m} {m₁} {m₂} {fs} w s₁ s₂ =
-    let c = configured (m .config) in
-    let l = ledgerIn m in
-    let a = follows l w (displays-some m w) s₁ in
-    let b = follows l w (displays-some m w) s₂ in
+lists-alike : {m m' m₁ m₂ : Memory} {fs answered₁ answered₂ : List (List ℕ)} {returned₁ returned₂ : List ℕ} → Alike m m'
+    → FrameCalls m fs answered₁ returned₁ m₁ → FrameCalls m' fs answered₂ returned₂ m₂ → AgreeOnLists answered₁ answered₂ returned₁ returned₂ m₁ m₂
+unfolding answerOf
+lists-alike a none none = record { numbers = refl; answers = refl; items = a .items }
+lists-alike a (call s₁ more₁) (call s₂ more₂) =
+    let x = frames-alike a s₁ s₂ in
+    let rest = lists-alike (x .1) more₁ more₂ in
     record {
-      numbers = a .numbers ∙ sym (b .numbers);
-      answers = a .answers ∙ sym (b .answers);
-      items = shown-both c (runFrom c l fs .0) m₁ m₂ (a .config) (b .config) (a .shown) (b .shown);
+      numbers = ap₂ _∷_ (x .0) (rest .numbers);
+      answers = ap₂ _∷_ (ap (λ (d : List ℕ). cut d 1 (1 + getD d 0 0)) (x .1 .answers)) (rest .answers);
+      items = rest .items;
     }
+
+pub lists-agree : {m m₁ m₂ : Memory} {fs answered₁ answered₂ : List (List ℕ)} {returned₁ returned₂ : List ℕ}
+    → FrameCalls m fs answered₁ returned₁ m₁ → FrameCalls m fs answered₂ returned₂ m₂ → AgreeOnLists answered₁ answered₂ returned₁ returned₂ m₁ m₂
+lists-agree {m = m} s₁ s₂ = lists-alike (alike-self m) s₁ s₂

@@ -15,6 +15,7 @@ use Rattle.ledger.specs.Theorems.Parts.{Every}
 use Rattle.ledger.specs.Theorems.Lowest.{TaskRuns, NullRuns}
 use Rattle.ledger.specs.Theorems.Shown.{lowest-shown, reissues-shown}
 use Rattle.ledger.specs.Theorems.HandedOut.{handed-out}
+use Rattle.ledger.specs.Theorems.Once.{Once, once-fresh}
 use Rattle.configuration.specs.Block.{configured}
 use Rattle.mcx11.specs.Contract.{Memory, fullSize, lentWell, Displays, answering, Configures}
 use Rattle.theorems.specs.Calls.{FrameCalls}
@@ -74,7 +75,8 @@ every-list {g} {m₀} {m₁} {m} {r₀} {fs} {answered} {returned} h full s more
     let a = s .accepted full h in
     let e : configured (m₁ .config) ≡ c = a .1 in
     let d : Displays (configured (m₁ .config)) (fresh c) m₁ = subst (λ (k : Config). Displays k (fresh c) m₁) (sym e) (a .3) in
-    let rest : Follows c (fresh c) fs answered returned m = subst (λ (k : Config). Follows k (fresh c) fs answered returned m) e (follows (fresh c) (a .2) d more) in
+    let o : Once (configured (m₁ .config)) (fresh c .mailboxes) = subst (λ (k : Config). Once k (fresh c .mailboxes)) (sym e) (once-fresh c) in
+    let rest : Follows c (fresh c) fs answered returned m = subst (λ (k : Config). Follows k (fresh c) fs answered returned m) e (follows (fresh c) (a .2) d o more) in
     whole g fs (answerOf m₁ ∷ answered) (r₀ ∷ returned) m h
     (ap₂ _∷_ (answer-is m₁ (answer 0 0 (fresh c)) (m₀ .answer) (a .4)) (rest .answers))
     (ap₂ _∷_ (a .0) (rest .numbers))

@@ -1,5 +1,5 @@
--- Every memory that is lent well shows some ledger: its configuration block lays out the tables, and the full sizes have room for
--- them.
+-- Every memory of full size that holds a configuration shows some ledger: its configuration block lays out the tables, and the full sizes
+-- have room for them.
 use Prim.Native.Nat.{ℕ, _+_, _*_, _≤_}
 use mathlib.Core.Path.{_≡_, ap, sym, _∙_, subst}
 use mathlib.Core.Bool.{true}
@@ -16,8 +16,8 @@ use Rattle.configuration.specs.Limits.{controller-made}
 use Rattle.configuration.specs.Block.{configured, rule, read, configured-is}
 use Rattle.configuration.specs.Layout.{shapeOf, rule-head, of-shape, end-most}
 use Rattle.configuration.specs.Lent.{shapes-length}
-use Rattle.mcx11.specs.Contract.{Memory, messagesSound, lentWell, Displays}
-use Rattle.mcx11.specs.Sizes.{full-sizes, well-full, well-rule, well-messages}
+use Rattle.mcx11.specs.Contract.{Memory, fullSize, lentWell, Displays}
+use Rattle.mcx11.specs.Sizes.{full-sizes, well-full, well-rule}
 
 -- ---- a block that keeps the rule is laid out
 
@@ -38,11 +38,15 @@ block-of g full h =
 unfoldable pub ledgerIn : Memory → Ledger
 ledgerIn m = let c = configured (m .config) in some c (shapeOf c) (m .tables) (m .slots) (m .timers)
 
-pub displays-some : (m : Memory) → lentWell m ≡ true → Displays (configured (m .config)) (ledgerIn m) m
-unfolding Displays ledgerIn messagesSound
-displays-some m w =
+pub displays-ledger : (m : Memory) → fullSize m ≡ true → rule controller (configured (m .config)) ≡ true → Displays (configured (m .config)) (ledgerIn m) m
+unfolding Displays ledgerIn
+displays-ledger m full keeps =
     let c = configured (m .config) in
-    let f = full-sizes m (well-full m w) in
-    let o : Of c (shapeOf c) = block-of (m .config) (f .config) (well-rule m w) in
+    let f = full-sizes m full in
+    let o : Of c (shapeOf c) = block-of (m .config) (f .config) keeps in
     let l = o .laid in
-    shows-some c (shapeOf c) (m .tables) (m .slots) (m .timers) o (omega (arith, end-most c (shapeOf c) o)) (omega arith) (omega arith) (well-messages m w)
+    shows-some c (shapeOf c) (m .tables) (m .slots) (m .timers) o (omega (arith, end-most c (shapeOf c) o)) (omega arith) (omega arith)
+
+-- so does every memory that is lent well
+pub displays-some : (m : Memory) → lentWell m ≡ true → Displays (configured (m .config)) (ledgerIn m) m
+displays-some m w = displays-ledger m (well-full m w) (well-rule m w)

@@ -25,7 +25,8 @@ part-remove-all-end c = lies (c .before .before .before .pre .0) .within
 remove-all-requires : tie.Need-remove-all-requires
 remove-all-requires c κs =
     let s = c .before .before .before .before in
-    (omega (arith, bytes-length (now (s .args .tables)) (s .pre .0), c .before .count .ensures .1), s .pre .1 .0, s .pre .1 .1)
+    let t = s .pre .1 in
+    (omega (arith, bytes-length (now (s .args .tables)) (s .pre .0), c .before .count .ensures .1), omega (arith, t .0, t .1), omega (arith, t .0, t .1))
 
 cast-tables : tie.Need-cast-tables
 cast-tables c =

@@ -25,7 +25,8 @@ part-insert-end c = lies (c .before .before .before .pre .0) .within
 insert-requires : tie.Need-insert-requires
 insert-requires c κs =
     let s = c .before .before .before .before in
-    (omega (arith, bytes-length (now (s .args .tables)) (s .pre .0), c .before .count .ensures .0, s .pre .2), s .pre .1 .0, s .pre .1 .1)
+    let t = s .pre .1 in
+    (omega (arith, bytes-length (now (s .args .tables)) (s .pre .0), c .before .count .ensures .0, s .pre .2), omega (arith, t .0, t .1), omega (arith, t .0, t .1))
 
 add-tables : tie.Need-add-tables
 add-tables c =

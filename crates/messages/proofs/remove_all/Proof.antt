@@ -21,7 +21,7 @@ loop-holds : tie.Need-loop-holds Inv-loop μ-loop
 loop-holds c = (omega arith, refl, record { inside = omega arith; so-far = refl })
 
 is-for-requires : tie.Need-is-for-requires Inv-loop μ-loop
-is-for-requires c κs = let s = c .before .before .before .before in (omega arith, s .pre .1, s .pre .2)
+is-for-requires c κs = let s = c .before .before .before .before in (omega arith, omega (arith, s .pre .1, s .pre .2), omega (arith, s .pre .1, s .pre .2))
 
 remove-requires : tie.Need-remove-requires Inv-loop μ-loop
 remove-requires c κs = omega arith
