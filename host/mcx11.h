@@ -20,9 +20,9 @@ extern "C" {
 /** @name The version: docs/CHANGES.md says what each changed for hosts
  * @{ */
 #define MCX11_VERSION_MAJOR 1 /**< a host has to be changed */
-#define MCX11_VERSION_MINOR 0 /**< something is new, or the lent memory has another layout */
+#define MCX11_VERSION_MINOR 1 /**< something is new, or the lent memory has another layout */
 #define MCX11_VERSION_PATCH 0 /**< something is mended */
-#define MCX11_VERSION "1.0.0" /**< the three as a text */
+#define MCX11_VERSION "1.1.0" /**< the three as a text */
 /** @} */
 
 /** @name The sizes of the lent blocks

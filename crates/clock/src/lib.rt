@@ -1,6 +1,6 @@
 // The clock: ticks, tocks and timers, in place in the lent memory.
 // Promises: each operation is the ledger's own change, for every ledger that the memory shows.
-// Rests on tables (what the memory shows) and timers (records of ten bytes in a slice), and on the ledger's definitions.
+// Rests on tables (what the memory shows) and timers (rows of ten bytes in a slice), and on the ledger's definitions.
 use tables::shape::Shape;
 use tables::shape::TICKS_AT;
 ghost use mathlib.Core.Path.{_≡_};
@@ -20,10 +20,10 @@ ghost use Rattle.clock.specs.Does.{DoesTimers, TellsTimers, Starts, purg
 ghost use Rattle.clock.specs.Ticks.{AfterTick};
 ghost use Rattle.clock.specs.Tocks.{Advanced};
 
-// The block `timers`: the number of timers, and their records behind it.
+// The block `timers`: the number of timers, and behind it their rows with their clock.
 const NUMBER_AT: usize = 0;
 
-const RECORDS_AT: usize = 1;
+const ROWS_AT: usize = 1;
 
 // A count, the most that there can be where the byte says more.
 fn counted(most: usize, x: u8) -> usize
@@ -49,7 +49,7 @@ pub fn has(timers: &[u8], shape: Shape, task: u8, semaphore: u8) -> bool
     ensures { λ r. ⌜ TellsTimers shape (now (timers .entry)) (λ c L. haveTimer L task semaphore) r ⌝ }
 {
     let n = count(timers, shape);
-    timers::has(&timers[RECORDS_AT..], n, task, semaphore)
+    timers::has(&timers[ROWS_AT..], n, task, semaphore)
 }
 
 // A small number as a byte.
@@ -69,7 +69,7 @@ pub fn start(timers: &mut [u8], shape: Shape, task: u8, semaphore: u8, left: u32
     if n >= shape.timers {
         return;
     }
-    timers::insert(&mut timers[RECORDS_AT..], n, task, semaphore, left, period);
+    timers::insert(&mut timers[ROWS_AT..], n, task, semaphore, left, period);
     timers[NUMBER_AT] = byte(n + 1);
 }
 
@@ -79,7 +79,7 @@ pub fn purge(timers: &mut [u8], shape: Shape, task: u8, all: bool, semaphore: u8
     ensures { λ _. ⌜ DoesTimers shape (now (timers .entry)) (now (timers .exit)) (λ c L. purged task all semaphore L) ⌝ }
 {
     let n = count(timers, shape);
-    let left = timers::purge(&mut timers[RECORDS_AT..], n, task, all, semaphore);
+    let left = timers::purge(&mut timers[ROWS_AT..], n, task, all, semaphore);
     timers[NUMBER_AT] = byte(left);
 }
 
@@ -91,7 +91,7 @@ pub fn take_due(timers: &mut [u8], shape: Shape) -> u8
     ensures does { λ _. ⌜ DoesTimers shape (now (timers .entry)) (now (timers .exit)) (λ c L. takeDue L) ⌝ }
 {
     let n = count(timers, shape);
-    let due = timers::take_due(&mut timers[RECORDS_AT..], n);
+    let due = timers::take_due(&mut timers[ROWS_AT..], n);
     timers[NUMBER_AT] = byte(due.count);
     due.semaphore
 }
@@ -102,7 +102,7 @@ fn pass(timers: &mut [u8], shape: Shape) -> usize
     ensures { λ r. ⌜ (r ≤ shape .timers) × (r ≡ dueIn (heldIn shape (now (timers .exit)))) × DoesTimers shape (now (timers .entry)) (now (timers .exit)) (λ c L. setClock (suc (L .N)) (L .ticks) L) ⌝ }
 {
     let n = count(timers, shape);
-    timers::pass(&mut timers[RECORDS_AT..], n)
+    timers::pass(&mut timers[ROWS_AT..], n)
 }
 
 // The tick's record: the ticks left in the tock, and the ticks per tock.

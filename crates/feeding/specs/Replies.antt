@@ -1,5 +1,5 @@
 -- What the memory holds where a session stands, and what the answer to a line leaves in it.
-use Prim.Native.Nat.{ℕ, _≤_}
+use Prim.Native.Nat.{ℕ, _*_, _≤_}
 use mathlib.Core.Path.{_≡_, refl, sym, ap, _∙_, subst}
 use mathlib.Core.Bool.{Bool, true, false}
 use mathlib.Core.List.{List, _++_}
@@ -17,7 +17,9 @@ use Rattle.ledger.specs.Theorems.Lines.{frame-is-short}
 use Rattle.ledger.specs.Theorems.Once.{Once, once-step, once-fresh}
 use Rattle.tables.specs.declared.shape.Shape.{Shape}
 use Rattle.tables.specs.Shows.{Of, Shows}
-use Rattle.configuration.specs.Block.{configured, rule}
+use Rattle.configuration.specs.Block.{frameRule}
+use Rattle.configuration.specs.Started.{timersBytes}
+use Rattle.parts.specs.Parts.{part, keptFrame}
 use Rattle.configuration.specs.Layout.{shapeOf, of-one}
 use Rattle.answer.specs.Written.{written}
 use Rattle.answer.specs.Read.{read-length}
@@ -25,10 +27,12 @@ use Rattle.line.specs.Answers.{answerTo, leftIn, Gives}
 use Rattle.line.specs.declared.Written.{Written}
 use Rattle.line.specs.declared.Written.the-variants as written-as
 use Rattle.executive.specs.Meeting.{never}
-use Rattle.mcx11.specs.Contract.{Memory, memory, lentWell, Displays, SameSizes, answering, Configures, Frames}
+use Rattle.mcx11.specs.Contract.{Memory, memory, hasSizes, isMarked, configOf, tablesIn, slotsIn, timersIn, lentWellFor, lentWell, Displays, answering, Configures, Frames}
 use Rattle.mcx11.specs.Answer.{answerOf}
-use Rattle.mcx11.specs.Sizes.{Full, sizes-full, full-kept, well-full, well-rule}
-use Rattle.mcx11.specs.Displayed.{displays-well, answer-short, step-short}
+use Rattle.mcx11.specs.Sizes.{Full, sizes-full, well-frame}
+use Rattle.mcx11.specs.Entries.{TellsNow}
+use Rattle.mcx11.specs.Kept.{begins-config, config-stays, well-again}
+use Rattle.mcx11.specs.Displayed.{answer-short, step-short}
 use Rattle.mcx11.specs.Answer.{answer-is}
 use Rattle.feeding.specs.declared.Stage.{Stage}
 use Rattle.feeding.specs.declared.Stage.the-variants.{First, Running, Ended}
@@ -36,7 +40,7 @@ use Rattle.feeding.specs.Input.{Stands, first, runs, over, Reply, config
 
 unfoldable pub At : Stands → Stage → Memory → Type 0
 At first p m = p ≡ First
-At (runs c l) p m = (p ≡ Running) × (configured (m .config) ≡ c) × (lentWell m ≡ true) × Displays c l m × Once c (l .mailboxes)
+At (runs c l) p m = (p ≡ Running) × (configOf m ≡ c) × (lentWell m ≡ true) × Displays c l m × Once c (l .mailboxes)
 At over p m = p ≡ Ended
 
 unfoldable pub stageNumber : Stage → ℕ
@@ -63,7 +67,9 @@ pub record Begins (f : Option (List ℕ)) (m' : Memory) (p : Stage) : Type 0 whe
 -- a line that is no frame is answered with 1, whatever ledger the memory shows
 abbrev pub RefusesLine : (g d z a a' : List ℕ) → Type 0
 RefusesLine g d z a a' =
-    (l : Ledger) (w : List ℕ) → rule controller (configured g) ≡ true → Shows (configured g) (shapeOf (configured g)) l d z w → a' ≡ written (answer 1 0 l) a
+    let c = configIn (keptFrame g) in
+    let s = shapeOf c in
+    (l : Ledger) (w : List ℕ) → frameRule controller (keptFrame g) ≡ true → Shows c s l (part (s .end) d) (part (16 * s .tasks) z) w → a' ≡ written (answer 1 0 l) a
 
 -- any other
 pub record GoesOn (f : Option (List ℕ)) (m m' : Memory) : Type 0 where
@@ -131,8 +137,8 @@ module _ {f : List ℕ} {m m' : Memory} {r : ℕ} (full : Full m) (h : Configure
   accepted-begins z =
       let a = h .accepted (sizes-full m full) z in
       let c = configIn f in
-      begins (some f) (record { stand = runs c (fresh c); answer = answer 0 0 (fresh c) }) (rw (eq-eqb _ _ z)) (refl, a .1, a .2, a .3, once-fresh c)
-      (answers-written m' (answer 0 0 (fresh c)) (m .answer) (answer-short c (fresh c) m' (a .3) 0 0 .1) (a .4))
+      begins (some f) (record { stand = runs c (fresh c); answer = answer 0 0 (fresh c) }) (rw (eq-eqb _ _ z)) (refl, begins-config a, a .well, a .shown, once-fresh c)
+      (answers-written m' (answer 0 0 (fresh c)) (m .answer) (answer-short c (fresh c) m' (a .shown) 0 0 .1) (a .answered))
 
   refused-begins : (configRefusal f ≡ 0 → ⊥) → Begins (some f) m' Ended
   unfolding configures At answering refusedConfiguration
@@ -146,7 +152,7 @@ module _ {f : List ℕ} {m m' : Memory} {r : ℕ} (full : Full m) (h : Configure
   number-is = go (eqb (configRefusal f) 0) refl
     where
       go : (b : Bool) → eqb (configRefusal f) 0 ≡ b → r ≡ configRefusal f
-      go true e = let z = eqb-true (configRefusal f) 0 e in h .accepted (sizes-full m full) z .0 ∙ sym z
+      go true e = let z = eqb-true (configRefusal f) 0 e in h .accepted (sizes-full m full) z .number ∙ sym z
       go false e = h .refused (sizes-full m full) (eqb-false (configRefusal f) 0 e) .0
 
   pub begins-running : {o : Option (List ℕ)} → o ≡ some f → r ≡ 0 → Begins o m' Running
@@ -157,31 +163,28 @@ module _ {f : List ℕ} {m m' : Memory} {r : ℕ} (full : Full m) (h : Configure
 
 -- ---- a line that is no frame
 
-pub refuses-line : (g d z a a' : List ℕ) (s : Shape) → Of (configured g) s
-    → ((c : Config) (l : Ledger) (w : List ℕ) → Shows c s l d z w → a' ≡ written (answer 1 0 l) a) → RefusesLine g d z a a'
+pub refuses-line : (g d z a a' : List ℕ) (s : Shape) → Of (configIn (keptFrame g)) s → TellsNow s d z 1 a a' → RefusesLine g d z a a'
 refuses-line g d z a a' s o tells =
-    λ l w h v. tells (configured g) l w (subst (λ (x : Shape). Shows (configured g) x l d z w) (sym (of-one (configured g) s o)) v)
+    let c = configIn (keptFrame g) in
+    λ l w h v. tells c l w (subst (λ (x : Shape). Shows c x l (part (x .end) d) (part (16 * x .tasks) z) w) (sym (of-one c s o)) v)
 
 -- ---- any other line
 
-runs-on : {m m' : Memory} (c : Config) (l l' : Ledger) → At (runs c l) Running m → SameSizes m m' → m' .config ≡ m .config → Displays c l' m' → Once c (l' .mailboxes)
-    → At (runs c l') Running m'
-unfolding At
-runs-on {m = m} {m' = m'} c l l' h s e d o =
-    let k : configured (m' .config) ≡ c = ap configured e ∙ h .1 in
-    let r : rule controller (configured (m' .config)) ≡ true = ap (λ (x : List ℕ). rule controller (configured x)) e ∙ well-rule m (h .2) in
-    (refl, k, displays-well m' l' (full-kept s ∙ well-full m (h .2)) r (subst (λ (x : Config). Displays x l' m') (sym k) d) (subst (λ (x : Config). Once x (l' .mailboxes)) (sym k) o), d, o)
+-- with another answer
+answered-well : (g d z w a a' : List ℕ) → length a' ≡ length a → lentWell (memory g d z w a) ≡ true → lentWell (memory g d z w a') ≡ true
+unfolding lentWell lentWellFor hasSizes isMarked configOf tablesIn
+answered-well g d z w a a' n h = rw n h
 
 pub goes-on-none : {f : Option (List ℕ)} (g d z w a a' : List ℕ) → f ≡ none → length a' ≡ length a → RefusesLine g d z a a' → GoesOn f (memory g d z w a) (memory g d z w a')
-unfolding At Displays steps stepLine
+unfolding At Displays configOf tablesIn slotsIn timersIn steps stepLine
 goes-on-none g d z w a a' e n h =
     let m = memory g d z w a in
     let m' = memory g d z w a' in
     rw e (record {
       tells = λ c l k.
-          let v : Shows (configured g) (shapeOf (configured g)) l d z w = subst (λ (x : Config). Shows x (shapeOf x) l d z w) (sym (k .1)) (k .3) in (
-            runs-on {m = m} {m' = m'} c l l k (record { config = refl; tables = refl; slots = refl; timers = refl; answer = n }) refl (k .3) (k .4),
-            answers-written m' (answer 1 0 l) a (answer-short c l m (k .3) 1 0 .1) (h l w (well-rule m (k .2)) v),
+          let v = subst (λ (x : Config). let s = shapeOf x in Shows x s l (part (s .end) d) (part (16 * s .tasks) z) (part (timersBytes s) w)) (sym (k .1)) (k .3) in (
+            (refl, k .1, answered-well g d z w a a' n (k .2), k .3, k .4),
+            answers-written m' (answer 1 0 l) a (answer-short c l m (k .3) 1 0 .1) (h l _ (well-frame m (k .2)) v),
           );
     })
 
@@ -190,10 +193,11 @@ unfolding At steps stepLine
 goes-on-frame {f = f} {m = m} {m' = m'} e h =
     rw e (record {
       tells = λ c l k.
-          let v : Displays (configured (m .config)) l m = subst (λ (x : Config). Displays x l m) (sym (k .1)) (k .3) in
+          let v : Displays (configOf m) l m = subst (λ (x : Config). Displays x l m) (sym (k .1)) (k .3) in
+          let o : Once (configOf m) (l .mailboxes) = subst (λ (x : Config). Once x (l .mailboxes)) (sym (k .1)) (k .4) in
           let g = h .good (k .2) l v in
-          let t = subst (λ (x : Config). Displays x (step x f l .ledger) m' × (m' .answer ≡ written (step x f l .answered) (m .answer))) (k .1) (g .1, g .2) in (
-            runs-on {m = m} {m' = m'} c l (step c f l .ledger) k (h .sizes) (h .config) (t .0) (once-step c f l (k .4)),
+          let t = subst (λ (x : Config). Displays x (step x f l .ledger) m' × (m' .answer ≡ written (step x f l .answered) (m .answer))) (k .1) (g .shown, g .answered) in (
+            (refl, config-stays h ∙ k .1, well-again h l (k .2) v o, t .0, once-step c f l (k .4)),
             answers-written m' (step c f l .answered) (m .answer) (step-short c f l m' (t .0)) (t .1),
           );
     })

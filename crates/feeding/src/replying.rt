@@ -48,17 +48,14 @@ pub fn reply_first(
 
 // The answer to a line that is no frame.
 fn refuse_line(config: &[u8], tables: &[u8], slots: &[u8], answer: &mut [u8])
-    requires { ⌜ (198 ≤ length (now config)) × (7509 ≤ length (now tables)) × (2016 ≤ length (now slots)) × (21 ≤ length (now answer)) ⌝ }
+    requires { ⌜ (208 ≤ length (now config)) × (7517 ≤ length (now tables)) × (2024 ≤ length (now slots)) × (21 ≤ length (now answer)) ⌝ }
     ensures { λ _. ⌜ RefusesLine (now (config .entry)) (now (tables .entry)) (now (slots .entry)) (now (answer .entry)) (now (answer .exit)) ⌝ }
 {
     let limits = controller();
-    let l = configuration::block::lent(limits, config);
+    let l = mcx11::lent::by_frame(limits, config);
     match l {
         Lent::Bad => {}
-        Lent::Good(shape) => {
-            let running = tables::tasks::running(tables, shape);
-            answer::write(tables, slots, shape, running, 1, 0, answer);
-        }
+        Lent::Good(shape) => mcx11::entries::tell(tables, slots, shape, 1, answer),
     }
 }
 

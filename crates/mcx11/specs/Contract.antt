@@ -16,7 +16,7 @@ use Rattle.configuration.specs.Limits.{longest}
 use Rattle.configuration.specs.Block.{frameRule}
 use Rattle.configuration.specs.Layout.{shapeOf}
 use Rattle.configuration.specs.Started.{timersBytes}
-use Rattle.parts.specs.Parts.{partAt, frameAt, markedBy, part, frameOf, Stays, Spares}
+use Rattle.parts.specs.Parts.{partAt, frameAt, markedBy, part, keptFrame, Stays, Spares}
 use Rattle.answer.specs.Written.{written}
 
 -- all that the host lends
@@ -80,7 +80,7 @@ isMarked n m =
 
 -- the configuration that the memory holds, by its frame
 unfoldable pub configOf : Memory → Config
-configOf m = configIn (frameOf (m .config))
+configOf m = configIn (keptFrame (m .config))
 
 -- the parts that a configuration needs
 unfoldable pub tablesIn : Config → Memory → List ℕ
@@ -101,7 +101,7 @@ messagesSound c d = let s = shapeOf c in ltb (counted s d) (s .messages) || whol
 -- the sizes, the marks, the frame of a configuration, and the messages, by the limits of the executive that the memory is lent to
 unfoldable pub lentWellFor : Limits → Memory → Bool
 lentWellFor k m =
-    hasSizes (sizesOf k) m && isMarked (sizesOf k) m && frameRule k (frameOf (m .config)) && messagesSound (configOf m) (tablesIn (configOf m) m)
+    hasSizes (sizesOf k) m && isMarked (sizesOf k) m && frameRule k (keptFrame (m .config)) && messagesSound (configOf m) (tablesIn (configOf m) m)
 
 unfoldable pub lentWell : Memory → Bool
 lentWell m = lentWellFor controller m
@@ -141,7 +141,7 @@ answering a m = record { config = m .config; tables = m .tables; slots = m .slot
 
 pub record Begins (f : List ℕ) (m m' : Memory) (r : ℕ) : Type 0 where
   pub number : r ≡ 0
-  pub frame : frameOf (m' .config) ≡ f
+  pub frame : keptFrame (m' .config) ≡ f
   pub well : lentWell m' ≡ true
   pub shown : Displays (configIn f) (fresh (configIn f)) m'
   pub answered : m' .answer ≡ written (session.answer 0 0 (fresh (configIn f))) (m .answer)

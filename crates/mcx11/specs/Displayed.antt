@@ -19,7 +19,7 @@ use Rattle.ledger.specs.Theorems.Once.{Once}
 use Rattle.mailboxes.specs.Room.{soundIn}
 use Rattle.mailboxes.specs.Whole.{sound-shown}
 use Rattle.configuration.specs.Block.{frameRule}
-use Rattle.parts.specs.Parts.{frameOf}
+use Rattle.parts.specs.Parts.{keptFrame}
 use Rattle.configuration.specs.Layout.{shapeOf}
 use Rattle.answer.specs.Read as read
 use Rattle.mcx11.specs.Contract.{Memory, sizesOf, fullSize, isMarked, configOf, tablesIn, slotsIn, timersIn, messagesSound, lentWellFor, lentWell, Displays}
@@ -53,7 +53,7 @@ items-shown c l m h =
 -- ---- lent well
 
 -- the messages' rule is kept where the ledger has none twice
-pub displays-well : (m : Memory) (l : Ledger) → fullSize m ≡ true → isMarked (sizesOf controller) m ≡ true → frameRule controller (frameOf (m .config)) ≡ true → Displays (configOf m) l m
+pub displays-well : (m : Memory) (l : Ledger) → fullSize m ≡ true → isMarked (sizesOf controller) m ≡ true → frameRule controller (keptFrame (m .config)) ≡ true → Displays (configOf m) l m
     → Once (configOf m) (l .mailboxes) → lentWell m ≡ true
 unfolding lentWell lentWellFor fullSize messagesSound soundIn Displays
 displays-well m l f k r h o = let c = configOf m in rw (f, k, r) (sound-shown c (shapeOf c) l (tablesIn c m) (slotsIn c m) (timersIn c m) h o)

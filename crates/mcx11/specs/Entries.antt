@@ -29,7 +29,7 @@ use Rattle.executive.specs.Lent.{Lent, lent}
 use Rattle.executive.specs.Meeting.{never}
 use Rattle.executive.specs.Stepped.{Steps}
 use Rattle.answer.specs.Written.{written}
-use Rattle.parts.specs.Parts.{partAt, frameAt, markedBy, ends, part, frameOf, kept, Stays, Spares}
+use Rattle.parts.specs.Parts.{partAt, frameAt, markedBy, ends, part, keptFrame, kept, Stays, Spares}
 use Rattle.parts.specs.Laws.{length-ends, marks-after, spares-after, part-stays, back-part, back-stays, back-same, kept-frame}
 use Rattle.mcx11.specs.Contract.{Memory, memory, Sizes, sizesOf, fullSize, configMark, tablesMark, slotsMark, timersMark, isMarked, configOf, tablesIn, slotsIn, timersIn, messagesSound, lentWell, Displays, SameSizes, OutsideStays, OutsideSpared, answering, Begins, Configures, Goes, Frames}
 use Rattle.mcx11.specs.Sizes.{Sized, sized, full-sizes, full-kept, well-full, well-frame, well-messages}
@@ -40,12 +40,12 @@ use Rattle.mcx11.specs.Displayed.{displays-well}
 
 -- the frame that the block keeps and the parts lie within the blocks, and the messages are sound. (No record, so that its parts stay out of sight)
 pub data Room (s : Shape) (g d z w : List ℕ) : Type 0 where
-  room : Of (configIn (frameOf g)) s → length (frameOf g) ≡ frameBytes s → frameAt + word partAt g ≤ length g → partAt + s .end ≤ length d → partAt + 16 * s .tasks ≤ length z
+  room : Of (configIn (keptFrame g)) s → length (keptFrame g) ≡ frameBytes s → frameAt + word partAt g ≤ length g → partAt + s .end ≤ length d → partAt + 16 * s .tasks ≤ length z
       → partAt + timersBytes s ≤ length w → soundIn s (part (s .end) d) ≡ true → Room s g d z w
 
 -- the parts went as the ledger goes, and the bytes outside them stay
 pub record Feeds (s : Shape) (f g d z w a d' z' w' a' : List ℕ) (r : ℕ) : Type 0 where
-  pub steps : Steps (configIn (frameOf g)) s f (part (s .end) d) (part (16 * s .tasks) z) (part (timersBytes s) w) a (part (s .end) d') (part (16 * s .tasks) z') (part (timersBytes s) w') a' r
+  pub steps : Steps (configIn (keptFrame g)) s f (part (s .end) d) (part (16 * s .tasks) z) (part (timersBytes s) w) a (part (s .end) d') (part (16 * s .tasks) z') (part (timersBytes s) w') a' r
   pub tables : Stays (s .end) d d'
   pub slots : Stays (16 * s .tasks) z z'
   pub timers : Stays (timersBytes s) w w'
@@ -78,7 +78,7 @@ module _ {s : Shape} {g d z w : List ℕ} where
       let nz = length-cut z partAt (partAt + 16 * s .tasks) x in
       let nw = length-cut w partAt (partAt + timersBytes s) y in
       let l = o .laid in
-      let q : Lent (frameOf g) s (length (cut d partAt (partAt + s .end))) (length (cut z partAt (partAt + 16 * s .tasks))) (length (cut w partAt (partAt + timersBytes s))) =
+      let q : Lent (keptFrame g) s (length (cut d partAt (partAt + s .end))) (length (cut z partAt (partAt + 16 * s .tasks))) (length (cut w partAt (partAt + timersBytes s))) =
       lent (configures b o) (fitting l (omega arith)) (omega arith) (holding (omega arith) (l .timers)) in
       (subst (λ (v : List ℕ). Lent v s (length (cut d partAt (partAt + s .end))) (length (cut z partAt (partAt + 16 * s .tasks))) (length (cut w partAt (partAt + timersBytes s)))) (sym (frame-is g n e)) q, k)
 
@@ -95,7 +95,7 @@ module _ {s : Shape} {g d z w : List ℕ} where
       let bd = back-part d (s .end) ds nd t in
       let bz = back-part z (16 * s .tasks) zs nz x in
       let bw = back-part w (timersBytes s) ws nw y in
-      let c : Config = configIn (frameOf g) in
+      let c : Config = configIn (keptFrame g) in
       let h₁ : Steps c s f (part (s .end) d) (part (16 * s .tasks) z) (part (timersBytes s) w) a ds zs ws a' r =
       subst (λ (v : List ℕ). Steps (configIn v) s f (part (s .end) d) (part (16 * s .tasks) z) (part (timersBytes s) w) a ds zs ws a' r) (frame-is g n e) h in
       let h₂ : Steps c s f (part (s .end) d) (part (16 * s .tasks) z) (part (timersBytes s) w) a (part (s .end) (putMid partAt (partAt + s .end - partAt) d ds)) zs ws a' r =
@@ -125,32 +125,32 @@ module _ (f g d z w a : List ℕ) where
         unchanged = λ k n. (refl, refl, refl);
       }
 
-  module _ (s : Shape) (well : lentWell m ≡ true) (o : Of (configIn (frameOf g)) s) where
-    abbrev keeps : frameRule controller (frameOf g) ≡ true
+  module _ (s : Shape) (well : lentWell m ≡ true) (o : Of (configIn (keptFrame g)) s) where
+    abbrev keeps : frameRule controller (keptFrame g) ≡ true
     keeps = well-frame m well
 
     is-shape : s ≡ shapeOf (configOf m)
     unfolding configOf
-    is-shape = of-one (configIn (frameOf g)) s o
+    is-shape = of-one (configIn (keptFrame g)) s o
 
     sound-here : soundIn s (part (s .end) d) ≡ true
     unfolding configOf tablesIn
     sound-here =
-        let c : Config = configIn (frameOf g) in
+        let c : Config = configIn (keptFrame g) in
         sound-is c s o (part (s .end) d) ∙ ap (λ (x : Shape). messagesSound c (part (x .end) d)) (of-one c s o) ∙ well-messages m well
 
-    frame-length : length (frameOf g) ≡ min (frameAt + word partAt g - frameAt) (length g - frameAt)
-    unfolding frameOf
+    frame-length : length (keptFrame g) ≡ min (frameAt + word partAt g - frameAt) (length g - frameAt)
+    unfolding keptFrame
     frame-length = simp (length-take, length-drop) refl
 
     pub room-here : Room s g d z w × (21 ≤ length a)
     unfolding configIn
     room-here =
         let n = full-sizes m (well-full m well) in
-        let c : Config = configIn (frameOf g) in
-        let r = frame-rule controller controller-made (frameOf g) keeps in
-        let b = frame-whole controller controller-made (frameOf g) keeps in
-        let u = frame-short controller controller-made (frameOf g) keeps in
+        let c : Config = configIn (keptFrame g) in
+        let r = frame-rule controller controller-made (keptFrame g) keeps in
+        let b = frame-whole controller controller-made (keptFrame g) keeps in
+        let u = frame-short controller controller-made (keptFrame g) keeps in
         let i = tables-within controller controller-made c r s o in
         let j = slots-within controller controller-made c r s o in
         let k = timers-within controller controller-made c r s o in (
@@ -161,7 +161,7 @@ module _ (f g d z w a : List ℕ) where
     pub frame-fed : (d' z' w' a' : List ℕ) (r : ℕ) → SameSizes m (memory g d' z' w' a') → Feeds s f g d z w a d' z' w' a' r → Frames f m (memory g d' z' w' a') r
     unfolding configOf tablesIn slotsIn timersIn Displays
     frame-fed d' z' w' a' r sizes h =
-        let c : Config = configIn (frameOf g) in
+        let c : Config = configIn (keptFrame g) in
         let p : s ≡ shapeOf c = is-shape in
         record {
           sizes = sizes;
@@ -255,12 +255,12 @@ module _ (f : List ℕ) (zero : configRefusal f ≡ 0) (s : Shape) (o : Of (conf
         let b = begin-fits in
         ap (λ (x : List ℕ). getD x i 0) eg ∙ part-stays (ends configMark 208 g) (2 + length f) (kept f) (omega arith) (omega (arith, b .0, n .config)) i k
 
-    frame-here : frameOf g' ≡ f
+    frame-here : keptFrame g' ≡ f
     frame-here =
         let n = full-sizes m₀ full in
         let e = length-ends g 208 configMark (omega arith) (n .config) in
         let b = begin-fits in
-        ap frameOf eg ∙ kept-frame (ends configMark 208 g) f (omega (arith, b .0)) (omega (arith, b .0, n .config))
+        ap keptFrame eg ∙ kept-frame (ends configMark 208 g) f (omega (arith, b .0)) (omega (arith, b .0, n .config))
 
     config-here : configOf m₁ ≡ configIn f
     unfolding configOf

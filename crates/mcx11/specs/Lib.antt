@@ -5,3 +5,4 @@ pub mod Tested
 pub mod Entries
 pub mod Answer
 pub mod Displayed
+pub mod Kept

@@ -9,7 +9,7 @@ use lib.ListN.{length}
 use Rattle.ledger.specs.Theorems.Checks.{and-left, and-right}
 use Rattle.ledger.specs.Config.{Limits, controller}
 use Rattle.configuration.specs.Block.{frameRule}
-use Rattle.parts.specs.Parts.{frameOf}
+use Rattle.parts.specs.Parts.{keptFrame}
 use Rattle.mcx11.specs.declared.lent.Sizes as code
 use Rattle.mcx11.specs.Contract.{Memory, memory, Sizes, sizesOf, hasSizes, fullSize, isMarked, configOf, tablesIn, messagesSound, lentWellFor, lentWell, SameSizes}
 
@@ -74,7 +74,7 @@ module _ (m : Memory) (h : lentWell m ≡ true) where
   sound = messagesSound (configOf m) (tablesIn (configOf m) m)
 
   abbrev framed : Bool
-  framed = frameRule controller (frameOf (m .config))
+  framed = frameRule controller (keptFrame (m .config))
 
   pub well-full : fullSize m ≡ true
   unfolding lentWell lentWellFor fullSize
@@ -84,7 +84,7 @@ module _ (m : Memory) (h : lentWell m ≡ true) where
   unfolding lentWell lentWellFor
   well-marked = and-right (hasSizes (sizesOf controller) m) _ (and-left _ framed (and-left _ sound h))
 
-  pub well-frame : frameRule controller (frameOf (m .config)) ≡ true
+  pub well-frame : frameRule controller (keptFrame (m .config)) ≡ true
   unfolding lentWell lentWellFor
   well-frame = and-right (hasSizes (sizesOf controller) m && isMarked (sizesOf controller) m) _ (and-left _ sound h)
 

@@ -6,7 +6,7 @@ use mathlib.Core.List.{List}
 use native.Mathlib.Omega.{arith}
 use lib.Dec.{eqb, leb}
 use borrow.Author.Tests.{leb-true, eqb-true}
-use lib.ListN.{length, length-take, length-drop}
+use lib.ListN.{length, drop, length-take, length-drop}
 use Rattle.ledger.specs.Lists.{byte, word}
 use Rattle.ledger.specs.Config.{Config, Limits, controller, configIn, goodHead}
 use Rattle.ledger.specs.Theorems.Checks.{and-left, and-right}
@@ -16,12 +16,13 @@ use Rattle.tables.specs.Shows.{bytesOf, Of}
 use Rattle.mailboxes.specs.Room.{soundIn}
 use Rattle.configuration.specs.declared.Lent.{Lent}
 use Rattle.configuration.specs.declared.Lent.the-variants.{Bad, Good}
-use Rattle.configuration.specs.Limits.{longest, Made}
+use Rattle.configuration.specs.Limits.{longest, Made, controller-made}
 use Rattle.configuration.specs.Block.{rule, frameRule}
-use Rattle.configuration.specs.Layout.{shapeOf, of-one, Lends, rule-head, rule-room}
+use Rattle.configuration.specs.Layout.{shapeOf, of-one, of-shape, Lends, rule-head, rule-room}
+use Rattle.configuration.specs.Lent.{shapes-length}
 use Rattle.configuration.specs.Started.{timersBytes}
 use Rattle.rows.specs.Splice.{cut}
-use Rattle.parts.specs.Parts.{partAt, frameAt, markedBy, part, frameOf}
+use Rattle.parts.specs.Parts.{partAt, frameAt, markedBy, part, keptFrame}
 use Rattle.mcx11.specs.Contract.{Memory, memory, Sizes, sizesOf, hasSizes, configMark, tablesMark, slotsMark, timersMark, isMarked, configOf, tablesIn, messagesSound, lentWellFor, lentWell}
 use Rattle.mcx11.specs.Sizes.{Sized, sized}
 
@@ -31,7 +32,7 @@ AllAnswers n P = (a : List ℕ) → length a ≡ n → P a
 
 abbrev pub Tested : Limits → (g d z w : List ℕ) → ℕ → Lent → Type 0
 Tested k g d z w n Bad = AllAnswers n (λ a. lentWellFor k (memory g d z w a) ≡ false)
-Tested k g d z w n (Good s) = Of (configIn (frameOf g)) s × AllAnswers n (λ a. lentWellFor k (memory g d z w a) ≡ true)
+Tested k g d z w n (Good s) = Of (configIn (keptFrame g)) s × AllAnswers n (λ a. lentWellFor k (memory g d z w a) ≡ true)
 
 -- what the reading of the frame says
 pub lends-bad : (k : Limits) (f : List ℕ) {r : Lent} → Lends k f r → r ≡ Bad → frameRule k f ≡ false
@@ -39,6 +40,13 @@ lends-bad k f h e = subst (Lends k f) e h
 
 pub lends-good : (k : Limits) (f : List ℕ) {r : Lent} {s : Shape} → Lends k f r → r ≡ Good s → (frameRule k f ≡ true) × Of (configIn f) s
 lends-good k f h e = subst (Lends k f) e h
+
+-- and by the controller's limits
+pub lent-bad : (k : Limits) → k ≡ controller → (f : List ℕ) {r : Lent} → Lends k f r → r ≡ Bad → frameRule controller f ≡ false
+lent-bad k ek f h e = ap (λ (x : Limits). frameRule x f) (sym ek) ∙ lends-bad k f h e
+
+pub lent-good : (k : Limits) → k ≡ controller → (f : List ℕ) {r : Lent} {s : Shape} → Lends k f r → r ≡ Good s → (frameRule controller f ≡ true) × Of (configIn f) s
+lent-good k ek f h e = let x = lends-good k f h e in (ap (λ (y : Limits). frameRule y f) (sym ek) ∙ x .0, x .1)
 
 -- ---- a frame that keeps the rule
 
@@ -55,9 +63,17 @@ module _ (k : Limits) (made : Made k) (f : List ℕ) (keeps : frameRule k f ≡ 
   unfolding configIn
   frame-short = let h = rule-head k made (configIn f) frame-rule in omega (arith, frame-whole, h .few, h .queues)
 
+  frame-shapes : length (configIn f .shapes) ≡ configIn f .Q
+  unfolding configIn
+  frame-shapes = shapes-length (drop (8 + byte 0 f) f) (byte 2 f) (simp length-drop (omega (arith, frame-whole)))
+
+  -- the shape of its tables
+  pub frame-shape : Of (configIn f) (shapeOf (configIn f))
+  frame-shape = of-shape k made (configIn f) frame-rule frame-shapes
+
 -- by the length that was read
-pub frame-is : (g : List ℕ) (n : ℕ) → n ≡ word partAt g → cut g frameAt (frameAt + n) ≡ frameOf g
-unfolding frameOf
+pub frame-is : (g : List ℕ) (n : ℕ) → n ≡ word partAt g → cut g frameAt (frameAt + n) ≡ keptFrame g
+unfolding keptFrame
 frame-is g n e = ap (λ (x : ℕ). cut g frameAt (frameAt + x)) e
 
 -- a length above the longest is no frame's
@@ -65,15 +81,15 @@ module _ (k : Limits) (made : Made k) (g : List ℕ) (room : frameAt + longest k
   pub frame-inside : n ≤ longest k → frameAt + n ≤ length g
   frame-inside h = omega arith
 
-  frame-longer : longest k < n → longest k < length (frameOf g)
-  unfolding frameOf
+  frame-longer : longest k < n → longest k < length (keptFrame g)
+  unfolding keptFrame
   frame-longer h = simp (length-take, length-drop) (omega arith)
 
-  pub too-long : longest k < n → frameRule k (frameOf g) ≡ false
-  too-long h = go (frameRule k (frameOf g)) refl
+  pub too-long : longest k < n → frameRule k (keptFrame g) ≡ false
+  too-long h = go (frameRule k (keptFrame g)) refl
     where
-      go : (b : Bool) → frameRule k (frameOf g) ≡ b → b ≡ false
-      go true q = absurd (omega (arith, frame-short k made (frameOf g) q, frame-longer h))
+      go : (b : Bool) → frameRule k (keptFrame g) ≡ b → b ≡ false
+      go true q = absurd (omega (arith, frame-short k made (keptFrame g) q, frame-longer h))
       go false q = refl
 
 -- ---- the messages, in the configuration's terms
@@ -99,6 +115,13 @@ module _ (k : Limits) (made : Made k) (c : Config) (keeps : rule k c ≡ true) (
   pub timers-within : partAt + timersBytes s + 4 ≤ sizesOf k .timers
   unfolding sizesOf
   timers-within = let h = rule-head k made c keeps in omega (arith, o .timers, h .timers)
+
+-- ---- by the controller's sizes, one by one
+pub frame-fits : (f : List ℕ) → frameRule controller f ≡ true → (s : Shape) → Of (configIn f) s → (partAt + s .end + 4 ≤ 7517) × (partAt + 16 * s .tasks + 4 ≤ 2024) × (partAt + timersBytes s + 4 ≤ 659)
+unfolding sizesOf
+frame-fits f keeps s o =
+    let r = frame-rule controller controller-made f keeps in
+    (tables-within controller controller-made (configIn f) r s o, slots-within controller controller-made (configIn f) r s o, timers-within controller controller-made (configIn f) r s o)
 
 -- ---- the ways out
 
@@ -146,24 +169,24 @@ module _ (k : Limits) (g d z w : List ℕ) (na : ℕ) (n : Sizes) (en : n ≡ si
         tested-unmarked f a ea = rw (told b e a ea ∙ full, marks-told a ∙ f)
 
         module _ (marked : x ≡ true) where
-          pub tested-rule : frameRule k (frameOf g) ≡ false → Tested k g d z w na Bad
+          pub tested-rule : frameRule k (keptFrame g) ≡ false → Tested k g d z w na Bad
           unfolding lentWellFor
           tested-rule r a ea = rw (told b e a ea ∙ full, marks-told a ∙ marked, r)
 
-          module _ (made : Made k) (keeps : frameRule k (frameOf g) ≡ true) (s : Shape) (o : Of (configIn (frameOf g)) s) where
+          module _ (made : Made k) (keeps : frameRule k (keptFrame g) ≡ true) (s : Shape) (o : Of (configIn (keptFrame g)) s) where
             pub tested-fits : Fits s (s .end) × (partAt + s .end ≤ length d)
             tested-fits =
                 let t = all-sizes in
                 let h : n .tables ≤ length d = leb-true (n .tables) (length d) (search (and-left, and-right) depth 9) in
                 let c : n .tables ≡ sizesOf k .tables = ap (λ (x : Sizes). x .tables) en in
-                (fitting (o .laid) (omega arith), omega (arith, tables-within k made (configIn (frameOf g)) (frame-rule k made (frameOf g) keeps) s o))
+                (fitting (o .laid) (omega arith), omega (arith, tables-within k made (configIn (keptFrame g)) (frame-rule k made (keptFrame g) keeps) s o))
 
             pub tested-messages : (r : Lent) → r ≡ cond (soundIn s (part (s .end) d)) (Good s) Bad → Tested k g d z w na r
             unfolding lentWellFor tablesIn configOf
             tested-messages r er = subst (Tested k g d z w na) (sym er) (go (soundIn s (part (s .end) d)) refl)
               where
-                same : soundIn s (part (s .end) d) ≡ messagesSound (configIn (frameOf g)) (part (shapeOf (configIn (frameOf g)) .end) d)
-                same = sound-is (configIn (frameOf g)) s o (part (s .end) d) ∙ ap (λ (x : Shape). messagesSound (configIn (frameOf g)) (part (x .end) d)) (of-one (configIn (frameOf g)) s o)
+                same : soundIn s (part (s .end) d) ≡ messagesSound (configIn (keptFrame g)) (part (shapeOf (configIn (keptFrame g)) .end) d)
+                same = sound-is (configIn (keptFrame g)) s o (part (s .end) d) ∙ ap (λ (x : Shape). messagesSound (configIn (keptFrame g)) (part (x .end) d)) (of-one (configIn (keptFrame g)) s o)
 
                 go : (x : Bool) → soundIn s (part (s .end) d) ≡ x → Tested k g d z w na (cond x (Good s) Bad)
                 go true h = (o, λ a ea. rw (told b e a ea ∙ full, marks-told a ∙ marked, keeps) (sym same ∙ h))
@@ -179,5 +202,5 @@ module _ (k : Limits) (ek : k ≡ controller) (g d z w a : List ℕ) (r : Lent) 
   pub tested-bad : r ≡ Bad → lentWell (memory g d z w a) ≡ false
   tested-bad e = for-controller k ek (memory g d z w a) false (subst (Tested k g d z w (length a)) e h a refl)
 
-  pub tested-good : {s : Shape} → r ≡ Good s → Of (configIn (frameOf g)) s × (lentWell (memory g d z w a) ≡ true)
+  pub tested-good : {s : Shape} → r ≡ Good s → Of (configIn (keptFrame g)) s × (lentWell (memory g d z w a) ≡ true)
   tested-good {s} e = let x = subst (Tested k g d z w (length a)) e h in (x .0, for-controller k ek (memory g d z w a) true (x .1 a refl))

@@ -16,7 +16,7 @@ ghost use Rattle.configuration.specs.Limits as limit;
 ghost use Rattle.configuration.specs.Limits.{limitsOf, Made};
 ghost use Rattle.configuration.specs.Layout.{Lends};
 ghost use Rattle.configuration.specs.declared.Lent.the-variants as variants;
-ghost use Rattle.parts.specs.Parts.{partAt, frameAt, markedBy, part, frameOf};
+ghost use Rattle.parts.specs.Parts.{partAt, frameAt, markedBy, part, keptFrame};
 ghost use Rattle.mcx11.specs.Contract.{sizesOf, configMark, tablesMark, slotsMark, timersMark};
 ghost use Rattle.mcx11.specs.Sizes.{sizesIn, Sized};
 ghost use Rattle.mcx11.specs.Tested.{Tested};
@@ -121,7 +121,7 @@ fn is_marked(n: Sizes, config: &[u8], tables: &[u8], slots: &[u8], timers: &[u8]
 // The frame that the block keeps.
 pub fn by_frame(limits: Limits, config: &[u8]) -> Lent
     requires { ⌜ Made (limitsOf limits) × (frameAt + limit.longest (limitsOf limits) + 4 ≤ length (now config)) ⌝ }
-    ensures { λ r. ⌜ Lends (limitsOf limits) (frameOf (now (config .entry))) r ⌝ }
+    ensures { λ r. ⌜ Lends (limitsOf limits) (keptFrame (now (config .entry))) r ⌝ }
 {
     let n = parts::frame_length(config);
     if n > longest(limits) {

@@ -15,7 +15,7 @@ use Rattle.rows.specs.Laws.{length-cut, length-splice, splice-splice, cut-whole
 use Rattle.rows.specs.Four.{le4, bytes4, four-back}
 use borrow.Rule.Slice.PartMut.{putMid, put-same}
 use Rattle.rows.specs.Bytes.{byte-in, byte-below, byte-above, lent-part}
-use Rattle.parts.specs.Parts.{partAt, frameAt, markedBy, ends, part, frameOf, kept, Stays, Spares}
+use Rattle.parts.specs.Parts.{partAt, frameAt, markedBy, ends, part, keptFrame, kept, Stays, Spares}
 
 -- ---- four bytes of a block of which only others are new
 
@@ -112,8 +112,8 @@ keeping b f d n e room h =
     ∙ sets-eq (length f / 256 ∷ length f % 256 ∷ []) (splice b frameAt f) partAt (omega (arith, length-splice b frameAt f room))
     ∙ kept-is b f room
 
-pub kept-frame : (b f : List ℕ) → length f ≤ 65535 → frameAt + length f ≤ length b → frameOf (splice b partAt (kept f)) ≡ f
-unfolding frameOf
+pub kept-frame : (b f : List ℕ) → length f ≤ 65535 → frameAt + length f ≤ length b → keptFrame (splice b partAt (kept f)) ≡ f
+unfolding keptFrame
 kept-frame b f few room =
     let z : partAt + 0 ≡ partAt = omega arith in
     let h : byte partAt (splice b partAt (kept f)) ≡ length f / 256 = ap (λ (i : ℕ). getD (splice b partAt (kept f)) i 0) (sym z) ∙ byte-in b (kept f) partAt (omega arith) 0 (omega arith) in

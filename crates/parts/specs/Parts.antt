@@ -29,8 +29,8 @@ unfoldable pub part : ℕ → List ℕ → List ℕ
 part n b = cut b partAt (partAt + n)
 
 -- the frame in the block of the configuration: its length lies before it
-unfoldable pub frameOf : List ℕ → List ℕ
-frameOf g = cut g frameAt (frameAt + word partAt g)
+unfoldable pub keptFrame : List ℕ → List ℕ
+keptFrame g = cut g frameAt (frameAt + word partAt g)
 
 -- such a length and the frame, as they lie there
 abbrev pub kept : List ℕ → List ℕ

@@ -4,7 +4,7 @@ use mathlib.Core.List.{map, List, [], _∷_, _++_, append-assoc}
 use Prim.Native.Nat.{ℕ, zero, suc, _+_, _-_, _*_, _<_, _≤_}
 use native.Mathlib.Nat.{zero-mul, suc-mul, add-mul, suc-add, zero-add, add-comm, mul-le-mul-right, one-mul}
 use native.Mathlib.Omega.{arith}
-use lib.ListN.{drop-of-length-le, length, getD, take, drop, set, length-take, length-drop, take-append-drop}
+use lib.ListN.{drop-of-length-le, length, getD, take, drop, set, length-append, length-take, length-drop, take-append-drop}
 use lib.Seq.{drop-cons, getD-take, getD-drop, length-take-le, take-append-le, drop-append-le, take-at, drop-at, drop-drop, set-at, getD-at, getD-set-same, getD-set-other}
 use Rattle.rows.specs.Splice.{cut, splice}
 use Rattle.rows.specs.Laws.{splice-splice, length-cut, cut-cut, length-splice, splice-in}
@@ -152,6 +152,55 @@ inserted w n k d d₁ d₂ s room h e p q =
     let le : k * w ≤ n * w = mul-le-mul-right w h in
     let lc : length (cut d (k * w) (n * w)) ≡ n * w - k * w = length-cut d (k * w) (n * w) (omega arith) in
     rw (q, p, splice-splice d (k * w) w s (cut d (k * w) (n * w)) e (omega arith)) (rows-insert w n k d room h s e)
+
+-- the front of a list changed
+module _ {A : Type 0} (k : ℕ) (x y : List A) where
+  removeAt-front : k < length x → removeAt k (x ++ y) ≡ removeAt k x ++ y
+  removeAt-front h = rw (take-append-le k x y (omega arith), drop-append-le (k + 1) x y (omega arith)) (sym (append-assoc (take k x) (drop (k + 1) x) y))
+
+  insertAt-between : (a : A) → length x ≡ k → insertAt k a (x ++ y) ≡ x ++ a ∷ y
+  insertAt-between a e = rw (take-at x y k e, drop-at x y k e)
+
+-- row k goes out, and a row comes in as row j, at or behind it
+pub replaced : (w n k j : ℕ) (d d₁ d₂ s : List ℕ) → n * w ≤ length d → k ≤ j → j < n → length s ≡ w
+    → d₁ ≡ splice d (k * w) (cut d (k * w + w) (j * w + w)) → d₂ ≡ splice d₁ (j * w) s → rowsOf w n d₂ ≡ insertAt j s (removeAt k (rowsOf w n d))
+replaced w n k j d d₁ d₂ s room h f e p q =
+    let r : ℕ = n - j - 1 in
+    let le : k * w ≤ j * w = mul-le-mul-right w h in
+    let in-n : j * w + w ≤ n * w = omega (arith, mul-le-mul-right w f, suc-mul j w) in
+    let C : List ℕ = cut d (k * w + w) (j * w + w) in
+    let lc : length C ≡ j * w + w - (k * w + w) = length-cut d (k * w + w) (j * w + w) (omega arith) in
+    let n₁ : length d₁ ≡ length d = ap length p ∙ length-splice d (k * w) C (omega arith) in
+    let o : (j + 1) * w ≡ j * w + w = add-mul j 1 w ∙ ap (λ (x : ℕ). j * w + x) (one-mul w) in
+    let j= : j + 1 - 1 ≡ j = omega arith in
+    let X : List (List ℕ) = rowsOf w (j + 1) d in
+    let Y : List (List ℕ) = rowsOf w r (drop (j * w + w) d) in
+    let n= : n ≡ j + 1 + r = omega arith in
+    let all : rowsOf w n d ≡ X ++ Y = ap (λ (x : ℕ). rowsOf w x d) n= ∙ rows-add w (j + 1) r d ∙ ap (λ (x : ℕ). X ++ rowsOf w r (drop x d)) o in
+    let lx : length X ≡ j + 1 = length-rows w (j + 1) d in
+    let front : rowsOf w j d₁ ≡ removeAt k X =
+    ap (rowsOf w j) p
+    ∙ ap (λ (x : ℕ). rowsOf w j (splice d (k * w) (cut d (k * w + w) x))) (sym o)
+    ∙ ap (λ (x : ℕ). rowsOf w x (splice d (k * w) (cut d (k * w + w) ((j + 1) * w)))) (sym j=)
+    ∙ rows-remove w (j + 1) k d (omega arith) (omega arith) in
+    let lf : length (removeAt k X) ≡ j = ap length (sym front) ∙ length-rows w j d₁ in
+    let lt : length (take (k * w) d ++ C) ≡ j * w = simp (length-append, length-take, length-drop) (omega arith) in
+    let c= : k * w + length C + w ≡ j * w + w = omega arith in
+    let behind : drop (j * w + w) d₁ ≡ drop (j * w + w) d =
+    sym (drop-drop w (j * w) d₁)
+    ∙ ap (λ (x : List ℕ). drop w (drop (j * w) x)) p
+    ∙ ap (drop w) (drop-at (take (k * w) d ++ C) (drop (k * w + length C) d) (j * w) lt)
+    ∙ drop-drop w (k * w + length C) d
+    ∙ ap (λ (x : ℕ). drop x d) c= in
+    ap (rowsOf w n) q
+    ∙ rows-set w n j d₁ (omega arith) f s e
+    ∙ ap (λ (l : List (List ℕ)). set l j s) (rows-at w n j d₁ f)
+    ∙ set-at (rowsOf w j d₁) (rowAt w j d₁) (rowsOf w r (drop (j * w + w) d₁)) s j (length-rows w j d₁)
+    ∙ ap (λ (l : List (List ℕ)). l ++ s ∷ rowsOf w r (drop (j * w + w) d₁)) front
+    ∙ ap (λ (x : List ℕ). removeAt k X ++ s ∷ rowsOf w r x) behind
+    ∙ sym (ap (λ (l : List (List ℕ)). insertAt j s (removeAt k l)) all
+    ∙ ap (insertAt j s) (removeAt-front k X Y (omega arith))
+    ∙ insertAt-between j (removeAt k X) Y s lf)
 
 -- ---- inside a row
 

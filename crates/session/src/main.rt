@@ -46,10 +46,10 @@ fn write_out(out: &[u8], printed: usize) -> bool
 fn turn(
     reached: Reached,
     line: &mut [u8; 401],
-    config: &mut [u8; 198],
-    tables: &mut [u8; 7509],
-    slots: &mut [u8; 2016],
-    timers: &mut [u8; 651],
+    config: &mut [u8; 208],
+    tables: &mut [u8; 7517],
+    slots: &mut [u8; 2024],
+    timers: &mut [u8; 659],
     answer: &mut [u8; 21],
     out: &mut [u8; 335872],
 ) -> Fed
@@ -94,10 +94,10 @@ fn turn(
 fn end(
     reached: Reached,
     line: &[u8; 401],
-    config: &mut [u8; 198],
-    tables: &mut [u8; 7509],
-    slots: &mut [u8; 2016],
-    timers: &mut [u8; 651],
+    config: &mut [u8; 208],
+    tables: &mut [u8; 7517],
+    slots: &mut [u8; 2024],
+    timers: &mut [u8; 659],
     answer: &mut [u8; 21],
     out: &mut [u8; 335872],
 )
@@ -112,10 +112,10 @@ fn end(
 // number that no run uses up.
 fn main() {
     let mut line = [0u8; 401];
-    let mut config = [0u8; 198];
-    let mut tables = [0u8; 7509];
-    let mut slots = [0u8; 2016];
-    let mut timers = [0u8; 651];
+    let mut config = [0u8; 208];
+    let mut tables = [0u8; 7517];
+    let mut slots = [0u8; 2024];
+    let mut timers = [0u8; 659];
     let mut answer = [0u8; 21];
     let mut out = [0u8; 335872];
     let mut reached = feeding::start();

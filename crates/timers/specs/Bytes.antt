@@ -1,6 +1,6 @@
 -- A row's bytes: what four bytes and ten bytes are as numbers and as a record.
 use mathlib.Core.Path.{_≡_, sym, ap, _∙_}
-use mathlib.Core.List.{List, [], _∷_, _++_}
+use mathlib.Core.List.{List}
 use Prim.Native.Nat.{ℕ, suc, _+_, _*_, _/_, _%_, _^_, _<_, _≤_}
 use native.Mathlib.Omega.{arith}
 use lib.ListN.{length, getD, take, set}
@@ -8,7 +8,7 @@ use lib.Seq.{sets-eq, getD-take}
 use Rattle.ledger.specs.Ledger.{Timer}
 use Rattle.rows.specs.Splice.{splice}
 use Rattle.rows.specs.Rows.{rowAt, getD-row, drop-elems, elems}
-use Rattle.timers.specs.Timers.{le4, bytes4, entry, entryOf, recordAt, dueAt}
+use Rattle.timers.specs.Timers.{le4, bytes4, rowOf, entry, entryOf, recordAt, dueAt}
 
 -- ---- four bytes
 
@@ -79,12 +79,12 @@ row-period r y h k =
     let e : r ≡ elems 10 0 r = drop-elems 10 0 r h in
     ap (λ (z : List ℕ). entryOf (splice z 6 (bytes4 y))) e ∙ ap (λ (z : ℕ). entry (getD r 0 0) (getD r 1 0) (le4 r 2) z) (four-back y k)
 
--- the row that is made of a record, byte by byte
-abbrev pub rowOf : ℕ → ℕ → ℕ → ℕ → List ℕ
-rowOf t s x p = t ∷ s ∷ (bytes4 x ++ bytes4 p)
-
-pub row-made : (t s x p : ℕ) (r₁ r₂ : List ℕ) → r₁ ≡ splice (t ∷ s ∷ 0 ∷ 0 ∷ 0 ∷ 0 ∷ 0 ∷ 0 ∷ 0 ∷ 0 ∷ []) 2 (bytes4 x) → r₂ ≡ splice r₁ 6 (bytes4 p) → r₂ ≡ rowOf t s x p
-row-made t s x p r₁ r₂ e f = f ∙ ap (λ (z : List ℕ). splice z 6 (bytes4 p)) e
+-- what the stores of `write_row` leave
+pub row-made : (t s x p : ℕ) (r r₁ r₂ : List ℕ) → length r ≡ 10 → r₁ ≡ splice (set (set r 0 t) 1 s) 2 (bytes4 x) → r₂ ≡ splice r₁ 6 (bytes4 p) → r₂ ≡ rowOf t s x p
+row-made t s x p r r₁ r₂ h e f =
+    f
+    ∙ ap (λ (z : List ℕ). splice z 6 (bytes4 p)) e
+    ∙ ap (λ (z : List ℕ). splice (splice (set (set z 0 t) 1 s) 2 (bytes4 x)) 6 (bytes4 p)) (drop-elems 10 0 r h)
 
 pub row-entry : (t s x p : ℕ) → x < 2 ^ 32 → p < 2 ^ 32 → entryOf (rowOf t s x p) ≡ entry t s x p
 unfolding entryOf

@@ -12,7 +12,7 @@ use Rattle.ledger.specs.Lists.{keep, without}
 use Rattle.ledger.specs.Ledger.{Timer}
 use Rattle.rows.specs.Rows.{removeAt}
 use Rattle.rows.specs.First.{firstOf}
-use Rattle.timers.specs.Timers.{lowest, untilDue, leftAt, shownBy, later, isDue, dueIn, firstDue, noEntry}
+use Rattle.timers.specs.Timers.{lowest, untilDue, leftAt, shownBy, later, isDue, dueIn, firstDue, noEntry, allFrom}
 use Rattle.timers.specs.Order.{low-other}
 
 -- where the least of a list is not due, none is
@@ -68,6 +68,15 @@ module _ (time f : ℕ) where
           let p : 0 < untilDue time f m = omega arith in
           let y : dueIn (shownBy time f (t ∷ ts)) ≡ dueIn (shownBy time f ts) = rw e in
           absurd (omega (arith, none-due time f m (t .due) ts p (omega arith)))
+
+  -- none is put in before it, at this time or later
+  pub due-before : (y : ℕ) (l : List Timer) → time ≤ y → 0 < dueIn (shownBy time f l) → (f ≤ y) × (allFrom (suc y) l → ⊥)
+  unfolding shownBy keep lowest
+  due-before y [] k h = absurd (omega arith)
+  due-before y (t ∷ ts) k h =
+      let z = first-now t ts h in
+      let m : ℕ = lowest (t .due) ts in
+      (omega arith, λ a. let b : suc y ≤ m = low-other (suc y) (suc y) (t .due) ts (omega arith) (omega arith) in omega arith)
 
   pub due-first : (l : List Timer) → 0 < dueIn (shownBy time f l) → firstDue (shownBy time f l) ≡ leftAt 0 (getD l 0 noEntry)
   unfolding shownBy firstDue

@@ -9,7 +9,7 @@ use Rattle.ledger.specs.Lists.{insertBy}
 use Rattle.ledger.specs.Ledger.{Timer}
 use Rattle.rows.specs.Splice.{splice}
 use Rattle.rows.specs.Rows.{rowsOf, insertAt, removeAt}
-use Rattle.timers.specs.Timers.{le4, bytes4, timer, entry, untilDue, shownBy, recordsIn, recordAt, timersIn, tocksLeft, noEntry, dueAt, settledBy, handedOn, Keeps, allFrom, reached}
+use Rattle.timers.specs.Timers.{le4, bytes4, timer, entry, untilDue, shownBy, recordsIn, recordAt, timersIn, tocksLeft, noEntry, dueAt, settledBy, handedOn, Keeps, allFrom, reached, Leaves, Lowered}
 use Rattle.timers.specs.Order.{from-fewer, from-settled}
 use Rattle.timers.specs.Reading.{shown-settled, shown-insert, shown-remove}
 use Rattle.timers.specs.Records.{length-records, record-at, time-set, floor-set, record-removed}
@@ -28,7 +28,7 @@ back-at time f m =
     ap (λ (z : ℕ). max (z - time) (f - time) - 0) a ∙ sub-zero (max (m - time) (f - time)) ∙ b
 
 module _ (n time floor : ℕ) (d d₁ d₂ d₃ : List ℕ) (room : n * 10 + 10 ≤ length d₁) (room₂ : n * 10 + 10 ≤ length d₂) (t : time ≡ le4 d 2) (fits : floor - time < 2 ^ 32)
-    (settled : Keeps n d₁ (le4 d 2) (le4 d 6) (map (settledBy time 0) (recordsIn n d))) (stored : d₂ ≡ splice d₁ 2 (bytes4 0))
+    (settled : Leaves n d d₁ (map (settledBy time 0) (recordsIn n d))) (stored : d₂ ≡ splice d₁ 2 (bytes4 0))
     (f : floor ≡ le4 d₂ 6) (stored₂ : d₃ ≡ splice d₂ 6 (bytes4 (floor - time))) where
   at-zero : Keeps n d₂ 0 (le4 d₁ 6) (recordsIn n d₁)
   at-zero = time-set n d₁ room 0 (omega arith) d₂ stored
@@ -54,8 +54,8 @@ raised-at : (time f g m : ℕ) → g ≤ f → untilDue time g (untilDue 0 f m) 
 raised-at time f g m h = omega arith
 
 module _ (n due floor : ℕ) (d d₁ d₂ : List ℕ) (room : n * 10 + 10 ≤ length d₁) (fits : due < 2 ^ 32) (f : floor ≡ le4 d 6) (before : due < floor)
-    (settled : Keeps n d₁ (le4 d 2) (le4 d 6) (map (settledBy 0 floor) (recordsIn n d))) (stored : d₂ ≡ splice d₁ 6 (bytes4 due)) where
-  pub lower-done : (le4 d₂ 2 ≡ le4 d 2) × (le4 d₂ 6 ≡ due) × allFrom (suc due) (recordsIn n d₂) × (timersIn n d₂ ≡ timersIn n d)
+    (settled : Leaves n d d₁ (map (settledBy 0 floor) (recordsIn n d))) (stored : d₂ ≡ splice d₁ 6 (bytes4 due)) where
+  pub lower-done : Lowered n due d d₂
   unfolding timersIn
   lower-done =
       let l : List Timer = recordsIn n d in
@@ -75,7 +75,7 @@ module _ (n due floor : ℕ) (d d₁ d₂ : List ℕ) (room : n * 10 + 10 ≤ le
 
 pub insert-done : (n at t s left p time due : ℕ) (d d₁ d₂ : List ℕ) → timersIn n d₁ ≡ timersIn n d → time ≡ le4 d₁ 2 → due ≡ time + left → le4 d₁ 6 ≤ due
     → at ≤ n → reached due at (recordsIn n d₁) → allFrom (suc due) (drop at (recordsIn n d₁))
-    → Keeps (n + 1) d₂ (le4 d₁ 2) (le4 d₁ 6) (insertAt at (entry t s due p) (recordsIn n d₁))
+    → Leaves (n + 1) d₁ d₂ (insertAt at (entry t s due p) (recordsIn n d₁))
     → timersIn (n + 1) d₂ ≡ insertBy tocksLeft (timer t s left p) (timersIn n d)
 unfolding timersIn
 insert-done n at t s left p time due d d₁ d₂ same et ed low h r a k =
@@ -102,7 +102,7 @@ handed-done n (suc k) x y r d h f ex ey er =
     er ∙ ap₂ min (ex ∙ ap (λ (i : ℕ). recordAt d i .due) s ∙ ap (λ (t : Timer). t .due) a) (ey ∙ ap (λ (t : Timer). t .due) b) in
     ap (λ (i : ℕ). set l i (dueAt r (recordAt d i))) s ∙ ap₂ (λ (z : ℕ) (t : Timer). set l k (dueAt z t)) q a
 
-pub remove-done : (n k : ℕ) (d d₁ d₂ : List ℕ) → k < n → Keeps n d₁ (le4 d 2) (le4 d 6) (handedOn k (recordsIn n d))
+pub remove-done : (n k : ℕ) (d d₁ d₂ : List ℕ) → k < n → Leaves n d d₁ (handedOn k (recordsIn n d))
     → rowsOf 10 (n + 1 - 1) d₂ ≡ removeAt (k + 1) (rowsOf 10 (n + 1) d₁) → timersIn (n - 1) d₂ ≡ removeAt k (timersIn n d)
 unfolding timersIn
 remove-done n k d d₁ d₂ h w e =

@@ -13,7 +13,7 @@ use Rattle.ledger.specs.Ledger.{Timer}
 use Rattle.ledger.specs.Session.{TimerLeft}
 use Rattle.rows.specs.Rows.{mapUpto, mapUpto-at, mapUpto-suc, mapUpto-all, removeAt}
 use Rattle.rows.specs.First.{firstOf, first-here, first-on, first-end, keepFrom, keep-on, keep-out, keep-end, any-is}
-use Rattle.timers.specs.Timers.{le4, leftAt, untilDue, recordsIn, recordAt, timersIn, noTimer, noEntry, dueAt, settledBy, Keeps, allFrom, reached}
+use Rattle.timers.specs.Timers.{le4, leftAt, untilDue, recordsIn, recordAt, timersIn, noTimer, noEntry, dueAt, settledBy, allFrom, reached, Leaves}
 use Rattle.timers.specs.Order.{from-none, from-fewer, from-cons}
 use Rattle.timers.specs.Reading.{shown-length, shown-blind}
 use Rattle.timers.specs.Records.{length-records, record-at}
@@ -70,10 +70,10 @@ purge-last p m d l₀ i e h =
 
 -- ---- the first k records are settled
 
-module _ (back floor n k : ℕ) (d₀ d : List ℕ) (so-far : Keeps n d (le4 d₀ 2) (le4 d₀ 6) (mapUpto (settledBy back floor) k (recordsIn n d₀))) where
+module _ (back floor n k : ℕ) (d₀ d : List ℕ) (so-far : Leaves n d₀ d (mapUpto (settledBy back floor) k (recordsIn n d₀))) where
   pub settle-turn : (x y : ℕ) (d' : List ℕ) → k < n → x ≡ recordAt d k .due → y ≡ untilDue back floor x
-      → Keeps n d' (le4 d 2) (le4 d 6) (set (recordsIn n d) k (dueAt y (recordAt d k)))
-      → Keeps n d' (le4 d₀ 2) (le4 d₀ 6) (mapUpto (settledBy back floor) (k + 1) (recordsIn n d₀))
+      → Leaves n d d' (set (recordsIn n d) k (dueAt y (recordAt d k)))
+      → Leaves n d₀ d' (mapUpto (settledBy back floor) (k + 1) (recordsIn n d₀))
   settle-turn x y d' h ex ey w =
       let l : List Timer = recordsIn n d₀ in
       let t : recordAt d k ≡ getD l k noEntry = sym (record-at n k d h) ∙ ap (λ (z : List Timer). getD z k noEntry) (so-far .2) ∙ mapUpto-at (settledBy back floor) k l noEntry in
@@ -86,7 +86,7 @@ module _ (back floor n k : ℕ) (d₀ d : List ℕ) (so-far : Keeps n d (le4 d�
       ∙ ap (λ (z : ℕ). mapUpto (settledBy back floor) z l) (sym (add-one k)) in
       (w .0 ∙ so-far .0, w .1 ∙ so-far .1, w .2 ∙ e)
 
-  pub settle-end : n ≤ k → Keeps n d (le4 d₀ 2) (le4 d₀ 6) (map (settledBy back floor) (recordsIn n d₀))
+  pub settle-end : n ≤ k → Leaves n d₀ d (map (settledBy back floor) (recordsIn n d₀))
   settle-end h = (so-far .0, so-far .1, so-far .2 ∙ mapUpto-all (settledBy back floor) k (recordsIn n d₀) (rw length-records h))
 
 -- ---- from the last record back to record k, which lies in row k + 1

@@ -10,8 +10,8 @@ use Rattle.rows.specs.Splice.{splice}
 use Rattle.rows.specs.Laws.{length-splice}
 use Rattle.rows.specs.Rows.{rowsOf, rowAt, rows-set, insertAt, removeAt, getD-rows, length-rows, map-set, map-insertAt, splice-row, length-row}
 use Rattle.rows.specs.First.{map-removeAt}
-use Rattle.timers.specs.Timers.{le4, bytes4, entry, entryOf, recordsIn, recordAt, timersIn, shownBy, noEntry, dueAt, Keeps}
-use Rattle.timers.specs.Bytes.{clockAt, clock-at, row-at, row-due, row-period, rowOf, row-entry}
+use Rattle.timers.specs.Timers.{le4, bytes4, rowOf, entry, entryOf, recordsIn, recordAt, timersIn, shownBy, noEntry, dueAt, Keeps, Leaves}
+use Rattle.timers.specs.Bytes.{clockAt, clock-at, row-at, row-due, row-period, row-entry}
 
 pub length-records : (n : ℕ) (d : List ℕ) → length (recordsIn n d) ≡ n
 unfolding recordsIn
@@ -30,7 +30,7 @@ rows-keep n d r rs e =
     (ap (λ (t : Timer). t .due) c, ap (λ (t : Timer). t .period) c, ap (λ (z : List (List ℕ)). map entryOf (drop 1 z)) e)
 
 -- the clock stays
-same-clock : (n : ℕ) (d d' : List ℕ) (rs : List (List ℕ)) → rowsOf 10 (suc n) d' ≡ take 10 d ∷ rs → Keeps n d' (le4 d 2) (le4 d 6) (map entryOf rs)
+same-clock : (n : ℕ) (d d' : List ℕ) (rs : List (List ℕ)) → rowsOf 10 (suc n) d' ≡ take 10 d ∷ rs → Leaves n d d' (map entryOf rs)
 same-clock n d d' rs e =
     let k = rows-keep n d' (take 10 d) rs e in
     (k .0 ∙ ap (λ (t : Timer). t .due) (clock-at d), k .1 ∙ ap (λ (t : Timer). t .period) (clock-at d), k .2)
@@ -61,7 +61,7 @@ module _ (n : ℕ) (d : List ℕ) (room : n * 10 + 10 ≤ length d) (x : ℕ) (f
       let e = row-period (take 10 d) x (length-row 10 0 d (omega arith)) fits in
       (k .0 ∙ ap (λ (t : Timer). t .due) e ∙ ap (λ (t : Timer). t .due) (clock-at d), k .1 ∙ ap (λ (t : Timer). t .period) e, k .2)
 
-  pub due-set : (k : ℕ) (d' : List ℕ) → k < n → d' ≡ splice d (k * 10 + 12) (bytes4 x) → Keeps n d' (le4 d 2) (le4 d 6) (set (recordsIn n d) k (dueAt x (recordAt d k)))
+  pub due-set : (k : ℕ) (d' : List ℕ) → k < n → d' ≡ splice d (k * 10 + 12) (bytes4 x) → Leaves n d d' (set (recordsIn n d) k (dueAt x (recordAt d k)))
   unfolding recordsIn
   due-set k d' h f =
       let r : List ℕ = rowAt 10 (suc k) d in
@@ -82,7 +82,7 @@ module _ (n : ℕ) (d : List ℕ) (room : n * 10 + 10 ≤ length d) (x : ℕ) (f
 
 -- a row put in behind row 0
 pub record-inserted : (n at t s x p : ℕ) (d d' row : List ℕ) → x < 2 ^ 32 → p < 2 ^ 32 → row ≡ rowOf t s x p
-    → rowsOf 10 (n + 1 + 1) d' ≡ insertAt (at + 1) row (rowsOf 10 (n + 1) d) → Keeps (n + 1) d' (le4 d 2) (le4 d 6) (insertAt at (entry t s x p) (recordsIn n d))
+    → rowsOf 10 (n + 1 + 1) d' ≡ insertAt (at + 1) row (rowsOf 10 (n + 1) d) → Leaves (n + 1) d d' (insertAt at (entry t s x p) (recordsIn n d))
 unfolding recordsIn
 record-inserted n at t s x p d d' row hx hp er e =
     let rows : List (List ℕ) = rowsOf 10 n (drop 10 d) in
@@ -94,7 +94,7 @@ record-inserted n at t s x p d d' row hx hp er e =
 
 -- a row behind row 0 taken out
 pub record-removed : (n k : ℕ) (d d' : List ℕ) → 0 < n
-    → rowsOf 10 (n + 1 - 1) d' ≡ removeAt (k + 1) (rowsOf 10 (n + 1) d) → Keeps (n - 1) d' (le4 d 2) (le4 d 6) (removeAt k (recordsIn n d))
+    → rowsOf 10 (n + 1 - 1) d' ≡ removeAt (k + 1) (rowsOf 10 (n + 1) d) → Leaves (n - 1) d d' (removeAt k (recordsIn n d))
 unfolding recordsIn
 record-removed n k d d' h e =
     let rows : List (List ℕ) = rowsOf 10 n (drop 10 d) in
@@ -102,6 +102,20 @@ record-removed n k d d' h e =
     let f : removeAt (k + 1) (rowsOf 10 (n + 1) d) ≡ take 10 d ∷ removeAt k rows = simp add-one in
     let w = same-clock (n - 1) d d' (removeAt k rows) (ap (λ (z : ℕ). rowsOf 10 z d') (sym m) ∙ e ∙ f) in
     (w .0, w .1, w .2 ∙ map-removeAt entryOf k rows)
+
+-- the first row behind row 0 taken out, and a row put in
+pub record-replaced : (n k t s x p : ℕ) (d d' row : List ℕ) → x < 2 ^ 32 → p < 2 ^ 32 → row ≡ rowOf t s x p
+    → rowsOf 10 (n + 1) d' ≡ insertAt (suc k) row (removeAt 1 (rowsOf 10 (n + 1) d)) → Leaves n d d' (insertAt k (entry t s x p) (removeAt 0 (recordsIn n d)))
+unfolding recordsIn
+record-replaced n k t s x p d d' row hx hp er e =
+    let rows : List (List ℕ) = rowsOf 10 n (drop 10 d) in
+    let f : rowsOf 10 (suc n) d' ≡ take 10 d ∷ insertAt k row (removeAt 0 rows) = simp add-one at e in
+    let w = same-clock n d d' (insertAt k row (removeAt 0 rows)) f in
+    let m : map entryOf (insertAt k row (removeAt 0 rows)) ≡ insertAt k (entry t s x p) (removeAt 0 (map entryOf rows)) =
+    map-insertAt entryOf k row (removeAt 0 rows)
+    ∙ ap (λ (z : Timer). insertAt k z (map entryOf (removeAt 0 rows))) (ap entryOf er ∙ row-entry t s x p hx hp)
+    ∙ ap (insertAt k (entry t s x p)) (map-removeAt entryOf 0 rows) in
+    (w .0, w .1, w .2 ∙ m)
 
 pub none-in : (d : List ℕ) → timersIn 0 d ≡ []
 unfolding timersIn recordsIn shownBy

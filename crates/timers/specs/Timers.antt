@@ -1,15 +1,15 @@
 -- Timers in bytes: what the rows mean, and what the ledger's changes are on timers by the tocks left.
 use mathlib.Core.Path.{_≡_}
-use mathlib.Core.List.{List, [], _∷_, map}
-use mathlib.Core.Bool.{Bool, cond, not, _&&_, _||_}
-use Prim.Native.Nat.{ℕ, zero, suc, _+_, _-_, _*_, _/_, _%_, _≤_, min, max}
+use mathlib.Core.List.{List, [], _∷_, _++_, map}
+use mathlib.Core.Bool.{Bool, false, cond, not, _&&_, _||_}
+use Prim.Native.Nat.{ℕ, zero, suc, _+_, _-_, _*_, _/_, _%_, _<_, _≤_, min, max}
 use lib.ListN.{length, getD, drop, set}
 use lib.Dec.{ltb, eqb}
 use Rattle.ledger.specs.Lists.{keep, without, insertBy}
 use Rattle.ledger.specs.Ledger.{Timer}
 use Rattle.ledger.specs.Session.{TimerLeft}
 use Rattle.rows.specs.Rows.{rowsOf}
-use Rattle.rows.specs.First.{firstOf}
+use Rattle.rows.specs.First.{firstOf, keepFrom}
 
 -- ---- bytes
 
@@ -19,6 +19,10 @@ le4 d i = getD d i 0 + getD d (i + 1) 0 * 256 + getD d (i + 2) 0 * 65536 + getD 
 
 abbrev pub bytes4 : ℕ → List ℕ
 bytes4 x = x % 256 ∷ x / 256 % 256 ∷ x / 65536 % 256 ∷ x / 16777216 ∷ []
+
+-- the row that is made of a record, byte by byte
+abbrev pub rowOf : (task semaphore due period : ℕ) → List ℕ
+rowOf t s x p = t ∷ s ∷ (bytes4 x ++ bytes4 p)
 
 abbrev pub timer : (task semaphore left period : ℕ) → TimerLeft
 timer t s l p = record { task = t; semaphore = s; left = l; period = p }
@@ -112,9 +116,17 @@ Keeps n d time floor l = (le4 d 2 ≡ time) × (le4 d 6 ≡ floor) × (recordsIn
 abbrev pub noEntry : Timer
 noEntry = entry 0 0 0 0
 
+-- n rows with the clock of d, and with these records
+abbrev pub Leaves : ℕ → (d d' : List ℕ) → List Timer → Type 0
+Leaves n d d' l = Keeps n d' (le4 d 2) (le4 d 6) l
+
 -- the same record, due at another time
 abbrev pub dueAt : ℕ → Timer → Timer
 dueAt x t = entry (t .task) (t .semaphore) x (t .period)
+
+-- record k of however many is due at another time
+abbrev pub SetDue : (k x : ℕ) (d d' : List ℕ) → Type 0
+SetDue k x d d' = (n : ℕ) → k < n → n * 10 + 10 ≤ length d → Leaves n d d' (set (recordsIn n d) k (dueAt x (recordAt d k)))
 
 -- due no earlier than the floor, on a clock that is set back
 abbrev pub settledBy : (back floor : ℕ) → Timer → Timer
@@ -133,3 +145,15 @@ allFrom x l = x ≤ lowest x l
 abbrev pub reached : ℕ → ℕ → List Timer → Type 0
 reached x zero l = Unit {0}
 reached x (suc k) l = getD l k noEntry .due ≤ x
+
+-- of n records those before place at are due by x, as far as the last of them says; those behind it are not, and not before first either
+abbrev pub Placed : (n x : ℕ) (d : List ℕ) (at first : ℕ) → Type 0
+Placed n x d at first = (at ≤ n) × reached x at (recordsIn n d) × allFrom (suc x) (drop at (recordsIn n d)) × allFrom first (drop at (recordsIn n d))
+
+-- the floor is lower, before every record, and n timers are as they were
+abbrev pub Lowered : (n floor : ℕ) (d d' : List ℕ) → Type 0
+Lowered n floor d d' = (le4 d' 2 ≡ le4 d 2) × (le4 d' 6 ≡ floor) × allFrom (suc floor) (recordsIn n d') × (timersIn n d' ≡ timersIn n d)
+
+-- the first of n timers, from timer k on, that does not stay, or n
+abbrev pub NextOut : (TimerLeft → Bool) → (n k : ℕ) (d : List ℕ) → ℕ → Type 0
+NextOut p n k d r = (r ≤ n) × (keepFrom p r (timersIn n d) ≡ keepFrom p k (timersIn n d)) × (r < n → p (leftAt 0 (recordAt d r)) ≡ false)

@@ -1,18 +1,16 @@
-// Timers: rows of ten bytes in a lent slice. Row 0 is the timers' own clock, rows 1 to n are the timers.
-// The clock keeps the time in tocks and a floor; a timer keeps its task, its semaphore, the time at which it is due and its period, or 0 for a one-shot.
-// So a tock changes the time alone, and with none due it looks at no timer; a timer that is due behind all others goes in without a search.
-// Promises: each function changes the list that the bytes mean as the ledger changes its list of timers, whatever the bytes are (specs/Timers; specs/Shown ties it to every ledger).
+// Timers: rows of ten bytes in a lent slice. Row 0 is their clock (time, floor), rows 1 to n are task, semaphore, the time when due and the period.
+// Promises that each function changes the timers that the bytes mean, whatever they are, as the ledger changes its own (specs/Timers, specs/Shown).
 // Rests on the crates rows (rows moved in a slice) and ledger (the definitions).
 ghost use mathlib.Core.Path.{_≡_};
 ghost use mathlib.Core.List.{map};
-ghost use mathlib.Core.Bool.{false};
-ghost use Prim.Native.Nat.{ℕ, suc, _+_, _-_, _*_, _^_, _<_, _≤_, min};
-ghost use lib.ListN.{length, drop, set};
+ghost use Prim.Native.Nat.{_+_, _-_, _*_, _^_, _<_, _≤_, min};
+ghost use lib.ListN.{length};
 ghost use Rattle.ledger.specs.Lists.{any, keep, insertBy};
 ghost use Rattle.rows.specs.Splice.{splice};
 ghost use Rattle.rows.specs.Rows.{insertAt, removeAt};
-ghost use Rattle.rows.specs.First.{keepFrom};
-ghost use Rattle.timers.specs.Timers.{le4, bytes4, timer, entry, leftAt, dueAt, recordAt, recordsIn, timersIn, Keeps, untilDue, settledBy, handedOn, reached, allFrom, tocksLeft, startedFor, stays, tocked, dueIn, firstDue, takenDue};
+ghost use Rattle.timers.specs.Timers.{le4, bytes4, rowOf, timer, entry, leftAt, recordAt, recordsIn, timersIn, untilDue};
+ghost use Rattle.timers.specs.Timers.{tocksLeft, startedFor, stays, tocked, dueIn, firstDue, takenDue};
+ghost use Rattle.timers.specs.Timers.{Leaves, SetDue, settledBy, handedOn, Placed, Lowered, NextOut};
 
 // The number of four bytes, low first.
 fn four(a: u8, b: u8, c: u8, d: u8) -> u32
@@ -29,6 +27,7 @@ pub fn get4(b: &[u8], i: usize) -> u32
     four(b[i], b[i + 1], b[i + 2], b[i + 3])
 }
 
+// Stores a number as four bytes from index i on.
 pub fn put4(b: &mut [u8], i: usize, x: u32)
     requires { ⌜ i + 4 ≤ length (now b) ⌝ }
     ensures { λ _. ⌜ now (b .exit) ≡ splice (now (b .entry)) i (bytes4 x) ⌝ }
@@ -50,7 +49,7 @@ fn due_at(b: &[u8], k: usize) -> u32
 // Record k is due at another time.
 fn set_due(b: &mut [u8], k: usize, x: u32)
     requires { ⌜ k * 10 + 20 ≤ length (now b) ⌝ }
-    ensures { λ _. ⌜ ((n : ℕ) → k < n → n * 10 + 10 ≤ length (now (b .entry)) → Keeps n (now (b .exit)) (le4 (now (b .entry)) 2) (le4 (now (b .entry)) 6) (set (recordsIn n (now (b .entry))) k (dueAt x (recordAt (now (b .entry)) k)))) ⌝ }
+    ensures { λ _. ⌜ SetDue k x (now (b .entry)) (now (b .exit)) ⌝ }
 {
     put4(b, k * 10 + 12, x);
 }
@@ -75,7 +74,7 @@ fn settled(x: u32, floor: u32, back: u32) -> u32
 // Each of n timers is due no earlier than the floor, on a clock that is set back.
 fn settle(b: &mut [u8], n: usize, floor: u32, back: u32)
     requires { ⌜ n * 10 + 10 ≤ length (now b) ⌝ }
-    ensures { λ _. ⌜ Keeps n (now (b .exit)) (le4 (now (b .entry)) 2) (le4 (now (b .entry)) 6) (map (settledBy back floor) (recordsIn n (now (b .entry)))) ⌝ }
+    ensures { λ _. ⌜ Leaves n (now (b .entry)) (now (b .exit)) (map (settledBy back floor) (recordsIn n (now (b .entry)))) ⌝ }
 {
     let mut k = 0;
     while k < n {
@@ -108,55 +107,64 @@ fn lesser(x: u32, y: u32) -> u32
     if x < y { x } else { y }
 }
 
-// A time before which none of n timers is due.
-fn earliest(b: &[u8], n: usize) -> u32
-    requires { ⌜ n * 10 + 10 ≤ length (now b) ⌝ }
-    ensures { λ r. ⌜ allFrom r (recordsIn n (now (b .entry))) ⌝ }
-{
-    let mut k = n;
-    let mut time = 4294967295;
-    while 0 < k {
-        time = lesser(get4(b, k * 10 + 2), time);
-        k -= 1;
-    }
-    time
+// How many timers come before a place, and a time before which none behind it is due.
+struct Found {
+    at: usize,
+    first: u32,
 }
 
-// How many of n timers are due by a time. They are in order, so these end with the last that keeps no later time.
-fn place(b: &[u8], n: usize, due: u32) -> usize
+// The place behind those of n timers that are due by a time. They are in order, so these end with the last that keeps no later time.
+fn place(b: &[u8], n: usize, due: u32) -> Found
     requires { ⌜ n * 10 + 10 ≤ length (now b) ⌝ }
-    ensures { λ r. ⌜ (r ≤ n) × reached due r (recordsIn n (now (b .entry))) × allFrom (suc due) (drop r (recordsIn n (now (b .entry)))) ⌝ }
+    ensures { λ r. ⌜ Placed n due (now (b .entry)) (r .at) (r .first) ⌝ }
 {
     let mut k = n;
+    let mut first = 4294967295;
     while 0 < k {
-        if get4(b, k * 10 + 2) <= due {
-            return k;
+        let time = get4(b, k * 10 + 2);
+        if time <= due {
+            return Found {
+                at: k,
+                first: first,
+            };
         }
+        first = lesser(time, first);
         k -= 1;
     }
-    0
+    Found {
+        at: 0,
+        first: first,
+    }
 }
 
 // Lowers the floor to a time before it. No timer that was due at the floor is due earlier.
 fn lower(b: &mut [u8], n: usize, due: u32)
     requires { ⌜ (n * 10 + 10 ≤ length (now b)) × (due < le4 (now b) 6) ⌝ }
-    ensures { λ _. ⌜ (le4 (now (b .exit)) 2 ≡ le4 (now (b .entry)) 2) × (le4 (now (b .exit)) 6 ≡ due) × allFrom (suc due) (recordsIn n (now (b .exit))) × (timersIn n (now (b .exit)) ≡ timersIn n (now (b .entry))) ⌝ }
+    ensures { λ _. ⌜ Lowered n due (now (b .entry)) (now (b .exit)) ⌝ }
 {
     let floor = get4(b, 6);
     settle(b, n, floor, 0);
     put4(b, 6, due);
 }
 
+// A record's ten bytes.
+fn write_row(row: &mut [u8], task: u8, semaphore: u8, due: u32, period: u32)
+    requires { ⌜ length (now row) ≡ 10 ⌝ }
+    ensures { λ _. ⌜ now (row .exit) ≡ rowOf task semaphore due period ⌝ }
+{
+    row[0] = task;
+    row[1] = semaphore;
+    put4(row, 2, due);
+    put4(row, 6, period);
+}
+
 // Puts a record in before record at of n.
 fn put_in(b: &mut [u8], n: usize, at: usize, task: u8, semaphore: u8, due: u32, period: u32)
     requires { ⌜ (at ≤ n) × (n * 10 + 20 ≤ length (now b)) ⌝ }
-    ensures { λ _. ⌜ Keeps (n + 1) (now (b .exit)) (le4 (now (b .entry)) 2) (le4 (now (b .entry)) 6) (insertAt at (entry task semaphore due period) (recordsIn n (now (b .entry)))) ⌝ }
+    ensures { λ _. ⌜ Leaves (n + 1) (now (b .entry)) (now (b .exit)) (insertAt at (entry task semaphore due period) (recordsIn n (now (b .entry)))) ⌝ }
 {
     let mut row = [0u8; 10];
-    row[0] = task;
-    row[1] = semaphore;
-    put4(&mut row, 2, due);
-    put4(&mut row, 6, period);
+    write_row(&mut row, task, semaphore, due, period);
     rows::insert_at(b, n + 1, 10, at + 1, &row);
 }
 
@@ -171,7 +179,7 @@ pub fn insert(b: &mut [u8], n: usize, task: u8, semaphore: u8, left: u32, period
         put_in(b, n, 0, task, semaphore, due, period);
         return;
     }
-    let at = place(b, n, due);
+    let at = place(b, n, due).at;
     put_in(b, n, at, task, semaphore, due, period);
 }
 
@@ -215,7 +223,7 @@ fn is_left(b: &[u8], k: usize, task: u8, all: bool, semaphore: u8) -> bool
 // The first of n timers, from timer k on, that a purge takes out, or n.
 fn next_out(b: &[u8], n: usize, k: usize, task: u8, all: bool, semaphore: u8) -> usize
     requires { ⌜ (k ≤ n) × (n * 10 + 10 ≤ length (now b)) ⌝ }
-    ensures { λ r. ⌜ (r ≤ n) × (keepFrom (stays task all semaphore) r (timersIn n (now (b .entry))) ≡ keepFrom (stays task all semaphore) k (timersIn n (now (b .entry)))) × (r < n → stays task all semaphore (leftAt 0 (recordAt (now (b .entry)) r)) ≡ false) ⌝ }
+    ensures { λ r. ⌜ NextOut (stays task all semaphore) n k (now (b .entry)) r ⌝ }
 {
     let mut i = k;
     while i < n {
@@ -231,7 +239,7 @@ fn next_out(b: &[u8], n: usize, k: usize, task: u8, all: bool, semaphore: u8) ->
 // Makes record k of n ready to be taken out: the one before it is due no later than it was.
 fn hand_on(b: &mut [u8], n: usize, k: usize)
     requires { ⌜ (k < n) × (n * 10 + 10 ≤ length (now b)) ⌝ }
-    ensures { λ _. ⌜ Keeps n (now (b .exit)) (le4 (now (b .entry)) 2) (le4 (now (b .entry)) 6) (handedOn k (recordsIn n (now (b .entry)))) ⌝ }
+    ensures { λ _. ⌜ Leaves n (now (b .entry)) (now (b .exit)) (handedOn k (recordsIn n (now (b .entry)))) ⌝ }
 {
     if k == 0 {
         return;
@@ -276,18 +284,29 @@ pub fn pass(b: &mut [u8], n: usize) -> usize
     if time < get4(b, 6) {
         return 0;
     }
-    let first = earliest(b, n);
-    if time < first {
-        put4(b, 6, first);
-        return 0;
+    let due = place(b, n, time);
+    if due.at == 0 {
+        put4(b, 6, due.first);
     }
-    place(b, n, time)
+    due.at
 }
 
 // The semaphore that a due timer signals, and the number of timers now.
 pub struct Due {
     pub semaphore: u8,
     pub count: usize,
+}
+
+// Puts the first of n timers, which is due, in again with its period left. Only the timers before its new place are moved.
+fn put_again(b: &mut [u8], n: usize, task: u8, semaphore: u8, period: u32)
+    requires { ⌜ (n * 10 + 10 ≤ length (now b)) × (0 < dueIn (timersIn n (now b))) ⌝ }
+    ensures { λ _. ⌜ timersIn n (now (b .exit)) ≡ insertBy tocksLeft (timer task semaphore period period) (removeAt 0 (timersIn n (now (b .entry)))) ⌝ }
+{
+    let due = time_before(b, n, period) + period;
+    let at = place(b, n, due).at;
+    let mut row = [0u8; 10];
+    write_row(&mut row, task, semaphore, due, period);
+    rows::replace_at(b, n + 1, 10, 1, at, &row);
 }
 
 // Takes the first of n timers, which is due, out, and puts it in again if it is cyclic.
@@ -298,14 +317,14 @@ pub fn take_due(b: &mut [u8], n: usize) -> Due
     let task = b[10];
     let semaphore = b[11];
     let period = get4(b, 16);
-    remove(b, n, 0);
     if period == 0 {
+        remove(b, n, 0);
         return Due {
             semaphore: semaphore,
             count: n - 1,
         };
     }
-    insert(b, n - 1, task, semaphore, period, period);
+    put_again(b, n, task, semaphore, period);
     Due {
         semaphore: semaphore,
         count: n,

@@ -115,7 +115,7 @@ fn the_archive_has_the_headers_functions_and_no_data() {
     let mut declared: Vec<&str> = declared.map(|line| line.split([' ', '(']).nth(1).unwrap()).collect();
     declared.sort_unstable();
     assert_eq!(of_kind("T"), declared);
-    assert_eq!(of_kind("U"), ["memcpy", "memset"]);
+    assert_eq!(of_kind("U"), ["memcpy", "memmove", "memset"]);
     assert_eq!(of_kind("BbCcDdGgSs"), [""; 0]);
 }
 

@@ -9,7 +9,7 @@ use std::process::Command;
 use tools::{built, frames_of, printed, scratch, stories, text, two_languages};
 
 /// What the papers say.
-const FEWER: usize = 700;
+const FEWER: usize = 950;
 
 #[test]
 fn the_papers_have_the_measured_stack_and_the_memory() {

@@ -52,7 +52,7 @@ returns-2 c =
     let t = c .before .before .before .before .before .before .before .before .before .before .before .time-before in
     let s = c .before .before .before .before .place in
     let p = c .before .before .put-in2 in
-    insert-done (a .n) (s .result) (a .task) (a .semaphore) (a .left) (a .period) (t .result) (t .result + a .left) (now (a .b)) (t .last .0) (p .last .0) (t .ensures .2) (t .ensures .0) refl
+    insert-done (a .n) (s .result .at) (a .task) (a .semaphore) (a .left) (a .period) (t .result) (t .result + a .left) (now (a .b)) (t .last .0) (p .last .0) (t .ensures .2) (t .ensures .0) refl
     (omega (arith, c .before .before .before .before .before .before .if1 .left, c .before .before .before .before .before .before .before .get4 .ensures)) (s .ensures .0) (s .ensures .1) (s .ensures .2) (p .ensures)
 
 pub insert-spec : {M : Type 1} → statement M

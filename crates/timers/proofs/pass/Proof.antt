@@ -1,4 +1,4 @@
--- `pass`: before the floor none is due; from there on either none is due before a later time, which is a floor, or the search counts those that are.
+-- `pass`: before the floor none is due; from there on those before the place are, and where there is none, the floor goes up.
 use mathlib.Core.Path.{refl}
 use native.Mathlib.Omega.{arith}
 use Prim.Native.Nat.{_+_}
@@ -30,8 +30,8 @@ returns c =
     let p = c .before .before .before .before .before .put4 in
     (omega arith, pass-none (z .args .n) (t .result) (t .result + 1) (now (z .args .b)) (t .last .0) (p .last .0) (omega arith) (t .ensures .2) (t .ensures .0) refl (t .ensures .1) (p .ensures) (omega (arith, c .if1 .taken, c .before .get4 .ensures)), pass-tocks (z .args .n) (t .result) (t .result + 1) (now (z .args .b)) (t .last .0) (p .last .0) (omega arith) (t .ensures .2) (t .ensures .0) refl (t .ensures .1) (p .ensures))
 
-earliest-requires : tie.Need-earliest-requires
-earliest-requires c κs = search needs
+place-requires : tie.Need-place-requires
+place-requires c κs = search needs
 
 put4-requires-2 : tie.Need-put4-requires-2
 put4-requires-2 c κs = search needs
@@ -41,26 +41,24 @@ same-length-2 c = search needs
 
 returns-2 : tie.Need-returns-2
 returns-2 c =
-    let z = c .before .before .before .before .before .before .before .before .before .before .before .before .before .before .before .before .before .before .before in
-    let t = c .before .before .before .before .before .before .before .before .before .before .before .before .before .before .before .before .time-before in
-    let p = c .before .before .before .before .before .before .before .before .before .before .before .before .put4 in
-    let f = c .before .before .before .before .before .earliest in
+    let z = c .before .before .before .before .before .before .before .before .before .before .before .before .before .before .before .before .before .before .before .before in
+    let t = c .before .before .before .before .before .before .before .before .before .before .before .before .before .before .before .before .before .time-before in
+    let p = c .before .before .before .before .before .before .before .before .before .before .before .before .before .put4 in
+    let f = c .before .before .before .before .before .before .place in
     let q = c .before .before .put42 in
-    pass-quiet (z .args .n) (t .result) (t .result + 1) (now (z .args .b)) (t .last .0) (p .last .0) (omega arith) (t .ensures .2) (t .ensures .0) refl (t .ensures .1) (p .ensures) (f .result) (q .last .0) (omega (arith, c .before .before .before .before .before .before .before .if1 .left, c .before .before .before .before .before .before .before .before .get4 .ensures)) (c .before .before .before .before .if2 .taken) (f .ensures) (omega arith) (omega arith) (q .ensures)
-
-place-requires : tie.Need-place-requires
-place-requires c κs = search needs
+    pass-quiet (z .args .n) (t .result) (t .result + 1) (now (z .args .b)) (t .last .0) (p .last .0) (omega arith) (t .ensures .2) (t .ensures .0) refl (t .ensures .1) (p .ensures) (f .result .at) (f .result .first) (q .last .0) (c .before .before .before .before .if2 .taken)
+    (omega (arith, c .before .before .before .before .before .before .before .before .if1 .left, c .before .before .before .before .before .before .before .before .before .get4 .ensures)) (f .ensures) (omega arith) (omega arith) (q .ensures)
 
 same-length-3 : tie.Need-same-length-3
 same-length-3 c = search needs
 
 returns-3 : tie.Need-returns-3
 returns-3 c =
-    let z = c .before .before .before .before .before .before .before .before .before .before .before .before .before .before .before .before .before in
-    let t = c .before .before .before .before .before .before .before .before .before .before .before .before .before .before .time-before in
-    let p = c .before .before .before .before .before .before .before .before .before .before .put4 in
-    let s = c .place in
-    (s .ensures .0, pass-some (z .args .n) (t .result) (t .result + 1) (now (z .args .b)) (t .last .0) (p .last .0) (omega arith) (t .ensures .2) (t .ensures .0) refl (t .ensures .1) (p .ensures) (s .result) (omega (arith, c .before .before .before .before .before .if1 .left, c .before .before .before .before .before .before .get4 .ensures)) (s .ensures .0) (s .ensures .1) (s .ensures .2), pass-tocks (z .args .n) (t .result) (t .result + 1) (now (z .args .b)) (t .last .0) (p .last .0) (omega arith) (t .ensures .2) (t .ensures .0) refl (t .ensures .1) (p .ensures))
+    let z = c .before .before .before .before .before .before .before .before .before .before .before .before .before .before .before .before in
+    let t = c .before .before .before .before .before .before .before .before .before .before .before .before .before .time-before in
+    let p = c .before .before .before .before .before .before .before .before .before .put4 in
+    let f = c .before .before .place in
+    (f .ensures .0, pass-some (z .args .n) (t .result) (t .result + 1) (now (z .args .b)) (t .last .0) (p .last .0) (omega arith) (t .ensures .2) (t .ensures .0) refl (t .ensures .1) (p .ensures) (f .result .at) (f .result .first) (omega (arith, c .before .before .before .before .if1 .left, c .before .before .before .before .before .get4 .ensures)) (f .ensures), pass-tocks (z .args .n) (t .result) (t .result + 1) (now (z .args .b)) (t .last .0) (p .last .0) (omega arith) (t .ensures .2) (t .ensures .0) refl (t .ensures .1) (p .ensures))
 
 pub pass-spec : {M : Type 1} → statement M
 pass-spec =
@@ -72,10 +70,9 @@ pass-spec =
     get4-requires
     same-length
     returns
-    earliest-requires
+    place-requires
     put4-requires-2
     same-length-2
     returns-2
-    place-requires
     same-length-3
     returns-3)

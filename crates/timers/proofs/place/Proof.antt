@@ -1,4 +1,4 @@
--- `place` goes from the last record back: all from record k on are due later than the time.
+-- `place` goes from the last record back: all from record k on are due later than the time, and none before the first of them.
 use mathlib.Core.Path.{_≡_, subst}
 use Prim.Native.Nat.{ℕ, suc, _≤_}
 use native.Mathlib.Omega.{arith}
@@ -10,13 +10,13 @@ use Rattle.timers.proofs.place.Statement.{statement}
 use Rattle.timers.proofs.place.Tie as tie
 
 abbrev Inv-loop : tie.InvT-loop
-Inv-loop b n due k₀ k = (k ≤ n) × allFrom (suc due) (drop k (recordsIn n b))
+Inv-loop b n due k₀ first₀ k first = (k ≤ n) × allFrom (suc due) (drop k (recordsIn n b)) × allFrom first (drop k (recordsIn n b))
 
 abbrev μ-loop : tie.MeasureT-loop
-μ-loop b n due k₀ k = k
+μ-loop b n due k₀ first₀ k first = k
 
 loop-holds : tie.Need-loop-holds Inv-loop μ-loop
-loop-holds c = let z = c .before in (omega arith, place-start (suc (z .args .due)) (z .args .n) (now (z .args .b)))
+loop-holds c = let a = c .before .args in (omega arith, place-start (suc (a .due)) (a .n) (now (a .b)), place-start _ (a .n) (now (a .b)))
 
 mul-get4 : tie.Need-mul-get4 Inv-loop μ-loop
 mul-get4 c = omega arith
@@ -29,10 +29,13 @@ get4-requires c κs = omega arith
 
 returns : tie.Need-returns Inv-loop μ-loop
 returns c =
-    let z = c .before .before .before .before .before in
+    let a = c .before .before .before .before .before .args in
     let l = c .before .before .before .loop in
     let x = c .before .get4 in
-    (l .inv .0, place-here (z .args .n) (l .k) (x .result) (now (z .args .b)) (omega arith) (l .inv .0) (x .ensures) (z .args .due) (omega arith), l .inv .1)
+    (l .inv .0, place-here (a .n) (l .k) (x .result) (now (a .b)) (omega arith) (l .inv .0) (x .ensures) (a .due) (omega arith), l .inv .1, l .inv .2)
+
+lesser-requires : tie.Need-lesser-requires Inv-loop μ-loop
+lesser-requires c κs = omega arith
 
 sub-k : tie.Need-sub-k Inv-loop μ-loop
 sub-k c = omega arith
@@ -42,17 +45,19 @@ loop-less c = omega arith
 
 loop-again : tie.Need-loop-again Inv-loop μ-loop
 loop-again c =
-    let z = c .before .before .before .before .before in
-    let l = c .before .before .before .loop in
-    let x = c .before .get4 in
-    (omega arith, place-on (z .args .n) (l .k) (x .result) (now (z .args .b)) (omega arith) (l .inv .0) (x .ensures) (suc (z .args .due)) (suc (z .args .due)) (omega arith) (omega arith) (l .inv .1))
+    let a = c .before .before .before .before .before .before .args in
+    let l = c .before .before .before .before .loop in
+    let x = c .before .before .get4 in
+    let on = place-on (a .n) (l .k) (x .result) (now (a .b)) (omega arith) (l .inv .0) (x .ensures) in
+    (omega arith, on (suc (a .due)) (suc (a .due)) (omega arith) (omega arith) (l .inv .1), on (l .first) (c .lesser .result) (omega arith) (omega arith) (l .inv .2))
 
 returns-2 : tie.Need-returns-2 Inv-loop μ-loop
 returns-2 c =
-    let z = c .before .before .before in
+    let a = c .before .before .before .args in
     let l = c .before .loop in
     let e : l .k ≡ 0 = omega arith in
-    (omega arith, tt, subst (λ (i : ℕ). allFrom (suc (z .args .due)) (drop i (recordsIn (z .args .n) (now (z .args .b))))) e (l .inv .1))
+    let at : ℕ → ℕ → Type 0 = λ x i. allFrom x (drop i (recordsIn (a .n) (now (a .b)))) in
+    (omega arith, tt, subst (at (suc (a .due))) e (l .inv .1), subst (at (l .first)) e (l .inv .2))
 
 pub place-spec : {M : Type 1} → statement M
 place-spec =
@@ -65,6 +70,7 @@ place-spec =
     add-get4
     get4-requires
     returns
+    lesser-requires
     sub-k
     loop-less
     loop-again

@@ -1,5 +1,4 @@
 -- `remove`: what the record says of those before it is handed on, then its row goes.
-use native.Mathlib.Omega.{arith}
 use denote.Ref.{now}
 use Rattle.timers.specs.Ends.{remove-done}
 use borrow.Author.Needs.{needs}

@@ -5,13 +5,13 @@ use native.Mathlib.Omega.{arith}
 use lib.ListN.{length}
 use denote.Ref.{now}
 use Rattle.rows.specs.Rows.{mapUpto}
-use Rattle.timers.specs.Timers.{le4, recordsIn, settledBy, Keeps}
+use Rattle.timers.specs.Timers.{recordsIn, settledBy, Leaves}
 use Rattle.timers.specs.Loops.{settle-turn, settle-end}
 use Rattle.timers.proofs.settle.Statement.{statement}
 use Rattle.timers.proofs.settle.Tie as tie
 
 abbrev Inv-loop : tie.InvT-loop
-Inv-loop b₀ n floor back k₀ b k = (k ≤ n) × (length b ≡ length b₀) × Keeps n b (le4 b₀ 2) (le4 b₀ 6) (mapUpto (settledBy back floor) k (recordsIn n b₀))
+Inv-loop b₀ n floor back k₀ b k = (k ≤ n) × (length b ≡ length b₀) × Leaves n b₀ b (mapUpto (settledBy back floor) k (recordsIn n b₀))
 
 abbrev μ-loop : tie.MeasureT-loop
 μ-loop b₀ n floor back k₀ b k = n - k

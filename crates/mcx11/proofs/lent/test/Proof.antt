@@ -2,7 +2,7 @@
 use denote.Ref.{now}
 use borrow.Author.Tests.{not-true, not-false}
 use Rattle.configuration.specs.Limits.{limitsOf}
-use Rattle.parts.specs.Parts.{frameOf}
+use Rattle.parts.specs.Parts.{keptFrame}
 use Rattle.mcx11.specs.Tested.{lends-bad, lends-good, tested-short, tested-sized, tested-unmarked, tested-long, tested-rule, tested-fits, tested-messages}
 use borrow.Author.Needs.{needs}
 use Rattle.mcx11.proofs.lent.test.Statement.{statement}
@@ -43,19 +43,19 @@ enum-known-block c = search needs
 by-messages-requires : tie.Need-by-messages-requires
 by-messages-requires c κs =
     let s = c .before .before .before .before .before .before .before .before .before .before .before .before .before in
-    let g = lends-good (limitsOf (s .args .limits)) (frameOf (now (s .args .config))) (c .before .before .before .by-frame .ensures) (c .before .block .given .1) in
+    let g = lends-good (limitsOf (s .args .limits)) (keptFrame (now (s .args .config))) (c .before .before .before .by-frame .ensures) (c .before .block .given .1) in
     tested-fits (limitsOf (s .args .limits)) (now (s .args .config)) (now (s .args .tables)) (now (s .args .slots)) (now (s .args .timers)) (s .args .answer) _ (c .before .before .before .before .before .before .before .before .sizes-of .ensures) _ (c .before .before .before .before .before .before .before .has-sizes .ensures) (not-false _ (c .before .before .before .before .before .before .if1 .left)) _ (c .before .before .before .before .before .is-marked .ensures) (not-false _ (c .before .before .before .before .if2 .left)) (s .pre) (g .0) _ (g .1)
 
 returns-3 : tie.Need-returns-3
 returns-3 c =
     let s = c .before .before .before .before .before .before .before .before .before .before .before .before in
     tested-rule (limitsOf (s .args .limits)) (now (s .args .config)) (now (s .args .tables)) (now (s .args .slots)) (now (s .args .timers)) (s .args .answer) _ (c .before .before .before .before .before .before .before .sizes-of .ensures) _ (c .before .before .before .before .before .before .has-sizes .ensures) (not-false _ (c .before .before .before .before .before .if1 .left)) _ (c .before .before .before .before .is-marked .ensures) (not-false _ (c .before .before .before .if2 .left))
-    (lends-bad (limitsOf (s .args .limits)) (frameOf (now (s .args .config))) (c .before .before .by-frame .ensures) (c .enum-told .given .1))
+    (lends-bad (limitsOf (s .args .limits)) (keptFrame (now (s .args .config))) (c .before .before .by-frame .ensures) (c .enum-told .given .1))
 
 returns-4 : tie.Need-returns-4
 returns-4 c =
     let s = c .before .before .before .before .before .before .before .before .before .before .before .before .before .before in
-    let g = lends-good (limitsOf (s .args .limits)) (frameOf (now (s .args .config))) (c .before .before .before .before .by-frame .ensures) (c .before .before .block .given .1) in
+    let g = lends-good (limitsOf (s .args .limits)) (keptFrame (now (s .args .config))) (c .before .before .before .before .by-frame .ensures) (c .before .before .block .given .1) in
     tested-messages (limitsOf (s .args .limits)) (now (s .args .config)) (now (s .args .tables)) (now (s .args .slots)) (now (s .args .timers)) (s .args .answer) _ (c .before .before .before .before .before .before .before .before .before .sizes-of .ensures) _ (c .before .before .before .before .before .before .before .before .has-sizes .ensures) (not-false _ (c .before .before .before .before .before .before .before .if1 .left)) _ (c .before .before .before .before .before .before .is-marked .ensures) (not-false _ (c .before .before .before .before .before .if2 .left)) (s .pre) (g .0) _ (g .1) _ (c .by-messages .ensures)
 
 pub test-spec : {M : Type 1} → statement M
