@@ -1,8 +1,15 @@
 //! Measures the verified executive beside the other implementation on the same recorded sessions, and prints tables.
 
+mod dear;
+mod frames;
 mod measure;
+mod mixes;
 mod session;
 mod sessions;
+mod stack;
+mod stage;
+mod storm;
+mod worst;
 
 use measure::{Cost, Counted};
 use session::Session;
@@ -12,7 +19,12 @@ fn main() {
     if let [who, file, before, frames] = arguments.as_slice() {
         measure::run_one(who, file, before.parse().expect("a number"), frames == "frames");
     }
-    let (recorded, growing) = (sessions::recorded(), sessions::growing());
+    match arguments.as_slice() {
+        [only] if only == worst::RUN_ALL => worst::run_all(),
+        [only] if only == "worst" => return worst::print(),
+        _ => {}
+    }
+    let (recorded, growing) = ([sessions::recorded(), mixes::random()].concat(), sessions::growing());
     for session in recorded.iter().chain(&growing) {
         session.check();
     }
@@ -20,6 +32,7 @@ fn main() {
     print(&["Session"], &recorded, 0);
     describe(&recorded);
     print(&["Frame", "T", "Runs", "Q", "Messages", "Timers"], &growing, recorded.len());
+    worst::print();
 }
 
 fn processor() -> String {
