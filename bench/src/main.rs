@@ -63,22 +63,23 @@ fn cells(cost: Cost) -> String {
 /// What stands behind the recorded sessions.
 fn describe(sessions: &[Session]) {
     println!(
-        "| Session | Tasks before the running one | Messages that lie | Timers | Reissues |\n|{}",
-        "---|".repeat(5)
+        "| Session | Tasks before the running one | Messages that lie | Timers | Reissues | Refused |\n|{}",
+        "---|".repeat(6)
     );
     for session in sessions {
         let mut other = session.other();
-        let mut sums = [0; 4];
+        let mut sums = [0; 5];
         for frame in &session.frames {
             let configuration = other.configuration();
             let before = if other.running() == 0 { configuration.tasks } else { other.running() - 1 };
             let lying = (1..=configuration.messages).filter(|&message| other.mailboxes().holds(message)).count();
             let timers = other.timers().active().len();
-            let reissues = other.frame(frame).reissues();
-            let held = [usize::from(before), lying, timers, reissues.into()];
+            let answer = other.frame(frame);
+            let refused = usize::from(answer.refusal() != 0);
+            let held = [usize::from(before), lying, timers, answer.reissues().into(), refused];
             sums = std::array::from_fn(|item| sums[item] + held[item]);
         }
-        let means = sums.map(|sum| format!("{:.1}", sum as f64 / session.frames.len() as f64));
+        let means = sums.map(|sum| format!("{:.2}", sum as f64 / session.frames.len() as f64));
         println!("| {} | {} |", session.name, means.join(" | "));
     }
     println!();

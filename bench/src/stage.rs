@@ -14,7 +14,7 @@ const SEMAPHORES: u8 = 255;
 const AWAY: u8 = 65;
 /// Nobody gets a message from this task, unless a state says so.
 pub const SILENT: u8 = TASKS;
-/// It stays idle, and messages lie in its mailbox.
+/// An idle task, whose mailbox has the messages that only lie there.
 const IDLE: u8 = 2;
 
 /// Of all queues; each has room for one entry.
@@ -34,8 +34,8 @@ pub enum Ends {
 impl Ends {
     pub fn waiting(self) -> &'static str {
         match self {
-            Ends::Takers => "takers",
-            Ends::Putters => "putters",
+            Ends::Takers => "taker",
+            Ends::Putters => "putter",
         }
     }
 
@@ -101,9 +101,9 @@ impl Stage {
         self.does(message(SEND, task, 0, number));
     }
 
-    /// Messages from this one to the last lie in the mailbox of an idle task.
-    pub fn lay_down_from(&mut self, number: u8) {
-        (number..=MESSAGES).for_each(|number| self.send(IDLE, number));
+    /// All messages lie in the mailbox of an idle task.
+    pub fn lay_down_all(&mut self) {
+        (1..=MESSAGES).for_each(|number| self.send(IDLE, number));
     }
 
     pub fn put(&self, queue: u8) -> Frame {
@@ -134,8 +134,8 @@ impl Stage {
         self.does(second);
     }
 
-    /// A suspended task has been woken at an empty queue: once it runs, its request completes there, and wakes a task that waits
-    /// at this end. The queue is then as such tasks find it.
+    /// A task waits at the other end of a queue, is suspended and then woken: once it runs, its request completes, and wakes the one
+    /// that waits at this end by then. The queue is left as tasks find it that wait at this end.
     pub fn relay(&mut self, ends: Ends, task: u8, queue: u8) {
         if let Ends::Takers = ends {
             self.fill(queue);

@@ -54,7 +54,7 @@ impl Storm {
     pub fn name(self) -> String {
         let Storm { size, ends, receivers, .. } = self;
         let queues = self.queues().len();
-        format!("{receivers} receivers, {queues} {}, a {}; {}", ends.waiting(), ends.passing(), size_name(size))
+        format!("storm: {receivers} receivers, {queues} {}s, a {}; {}", ends.waiting(), ends.passing(), size_name(size))
     }
 }
 
