@@ -30,8 +30,9 @@ const CODES: [&str; 17] = [
     "tick",
     "interrupt exit",
 ];
-/// The least time of so many rounds is taken, with so many calls in each.
-const ROUNDS: usize = 45;
+/// Of all rounds and repetitions the least time is taken, of so many calls each.
+const ROUNDS: usize = 30;
+const REPETITIONS: usize = 9;
 const CALLS: u32 = 100;
 /// What `run_all` is called with.
 pub const RUN_ALL: &str = "dear";
@@ -44,35 +45,52 @@ pub fn print() {
         println!("| no valgrind | - | - | - | - | - |\n");
         return;
     };
-    for (code, name) in (1..).zip(CODES) {
-        let of_code = candidates.iter().zip(&counts).filter(|(session, _)| session.frames[0][0] == code);
-        let (session, count) = of_code.max_by_key(|(_, &count)| count).expect("a frame of each code");
-        let mut memory = session.memory();
+    let codes = 1..=CODES.len() as u8;
+    let dearest: Vec<(&Session, u64)> = codes.map(|code| dearest(code, &candidates, &counts)).collect();
+    let times = nanoseconds(&dearest);
+    for (((session, count), time), name) in dearest.into_iter().zip(times).zip(CODES) {
+        let (code, mut memory) = (session.frames[0][0], session.memory());
         let bytes = stack::bytes(&session.frames[0], &mut memory);
-        let (time, reissues) = (nanoseconds(session), memory.answered()[2]);
+        let reissues = memory.answered()[2];
         println!("| ${code:02X} {name} | {count} | {time:.0} | {reissues} | {bytes} | {} |", session.name);
     }
     println!();
 }
 
-/// With the frames less without them, from the same state each time.
-fn nanoseconds(session: &Session) -> f64 {
-    let (kept, frame) = (session.memory(), &session.frames[0]);
-    let mut memory = kept.clone();
-    let mut least = [Duration::MAX; 2];
+/// Of the frames with this code.
+fn dearest<'a>(code: u8, candidates: &'a [Session], counts: &[u64]) -> (&'a Session, u64) {
+    let of_code = candidates.iter().zip(counts).filter(|(session, _)| session.frames[0][0] == code);
+    let (session, &count) = of_code.max_by_key(|(_, &count)| count).expect("a frame of each code");
+    (session, count)
+}
+
+fn nanoseconds(dearest: &[(&Session, u64)]) -> Vec<f64> {
+    let mut least = vec![[Duration::MAX; 2]; dearest.len()];
     for _ in 0..ROUNDS {
-        for (fed, least) in [true, false].into_iter().zip(&mut least) {
+        for ((session, _), least) in dearest.iter().zip(&mut least) {
+            repeat(session, least);
+        }
+    }
+    let frame = |[with, without]: [Duration; 2]| with.saturating_sub(without).as_nanos() as f64 / f64::from(CALLS);
+    least.into_iter().map(frame).collect()
+}
+
+/// With the frame and without it, from the same state each time.
+fn repeat(session: &Session, least: &mut [Duration; 2]) {
+    let kept = session.memory();
+    let mut memory = kept.clone();
+    for _ in 0..REPETITIONS {
+        for (fed, least) in [true, false].into_iter().zip(&mut *least) {
             let start = Instant::now();
             for _ in 0..CALLS {
                 restore(black_box(&mut memory), &kept);
                 if fed {
-                    black_box(memory.frame(black_box(frame)));
+                    black_box(memory.frame(black_box(&session.frames[0])));
                 }
             }
             *least = start.elapsed().min(*least);
         }
     }
-    least[0].saturating_sub(least[1]).as_nanos() as f64 / f64::from(CALLS)
 }
 
 fn restore(memory: &mut Lent, kept: &Lent) {
