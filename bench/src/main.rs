@@ -68,19 +68,19 @@ fn describe(sessions: &[Session]) {
     );
     for session in sessions {
         let mut other = session.other();
-        let mut sums = [0; 5];
+        let (mut sums, mut refused) = ([0; 4], 0);
         for frame in &session.frames {
             let configuration = other.configuration();
             let before = if other.running() == 0 { configuration.tasks } else { other.running() - 1 };
             let lying = (1..=configuration.messages).filter(|&message| other.mailboxes().holds(message)).count();
             let timers = other.timers().active().len();
             let answer = other.frame(frame);
-            let refused = usize::from(answer.refusal() != 0);
-            let held = [usize::from(before), lying, timers, answer.reissues().into(), refused];
+            let held = [usize::from(before), lying, timers, answer.reissues().into()];
             sums = std::array::from_fn(|item| sums[item] + held[item]);
+            refused += usize::from(answer.refusal() != 0);
         }
-        let means = sums.map(|sum| format!("{:.2}", sum as f64 / session.frames.len() as f64));
-        println!("| {} | {} |", session.name, means.join(" | "));
+        let means = sums.map(|sum| format!("{:.1}", sum as f64 / session.frames.len() as f64));
+        println!("| {} | {} | {} % |", session.name, means.join(" | "), 100 * refused / session.frames.len());
     }
     println!();
 }

@@ -1,4 +1,4 @@
-//! Nobody is woken. The last task runs, and all messages lie.
+//! Nobody is woken. The last task but one runs, and all messages lie.
 
 use super::{but_one_name, start_all, start_but_one, BEHIND, NEW};
 use crate::frames::{service, timed};
@@ -13,7 +13,7 @@ pub fn all(size: Size) -> Vec<Session> {
     start_all(&mut purged);
     let mut sessions = vec![
         quiet(size).session(lie.clone(), service(PEND, 0, 1)),
-        quiet(size).session(format!("an idle task with a lower number; {lie}"), service(EXECUTE, TASKS - 1, 0)),
+        quiet(size).session(format!("an idle task behind the caller; {lie}"), service(EXECUTE, TASKS, 0)),
         purged.session(format!("64 timers of the caller; {lie}"), service(PURGE, 0, 0)),
     ];
     sessions.extend(BEHIND.map(|behind| {
@@ -27,6 +27,6 @@ pub fn all(size: Size) -> Vec<Session> {
 fn quiet(size: Size) -> Stage {
     let mut stage = Stage::new(size, 1);
     stage.lay_down_all();
-    stage.hand_over(TASKS);
+    stage.hand_over(TASKS - 1);
     stage
 }
