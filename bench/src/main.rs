@@ -24,14 +24,16 @@ fn main() {
         [only] if only == "worst" => return worst::print(),
         _ => {}
     }
-    let (recorded, growing) = ([sessions::recorded(), mixes::random()].concat(), sessions::growing());
-    for session in recorded.iter().chain(&growing) {
+    let (recorded, random, growing) = (sessions::recorded(), mixes::random(), sessions::growing());
+    for session in recorded.iter().chain(&random).chain(&growing) {
         session.check();
     }
     println!("Processor: {}\n", processor());
-    print(&["Session"], &recorded, 0);
-    describe(&recorded);
-    print(&["Frame", "T", "Runs", "Q", "Messages", "Timers"], &growing, recorded.len());
+    for sessions in [&recorded, &random] {
+        print(&["Session"], sessions);
+        describe(sessions);
+    }
+    print(&["Frame", "T", "Runs", "Q", "Messages", "Timers"], &growing);
     worst::print();
 }
 
@@ -43,11 +45,11 @@ fn processor() -> String {
 
 const COSTS: [&str; 7] = ["ns", "other", "ratio", "instructions", "other", "ratio", "test for 11"];
 
-fn print(heading: &[&str], sessions: &[Session], first: usize) {
+fn print(heading: &[&str], sessions: &[Session]) {
     let columns: Vec<&str> = heading.iter().chain(&COSTS).copied().collect();
     println!("| {} |\n|{}", columns.join(" | "), "---|".repeat(columns.len()));
-    for (index, (session, time)) in sessions.iter().zip(measure::nanoseconds(sessions)).enumerate() {
-        let counted = match measure::instructions(session, first + index) {
+    for (session, time) in sessions.iter().zip(measure::nanoseconds(sessions)) {
+        let counted = match measure::instructions(session) {
             Some(Counted { cost, test }) => format!("{} | {test:.0}, {:.0} %", cells(cost), 100.0 * test / cost.engine),
             None => "no valgrind | - | - | -".to_string(),
         };
@@ -60,7 +62,7 @@ fn cells(cost: Cost) -> String {
     format!("{:.0} | {:.0} | {:.1}", cost.engine, cost.other, cost.engine / cost.other)
 }
 
-/// What stands behind the recorded sessions.
+/// What stands behind sessions.
 fn describe(sessions: &[Session]) {
     println!(
         "| Session | Tasks before the running one | Messages that lie | Timers | Reissues | Refused |\n|{}",
@@ -77,10 +79,12 @@ fn describe(sessions: &[Session]) {
             let answer = other.frame(frame);
             let held = [usize::from(before), lying, timers, answer.reissues().into()];
             sums = std::array::from_fn(|item| sums[item] + held[item]);
-            refused += usize::from(answer.refusal() != 0);
+            refused += u32::from(answer.refusal() != 0);
         }
-        let means = sums.map(|sum| format!("{:.1}", sum as f64 / session.frames.len() as f64));
-        println!("| {} | {} | {} % |", session.name, means.join(" | "), 100 * refused / session.frames.len());
+        let frames = session.frames.len() as f64;
+        let means = sums.map(|sum| format!("{:.1}", sum as f64 / frames));
+        let share = 100.0 * f64::from(refused) / frames;
+        println!("| {} | {} | {share:.0} % |", session.name, means.join(" | "));
     }
     println!();
 }

@@ -7,6 +7,9 @@ use crate::stage::{Size, Stage, TASKS};
 use crate::storm::size_name;
 use plain_executive::command::*;
 
+/// Its low byte is 0, and the high byte has to be looked at.
+const ALL_TIMERS: i16 = 0x100;
+
 pub fn all(size: Size) -> Vec<Session> {
     let lie = format!("64 messages lie; {}", size_name(size));
     let mut purged = quiet(size);
@@ -14,7 +17,7 @@ pub fn all(size: Size) -> Vec<Session> {
     let mut sessions = vec![
         quiet(size).session(lie.clone(), service(PEND, 0, 1)),
         quiet(size).session(format!("an idle task behind the caller; {lie}"), service(EXECUTE, TASKS, 0)),
-        purged.session(format!("64 timers of the caller; {lie}"), service(PURGE, 0, 0)),
+        purged.session(format!("64 timers of the caller, X is $0100; {lie}"), timed(PURGE, 0, 0, ALL_TIMERS)),
     ];
     sessions.extend(BEHIND.map(|behind| {
         let mut stage = quiet(size);
