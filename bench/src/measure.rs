@@ -64,9 +64,9 @@ pub struct Counted {
 }
 
 /// By callgrind, with the frames less without them. None where valgrind is missing.
-pub fn instructions(session: &Session, index: usize) -> Option<Counted> {
+pub fn instructions(session: &Session) -> Option<Counted> {
     let program = std::env::current_exe().expect("a name");
-    let file = program.with_file_name(format!("session-{index}.txt"));
+    let file = program.with_file_name("session.txt");
     fs::write(&file, session.lines()).expect("a file beside the program");
     let count = |who: &str, frames: &str| {
         let output = Command::new("valgrind")

@@ -1,5 +1,6 @@
 //! The sessions that are measured, the same in every run: frames that prepare, and the frames that count.
 
+use crate::frames::{self, take, tick, timed};
 use crate::session::{Frame, Session};
 use plain_executive::command::*;
 use plain_executive::executive::Executive;
@@ -95,7 +96,7 @@ fn mixed(numbers: Numbers) -> Session {
         match code {
             SEND | SENDW => vec![code, task, semaphore, 0, random.between(1, MESSAGES)],
             ENQUEUE => put(random, numbers, queue),
-            DEQUEUE => vec![DEQUEUE, queue, 0, 0, 0],
+            DEQUEUE => take(queue),
             DELAY | TIMER => vec![code, task, semaphore, random.pick(&[0, 0, 255]), random.between(1, 99)],
             _ => vec![code, task, semaphore, 0, 0],
         }
@@ -104,10 +105,11 @@ fn mixed(numbers: Numbers) -> Session {
 
 /// 64 cyclic timers, and tasks that wait for their semaphores. Most frames are ticks; each fourth tick ends a tock.
 fn ticks(numbers: Numbers) -> Session {
-    let starts = (1..=TIMERS).map(|number| timer(1 + number % numbers.tasks, number, -5 - i16::from(number))).collect();
+    let starts =
+        (1..=TIMERS).map(|number| timed(TIMER, 1 + number % numbers.tasks, number, -5 - i16::from(number))).collect();
     record(numbers.name("ticks, 64 timers"), numbers, starts, |random, executive| {
         if executive.running() == 0 || random.percent(60) {
-            return vec![TICK, 0, 0, 0, 0];
+            return tick();
         }
         let pending = |number: &u8| executive.semaphore(*number) == Semaphore::Pending;
         let free: Vec<u8> = (1..=numbers.named).filter(pending).collect();
@@ -125,7 +127,7 @@ fn queues(numbers: Numbers) -> Session {
         if random.percent(50) {
             put(random, numbers, queue)
         } else {
-            vec![DEQUEUE, queue, 0, 0, 0]
+            take(queue)
         }
     })
 }
@@ -143,12 +145,7 @@ fn messages(numbers: Numbers) -> Session {
 }
 
 fn put(random: &mut Random, numbers: Numbers, queue: u8) -> Frame {
-    [vec![ENQUEUE, queue, 0, 0, 0], random.bytes(numbers.width.into())].concat()
-}
-
-fn timer(task: u8, semaphore: u8, tocks: i16) -> Frame {
-    let [high, low] = tocks.to_be_bytes();
-    vec![TIMER, task, semaphore, high, low]
+    frames::put(queue, &random.bytes(numbers.width.into()))
 }
 
 /// Frames that are accepted and mostly leave a task that runs.
@@ -196,7 +193,7 @@ impl Held {
         let Held { tasks, running, queues, messages, timers } = self;
         let numbers = Numbers { tasks, named: 64, queues, ticks: 1, idle: running - 1, width: 8, depth: 16 };
         let sends = (1..=messages).map(|message| vec![SEND, tasks, 0, 0, message]);
-        let starts = (1..=timers).map(|number| timer(tasks, number, i16::MIN));
+        let starts = (1..=timers).map(|number| timed(TIMER, tasks, number, i16::MIN));
         Session {
             name: format!("{name} | {tasks} | {running} | {queues} | {messages} | {timers}"),
             configuration: numbers.frame(),
@@ -209,7 +206,7 @@ impl Held {
 /// A signal of a semaphore that is DONE, and a tick that ends a tock in which no timer is due.
 pub fn growing() -> Vec<Session> {
     let signal = |held: Held| held.session("signal", &[SIGNAL, 0, 64, 0, 0]);
-    let tick = |held: Held| held.session("tick", &[TICK, 0, 0, 0, 0]);
+    let tick = |held: Held| held.session("tick", &tick());
     let mut sessions = vec![signal(LITTLE), signal(Held { running: 8, ..LITTLE })];
     sessions.extend([1, 32, 64, 126].map(|running| signal(Held { tasks: 126, running, ..LITTLE })));
     sessions.extend([4, 32].map(|queues| signal(Held { queues, ..LITTLE })));

@@ -9,6 +9,7 @@ mod moves;
 
 use std::ops::RangeInclusive;
 
+use crate::command::INTERRUPT_EXIT;
 use crate::executive::Executive;
 use crate::line;
 use crate::random::Random;
@@ -52,6 +53,13 @@ impl Generator {
     pub fn script_of(&mut self, configuration: Vec<u8>, frames: usize) -> Script {
         let mut executive = Executive::configure(&configuration).expect("an accepted configuration");
         let frames = (0..frames).map(|_| self.next_frame(&mut executive)).collect();
+        Script { configuration, frames }
+    }
+
+    /// The same, but a task runs most of the time: a long session of the other kind comes to an end with all of them blocked.
+    pub fn lasting_script_of(&mut self, configuration: Vec<u8>, frames: usize) -> Script {
+        let mut executive = Executive::configure(&configuration).expect("an accepted configuration");
+        let frames = (0..frames).map(|_| self.next_lasting_frame(&mut executive)).collect();
         Script { configuration, frames }
     }
 
@@ -104,6 +112,18 @@ impl Generator {
         frame
     }
 
+    fn next_lasting_frame(&mut self, executive: &mut Executive) -> Vec<u8> {
+        loop {
+            let frame = self.any_frame(executive);
+            let mut after = executive.clone();
+            after.frame(&frame);
+            if after.running() != 0 || (self.random.percent(5) && is_at_rest(&after)) {
+                *executive = after;
+                return frame;
+            }
+        }
+    }
+
     fn any_frame(&mut self, executive: &Executive) -> Vec<u8> {
         match self.random.below(100) {
             0..=3 => damage::frame(&mut self.random, executive),
@@ -111,6 +131,16 @@ impl Generator {
             _ => self.frame(executive),
         }
     }
+}
+
+/// An interrupt exit would leave a task that runs.
+fn is_at_rest(executive: &Executive) -> bool {
+    let wakes = |semaphore: u8| {
+        let mut after = executive.clone();
+        after.frame(&[INTERRUPT_EXIT, 0, semaphore, 0, 0]);
+        after.running() != 0
+    };
+    (1..=executive.configuration().nameable_semaphores()).any(wakes)
 }
 
 /// Some task runs, or would run after an interrupt exit.

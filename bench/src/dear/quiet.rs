@@ -1,0 +1,35 @@
+//! Nobody is woken. The last task but one runs, and all messages lie.
+
+use super::{but_one_name, start_all, start_but_one, BEHIND, NEW};
+use crate::frames::{service, timed};
+use crate::session::Session;
+use crate::stage::{Size, Stage, TASKS};
+use crate::storm::size_name;
+use plain_executive::command::*;
+
+/// Its low byte is 0, and the high byte has to be looked at.
+const ALL_TIMERS: i16 = 0x100;
+
+pub fn all(size: Size) -> Vec<Session> {
+    let lie = format!("64 messages lie; {}", size_name(size));
+    let mut purged = quiet(size);
+    start_all(&mut purged);
+    let mut sessions = vec![
+        quiet(size).session(lie.clone(), service(PEND, 0, 1)),
+        quiet(size).session(format!("an idle task behind the caller; {lie}"), service(EXECUTE, TASKS, 0)),
+        purged.session(format!("64 timers of the caller, X is $0100; {lie}"), timed(PURGE, 0, 0, ALL_TIMERS)),
+    ];
+    sessions.extend(BEHIND.map(|behind| {
+        let mut stage = quiet(size);
+        start_but_one(&mut stage, behind);
+        stage.session(format!("{}; {lie}", but_one_name(behind)), timed(TIMER, 0, 0, NEW))
+    }));
+    sessions
+}
+
+fn quiet(size: Size) -> Stage {
+    let mut stage = Stage::new(size, 1);
+    stage.lay_down_all();
+    stage.hand_over(TASKS - 1);
+    stage
+}
