@@ -24,6 +24,7 @@ pub mod Steps
 pub mod Kept
 pub mod HandedOut
 pub mod Sound
--- lines and frames are inverse to each other (written-reads-back, read-is-the-line); a tock value at every width (negative, lowest)
+-- lines and frames are inverse to each other (written-reads-back, read-is-the-line); a tock value at every width (negative, lowest); milliseconds as the nearest tocks (nearest-is, only-nearest)
 pub mod Lines
 pub mod TockValues
+pub mod Nearest
