@@ -19,10 +19,10 @@ extern "C" {
 
 /** @name The version: docs/CHANGES.md says what each changed for hosts
  * @{ */
-#define MCX11_VERSION_MAJOR 1 /**< a host has to be changed */
-#define MCX11_VERSION_MINOR 1 /**< something is new, or the lent memory has another layout */
+#define MCX11_VERSION_MAJOR 2 /**< a host has to be changed */
+#define MCX11_VERSION_MINOR 0 /**< something is new, or the lent memory has another layout */
 #define MCX11_VERSION_PATCH 0 /**< something is mended */
-#define MCX11_VERSION "1.1.0" /**< the three as a text */
+#define MCX11_VERSION "2.0.0" /**< the three as a text */
 /** @} */
 
 /** @name The sizes of the lent blocks
@@ -125,7 +125,8 @@ int32_t mcx11_read_line(const uint8_t *line, size_t digits, uint8_t *frame, size
 /** Writes the digits of a frame or an answer into line. @return how many, or a number with a minus sign */
 int32_t mcx11_write_line(const uint8_t *frame, size_t length, uint8_t *line, size_t room);
 
-/** Milliseconds as tocks of per milliseconds each. @return the tocks, for MCX11_ONCE, or a number with a minus sign */
+/** Milliseconds as the nearest number of tocks of per milliseconds each; an exact half goes up. @return the tocks, 1 to 32,767, for
+ * MCX11_ONCE, or a number with a minus sign: 10 where it is another number of tocks, 3 where per is 0 */
 int32_t mcx11_milliseconds(uint16_t ms, uint16_t per);
 
 /* ---- The trace hook */

@@ -37,10 +37,21 @@ pub fn tock_value(x: u16) -> Result<Tocks, Number> {
     }
 }
 
+/// The number of tocks whose time is nearest; of two that are as near, the upper one.
+fn nearest(milliseconds: u32, per_tock: u32) -> u32 {
+    let off = |tocks: u32| milliseconds.abs_diff(tocks * per_tock);
+    let below = milliseconds / per_tock;
+    if off(below + 1) <= off(below) {
+        below + 1
+    } else {
+        below
+    }
+}
+
 /// The tock value for a number of milliseconds.
 pub fn tocks_of_milliseconds(milliseconds: u16, per_tock: u16) -> Result<u16, Number> {
     require(per_tock != 0, CONFIGURATION)?;
-    let tocks = milliseconds / per_tock;
+    let tocks = nearest(milliseconds.into(), per_tock.into());
     require((1..=32_767).contains(&tocks), MILLISECONDS)?;
-    Ok(tocks)
+    Ok(tocks as u16)
 }

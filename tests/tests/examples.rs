@@ -105,8 +105,12 @@ fn most_semaphores() {
 #[test]
 fn milliseconds() {
     assert_eq!(tocks_of_milliseconds(250, 125), Ok(2));
-    assert_eq!(tocks_of_milliseconds(249, 125), Ok(1));
-    assert_eq!(tocks_of_milliseconds(124, 125), Err(MILLISECONDS));
+    assert_eq!(tocks_of_milliseconds(249, 125), Ok(2));
+    assert_eq!(tocks_of_milliseconds(124, 125), Ok(1));
+    assert_eq!(tocks_of_milliseconds(49, 100), Err(MILLISECONDS));
+    assert_eq!(tocks_of_milliseconds(50, 100), Ok(1));
+    assert_eq!(tocks_of_milliseconds(149, 100), Ok(1));
+    assert_eq!(tocks_of_milliseconds(150, 100), Ok(2));
 }
 
 #[test]

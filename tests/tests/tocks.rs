@@ -21,12 +21,21 @@ fn a_tock_without_milliseconds_is_tested_first() {
     assert_eq!(tocks_of_milliseconds(65_535, 0), Err(CONFIGURATION));
 }
 
+/// The rule as document 02 words it, without a division: 2m lies from (2r - 1)p, included, up to (2r + 1)p, left out.
+fn is_nearest(milliseconds: u16, per_tock: u16, tocks: u16) -> bool {
+    let [m, p, r] = [milliseconds, per_tock, tocks].map(i64::from);
+    (2 * r - 1) * p <= 2 * m && 2 * m < (2 * r + 1) * p
+}
+
 #[test]
 fn milliseconds_at_one_and_two_a_tock() {
     for milliseconds in 0..=u16::MAX {
         let one = if (1..=32_767).contains(&milliseconds) { Ok(milliseconds) } else { Err(MILLISECONDS) };
         assert_eq!(tocks_of_milliseconds(milliseconds, 1), one);
-        let two = if milliseconds >= 2 { Ok(milliseconds / 2) } else { Err(MILLISECONDS) };
+        let two = match milliseconds {
+            0 | u16::MAX => Err(MILLISECONDS),
+            _ => Ok(milliseconds.div_ceil(2)),
+        };
         assert_eq!(tocks_of_milliseconds(milliseconds, 2), two);
     }
 }
@@ -34,9 +43,13 @@ fn milliseconds_at_one_and_two_a_tock() {
 #[test]
 fn milliseconds_at_every_length_of_a_tock() {
     for per_tock in 3..=u16::MAX {
-        let most = u16::MAX / per_tock;
-        assert_eq!(tocks_of_milliseconds(per_tock - 1, per_tock), Err(MILLISECONDS));
-        assert_eq!(tocks_of_milliseconds(per_tock, per_tock), Ok(1));
-        assert_eq!(tocks_of_milliseconds(most * per_tock, per_tock), Ok(most));
+        let half = per_tock.div_ceil(2);
+        assert_eq!(tocks_of_milliseconds(half - 1, per_tock), Err(MILLISECONDS));
+        assert_eq!(tocks_of_milliseconds(half, per_tock), Ok(1));
+        let rest = u16::MAX % per_tock;
+        for milliseconds in [per_tock, u16::MAX - rest, u16::MAX] {
+            let tocks = tocks_of_milliseconds(milliseconds, per_tock).expect("at most 21,846 tocks");
+            assert!(is_nearest(milliseconds, per_tock, tocks), "{milliseconds} at {per_tock}: {tocks}");
+        }
     }
 }

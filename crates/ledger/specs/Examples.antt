@@ -46,8 +46,16 @@ pub record Table : Type 0 where
   S-127 : configRefusal (large 127) ≡ 0
   S-128 : configRefusal (large 128) ≡ 3
   ms-250 : milliseconds 250 125 ≡ are 2
-  ms-249 : milliseconds 249 125 ≡ are 1
-  ms-124 : milliseconds 124 125 ≡ refused 10
+  ms-249 : milliseconds 249 125 ≡ are 2
+  ms-124 : milliseconds 124 125 ≡ are 1
+  -- the request's own, at 100 milliseconds per tock: an exact half goes up
+  ms-49 : milliseconds 49 100 ≡ refused 10
+  ms-50 : milliseconds 50 100 ≡ are 1
+  ms-149 : milliseconds 149 100 ≡ are 1
+  ms-150 : milliseconds 150 100 ≡ are 2
+  -- the upper end is tested after rounding
+  ms-65534 : milliseconds 65534 2 ≡ are 32767
+  ms-65535 : milliseconds 65535 2 ≡ refused 10
   -- task 1 waits on a named semaphore, task 2 on an empty queue; interrupt exit; task 1 puts, takes and takes again
   takes-again : answers two ("0100010000" ∷ "0701000000" ∷ "1100010000" ∷ "080100000041" ∷ "0701000000" ∷ "0701000000" ∷ [])
       ≡ lines ("00010001" ∷ "00020001" ∷ "00000000" ∷ "0001000501" ∷ "00010000" ∷ "0001000341" ∷ "0002010415" ∷ [])
@@ -70,5 +78,11 @@ the-table = record {
   ms-250 = refl;
   ms-249 = refl;
   ms-124 = refl;
+  ms-49 = refl;
+  ms-50 = refl;
+  ms-149 = refl;
+  ms-150 = refl;
+  ms-65534 = refl;
+  ms-65535 = refl;
   takes-again = refl;
 }

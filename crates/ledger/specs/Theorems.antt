@@ -26,6 +26,7 @@ pub mod HandedOut
 pub mod Sound
 -- messages 1 to G, none twice: every step of every ledger keeps it (once-step)
 pub mod Once
--- lines and frames are inverse to each other (written-reads-back, read-is-the-line); a tock value at every width (negative, lowest)
+-- lines and frames are inverse to each other (written-reads-back, read-is-the-line); a tock value at every width (negative, lowest); milliseconds as the nearest tocks (nearest-is, only-nearest)
 pub mod Lines
 pub mod TockValues
+pub mod Nearest

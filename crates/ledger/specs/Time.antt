@@ -1,5 +1,5 @@
 -- Numbers of tocks: the tock value of a frame, and milliseconds as tocks.
-use Prim.Native.Nat.{ℕ, _+_, _-_, _/_}
+use Prim.Native.Nat.{ℕ, suc, _+_, _-_, _/_, _%_}
 use mathlib.Core.Bool.{cond, _||_}
 use lib.Dec.{eqb, ltb}
 
@@ -34,9 +34,13 @@ pub data Tocks : Type 0 where
   are : ℕ → Tocks
   refused : ℕ → Tocks
 
--- 0 milliseconds per tock gives 3, tested first; a result of 0 or above 32,767 gives 10
+-- m milliseconds at p per tock lie m % p above a whole number of tocks and p - m % p below the next: the nearer of the two, and the upper one where both are as near (Theorems/Nearest: the only r with 2m from (2r - 1)p up to (2r + 1)p)
+unfoldable pub nearest : (m p : ℕ) → ℕ
+nearest m p = cond (ltb (m % p) (p - m % p)) (m / p) (suc (m / p))
+
+-- milliseconds as the nearest number of tocks: 0 milliseconds per tock gives 3, tested first; a result of 0 or above 32,767 gives 10
 unfoldable pub milliseconds : (ms perTock : ℕ) → Tocks
 milliseconds m p =
     cond (eqb p 0) (refused 3)
-    (cond (eqb (m / p) 0 || ltb 32767 (m / p)) (refused 10)
-    (are (m / p)))
+    (cond (eqb (nearest m p) 0 || ltb 32767 (nearest m p)) (refused 10)
+    (are (nearest m p)))

@@ -1,2 +1,3 @@
 pub mod Opposite
 pub mod Complement
+pub mod Rounding

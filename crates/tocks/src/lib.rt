@@ -2,7 +2,7 @@
 // Promises: each answer is the ledger's own (Time) of the same bits or numbers, for every input.
 // Rests on the checker's reading of a signed number's bits.
 ghost use mathlib.Core.Path.{_≡_};
-ghost use Prim.Native.Nat.{_+_, _*_, _/_, _<_};
+ghost use Prim.Native.Nat.{_+_, _*_, _<_};
 ghost use mir.Syntax.{w16};
 ghost use mir.Val.{ofZ, toZ};
 ghost use Rattle.ledger.specs.Time as time;
@@ -55,22 +55,24 @@ pub fn tock_value_at(high: u8, low: u8) -> TockValue
     tock_value(signed_word(high, low))
 }
 
-// The whole tocks in some milliseconds.
-fn whole_tocks(ms: u16, per: u16) -> u16
+// The nearest number of tocks. The sum is taken in the wider type: it may be above 65,535.
+fn nearest(ms: u16, per: u16) -> u16
     requires { ⌜ 0 < per ⌝ }
-    ensures { λ r. ⌜ r ≡ ms / per ⌝ }
+    ensures { λ r. ⌜ r ≡ time.nearest ms per ⌝ }
 {
-    ms / per
+    let per = per as u32;
+    let sum = 2 * (ms as u32) + per;
+    (sum / (2 * per)) as u16
 }
 
-// Milliseconds as tocks of `per` milliseconds each.
+// Milliseconds as the nearest number of tocks of `per` milliseconds each; an exact half goes up.
 pub fn milliseconds(ms: u16, per: u16) -> Tocks
     ensures { λ r. ⌜ tocksView r ≡ time.milliseconds ms per ⌝ }
 {
     if per == 0 {
         return Tocks::Refused(3);
     }
-    let tocks = whole_tocks(ms, per);
+    let tocks = nearest(ms, per);
     if tocks == 0 {
         return Tocks::Refused(10);
     }
