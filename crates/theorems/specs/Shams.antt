@@ -30,7 +30,7 @@ pub record Answered (g : List ℕ) (fs answers : List (List ℕ)) : Type 0 where
 ledgers : {g : List ℕ} {fs answers : List (List ℕ)} → configRefusal g ≡ 0 → Answered g fs answers → answers ≡ session g fs
 ledgers h x = x .are ∙ every-list h (x .full) (x .configured) (x .fed) .answers
 
-module _ {a : List (List ℕ)} where
+module _ (a : List (List ℕ)) where
   -- byte i of answer k, that to the configuration being answer 0
   abbrev shows : (k i : ℕ) → ℕ
   shows k i = byte i (getD a k [])
