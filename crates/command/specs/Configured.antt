@@ -16,14 +16,14 @@ abbrev pub Says : {A : Type 0} → Shape → (Config → A) → A → Type 0
 Says s f r = (c : Config) → Of c s → r ≡ f c
 
 -- g is a configuration's frame, as long as it says, and the shape is its. (No record, so that its many parts stay out of sight where one fact of it is wanted)
-pub data Configures (g : List ℕ) (s : Shape) : Type 0 where
-  configures : length g ≡ frameBytes s → Of (configIn g) s → Configures g s
+pub data Framed (g : List ℕ) (s : Shape) : Type 0 where
+  framed : length g ≡ frameBytes s → Of (configIn g) s → Framed g s
 
-pub bytes : {g : List ℕ} {s : Shape} → Configures g s → length g ≡ frameBytes s
-bytes (configures l o) = l
+pub bytes : {g : List ℕ} {s : Shape} → Framed g s → length g ≡ frameBytes s
+bytes (framed l o) = l
 
-pub of : {g : List ℕ} {s : Shape} → Configures g s → Of (configIn g) s
-of (configures l o) = o
+pub of : {g : List ℕ} {s : Shape} → Framed g s → Of (configIn g) s
+of (framed l o) = o
 
-pub fits : {g : List ℕ} {s : Shape} → Configures g s → Fits s (s .end)
-fits (configures l o) = fitting (o .laid) (omega arith)
+pub fits : {g : List ℕ} {s : Shape} → Framed g s → Fits s (s .end)
+fits (framed l o) = fitting (o .laid) (omega arith)

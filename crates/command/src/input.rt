@@ -14,13 +14,13 @@ ghost use Rattle.ledger.specs.Refusals.{wrongEntry, fromInput};
 ghost use Rattle.tables.specs.Layout.{Fits};
 ghost use Rattle.ledger.specs.Config.{configIn};
 ghost use Rattle.command.specs.Codes.{viewFollows, viewFields};
-ghost use Rattle.command.specs.Configured.{Says, Configures};
+ghost use Rattle.command.specs.Configured.{Says, Framed};
 ghost use Rattle.command.specs.Table.{EntryIn};
 ghost use Rattle.command.specs.Input.{Row, fieldChecks};
 
 // Whether an entry of so many bytes is not as wide as those of queue q.
 fn wrong_entry(follows: Follows, config: &[u8], shape: Shape, q: u8, size: usize) -> bool
-    requires { ⌜ Configures (now config) shape × EntryIn shape (viewFollows follows) q ⌝ }
+    requires { ⌜ Framed (now config) shape × EntryIn shape (viewFollows follows) q ⌝ }
     ensures { λ r. ⌜ ((e : List ℕ) → length e ≡ size → r ≡ wrongEntry (configIn (now (config .entry))) (viewFollows follows) q e) ⌝ }
 {
     match follows {
@@ -64,7 +64,7 @@ fn wrong_fields(u: Fields, frame: &[u8], shape: Shape, me: u8) -> u8
 
 // The frame has five bytes, its code is in the table, and `u` is the code's row.
 pub fn input(u: Fields, frame: &[u8], config: &[u8], shape: Shape, me: u8) -> u8
-    requires { ⌜ Row (now frame) u × Configures (now config) shape ⌝ }
+    requires { ⌜ Row (now frame) u × Framed (now config) shape ⌝ }
     ensures { λ r. ⌜ r ≡ first (fromInput (configIn (now (config .entry))) me (now (frame .entry))) ⌝ }
 {
     let follows = u.follows;

@@ -14,7 +14,7 @@ ghost use Rattle.ledger.specs.Lists.{byte};
 ghost use Rattle.tables.specs.Layout.{Fits, OneOf};
 ghost use Rattle.clock.specs.Held.{Holds};
 ghost use Rattle.ledger.specs.Config.{configIn};
-ghost use Rattle.command.specs.Configured.{Configures};
+ghost use Rattle.command.specs.Configured.{Framed};
 ghost use Rattle.command.specs.Refused.{Refuses};
 
 // All checks of a frame of this code.
@@ -27,7 +27,7 @@ fn checked(
     shape: Shape,
     me: u8,
 ) -> u8
-    requires { ⌜ (5 ≤ length (now frame)) × (byte 0 (now frame) ≡ code) × OneOf 17 code × Configures (now config) shape
+    requires { ⌜ (5 ≤ length (now frame)) × (byte 0 (now frame) ≡ code) × OneOf 17 code × Framed (now config) shape
         × Fits shape (length (now tables)) × Holds shape (length (now timers)) × (me ≤ shape .tasks) ⌝ }
     ensures { λ r. ⌜ Refuses (configIn (now (config .entry))) shape (now (frame .entry)) me (now (tables .entry)) (now (timers .entry)) r ⌝ }
 {
@@ -53,7 +53,7 @@ pub fn refusal(
     shape: Shape,
     me: u8,
 ) -> u8
-    requires { ⌜ Configures (now config) shape × Fits shape (length (now tables)) × Holds shape (length (now timers)) × (me ≤ shape .tasks) ⌝ }
+    requires { ⌜ Framed (now config) shape × Fits shape (length (now tables)) × Holds shape (length (now timers)) × (me ≤ shape .tasks) ⌝ }
     ensures { λ r. ⌜ Refuses (configIn (now (config .entry))) shape (now (frame .entry)) me (now (tables .entry)) (now (timers .entry)) r ⌝ }
 {
     if frame.len() < 5 {

@@ -18,7 +18,7 @@ ghost use Rattle.clock.specs.Held.{Holds};
 ghost use Rattle.clock.specs.Does.{TellsTimers};
 ghost use Rattle.ledger.specs.Config.{configIn};
 ghost use Rattle.command.specs.Codes.{viewX, viewWaits};
-ghost use Rattle.command.specs.Configured.{Configures};
+ghost use Rattle.command.specs.Configured.{Framed};
 ghost use Rattle.command.specs.Table.{WaitsIn};
 ghost use Rattle.command.specs.State.{TellsOf, StateSays};
 
@@ -66,7 +66,7 @@ fn lies(kind: FieldX, tables: &[u8], shape: Shape, x: u8) -> bool
 
 // 21
 fn meets21(waits: Waits, config: &[u8], tables: &[u8], shape: Shape, a: u8, b: u8) -> bool
-    requires { ⌜ Configures (now config) shape × Fits shape (length (now tables)) × WaitsIn shape (viewWaits waits) a b ⌝ }
+    requires { ⌜ Framed (now config) shape × Fits shape (length (now tables)) × WaitsIn shape (viewWaits waits) a b ⌝ }
     ensures { λ r. ⌜ TellsOf (configIn (now (config .entry))) shape (now (tables .entry)) (λ c L. ledger.meets21 c L (viewWaits waits) a b) r ⌝ }
 {
     match waits {
@@ -122,7 +122,7 @@ pub fn state(
     b: u8,
     x: u8,
 ) -> u8
-    requires { ⌜ Configures (now config) shape × Fits shape (length (now tables)) × Holds shape (length (now timers)) × WaitsIn shape (viewWaits (u .waits)) a b ⌝ }
+    requires { ⌜ Framed (now config) shape × Fits shape (length (now tables)) × Holds shape (length (now timers)) × WaitsIn shape (viewWaits (u .waits)) a b ⌝ }
     ensures { λ r. ⌜ StateSays (configIn (now (config .entry))) shape (now (tables .entry)) (now (timers .entry)) u a b x r ⌝ }
 {
     let waits = u.waits;

@@ -9,17 +9,17 @@ use lib.ListN.{length, take, drop, length-drop}
 use lib.Seq.{take-all}
 use Rattle.rows.specs.Splice.{cut}
 use Rattle.ledger.specs.Lists.{within, byte, word, sum, all}
-use Rattle.ledger.specs.Config.{Shape, Config, Limits, shapesIn, configIn, goodHead, goodRest}
+use Rattle.ledger.specs.Config.{QueueShape, Config, Limits, shapesIn, configIn, goodHead, goodRest}
 
 -- ---- the structure rule of number 11. The initial states are not read again
 
-abbrev pub shaped : Shape → Bool
+abbrev pub shaped : QueueShape → Bool
 shaped s = within 1 16 (s .width) && within 1 255 (s .depth)
 
-abbrev pub product : Shape → ℕ
+abbrev pub product : QueueShape → ℕ
 product s = s .width * s .depth
 
-unfoldable pub goodShapes : Limits → List Shape → Bool
+unfoldable pub goodShapes : Limits → List QueueShape → Bool
 goodShapes m l = all shaped l && leb (sum (map product l)) (m .bytes)
 
 unfoldable pub goodQueues : Limits → Config → Bool

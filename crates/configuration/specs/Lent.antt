@@ -72,7 +72,7 @@ module _ (m : Limits) (made : Made m) (f : List ℕ) where
       pub lent-good : (s : Shape) → s ≡ laidOut (byte 0 f) (byte 1 f) (byte 2 f) (byte 3 f) (byte 4 f) (byte 5 f) n → Lends m f (Good s)
       unfolding shapeOf read
       lent-good s es =
-          let r : List config.Shape → ℕ = λ l. sum (map product l) in
+          let r : List config.QueueShape → ℕ = λ l. sum (map product l) in
           let b : n ≡ r (read f .shapes) = en ∙ room-good m (made .bytes) part (omega arith) .1 ∙ ap r (sym shapes-are) in
           let e : s ≡ shapeOf (read f) = es ∙ ap (laidOut (byte 0 f) (byte 1 f) (byte 2 f) (byte 3 f) (byte 4 f) (byte 5 f)) b in
           (by-rule true keeps, subst (λ (c : Config). Of c s) (sym (configIn-is f is-whole)) (subst (λ (x : Shape). Of (read f) x) (sym e) (of-shape m made (read f) keeps many)))

@@ -25,7 +25,7 @@ unfolding shapesIn
 pairs-take zero l = refl
 pairs-take (suc i) [] = let e : 2 * suc i ≡ suc (suc (2 * i)) = omega arith in rw e
 pairs-take (suc i) (w ∷ []) = let e : 2 * suc i ≡ suc (suc (2 * i)) = omega arith in rw e
-pairs-take (suc i) (w ∷ d ∷ r) = let e : 2 * suc i ≡ suc (suc (2 * i)) = omega arith in rw e (ap (λ (x : List config.Shape). record { width = w; depth = d } ∷ x) (pairs-take i r))
+pairs-take (suc i) (w ∷ d ∷ r) = let e : 2 * suc i ≡ suc (suc (2 * i)) = omega arith in rw e (ap (λ (x : List config.QueueShape). record { width = w; depth = d } ∷ x) (pairs-take i r))
 
 pairs-at : (i : ℕ) (l : List ℕ) → 2 * i + 1 < length l → getD (shapesIn l) i (record { width = 0; depth = 0 }) ≡ record { width = getD l (2 * i) 0; depth = getD l (2 * i + 1) 0 }
 unfolding shapesIn
@@ -39,7 +39,7 @@ pairs-at (suc i) (w ∷ d ∷ r) h =
 
 -- ---- the first of them take no more
 
-sum-take : (i : ℕ) (l : List config.Shape) → sum (map product (take i l)) ≤ sum (map product l)
+sum-take : (i : ℕ) (l : List config.QueueShape) → sum (map product (take i l)) ≤ sum (map product l)
 unfolding sum
 sum-take zero l = omega arith
 sum-take (suc i) [] = omega arith
@@ -84,7 +84,7 @@ module _ (g : List ℕ) (s : Shape) (long : frameBytes s ≤ length g) (o : Of (
       let x : here + 2 * i - here ≡ 2 * i = omega arith in
       let y : cut g here (here + 2 * i) ≡ take (2 * i) part = rw x (sym (take-take (2 * i) (here + 2 * s .queues - here) (drop here g) (omega arith))) in
       let p : shapesIn (take (2 * i) part) ≡ take i (read g .shapes) = pairs-take i part ∙ ap (take i) (sym shapes-are) in
-      ap bytesIn y ∙ ap (λ (z : List config.Shape). sum (map product z)) p
+      ap bytesIn y ∙ ap (λ (z : List config.QueueShape). sum (map product z)) p
 
   front-low : bytesIn (cut g here (here + 2 * i)) ≤ 4096
   unfolding begins bytesOf
@@ -94,7 +94,7 @@ module _ (g : List ℕ) (s : Shape) (long : frameBytes s ≤ length g) (o : Of (
   unfolding shape at
   pair-is =
       let e : here + (2 * i + 1) ≡ here + 2 * i + 1 = omega arith in
-      ap (λ (z : List config.Shape). getD z i (record { width = 0; depth = 0 })) shapes-are ∙ pairs-at i part (omega (arith, part-length))
+      ap (λ (z : List config.QueueShape). getD z i (record { width = 0; depth = 0 })) shapes-are ∙ pairs-at i part (omega (arith, part-length))
       ∙ rw (part-at (2 * i) (omega arith), part-at (2 * i + 1) (omega arith), e)
 
   ring-read : record { width = getD g (here + 2 * i) 0; depth = getD g (here + 2 * i + 1) 0; base = s .bodyat + bytesIn (cut g here (here + 2 * i)) } ≡ ringOf (read g) s (suc i)

@@ -23,7 +23,7 @@ use Rattle.tables.specs.Shows.{Of, Shows, moved}
 use Rattle.queues.specs.declared.Ring.{Ring}
 use Rattle.queues.specs.Rings.{ringOf, RingFits, width-is}
 use Rattle.command.specs.Table.{value-word, behind-drop, semaphore-in}
-use Rattle.executive.specs.Meant.{InA, InB, InX, MeansA, MeansB, MeansX, MeansEntry, Asks, HasRoom}
+use Rattle.executive.specs.Meant.{InA, InB, InX, MeansA, MeansB, MeansX, MeansEntry, Asks, MessageRoom}
 
 -- the meant fields, by the row of the code, and the room in the tables d
 pub record Meant (c : Config) (s : Shape) (code self a b : ℕ) (f d : List ℕ) : Type 0 where
@@ -32,7 +32,7 @@ pub record Meant (c : Config) (s : Shape) (code self a b : ℕ) (f d : List ℕ)
   pub semaphore : MeansB s code b
   pub value : MeansX s code (256 * byte 3 f + byte 4 f)
   pub entry : MeansEntry c code a (drop 5 f)
-  pub room : HasRoom s code d
+  pub room : MessageRoom s code d
 
 -- the code's effect, where the ledger has room for it
 abbrev pub Effects : Config → Shape → (code self a b : ℕ) (f d z w d' z' w' : List ℕ) → Type 0
@@ -44,7 +44,7 @@ Effects c s code self a b f d z w d' z' w' =
 pub record Passed (c : Config) (s : Shape) (self : ℕ) (f d : List ℕ) : Type 0 where
   pub low : self ≤ s .tasks
   pub input : first (fromInput c self f) ≡ 0
-  pub room : HasRoom s (byte 0 f) d
+  pub room : MessageRoom s (byte 0 f) d
 
 -- the accepted frame's effect
 abbrev pub Carries : Config → Shape → (self : ℕ) (f d z w d' z' w' : List ℕ) → Type 0
@@ -75,7 +75,7 @@ module _ {c : Config} {s : Shape} (o : Of c s) where
   in-x aTockValue x g = tt
   in-x aSwitch x g = tt
 
-  pub meant-of : (self : ℕ) (f d : List ℕ) → Good c (call c self f) → HasRoom s (byte 0 f) d → (code a b : ℕ) → byte 0 f ≡ code → a ≡ call c self f .a → b ≡ call c self f .b
+  pub meant-of : (self : ℕ) (f d : List ℕ) → Good c (call c self f) → MessageRoom s (byte 0 f) d → (code a b : ℕ) → byte 0 f ≡ code → a ≡ call c self f .a → b ≡ call c self f .b
       → Meant c s code self a b f d
   unfolding call
   meant-of self f d g free code a b e ea eb =

@@ -1,5 +1,5 @@
 -- The lent blocks, and what it is to do over them what the ledger does.
-pub mod Lent
+pub mod Suits
 -- the effect of a frame
 pub mod Meant
 pub mod Carried

@@ -47,5 +47,5 @@ abbrev pub Asks : Shape → (code self : ℕ) → Type 0
 Asks s k self = fields (codeAt k) .service ≡ true → OneOf (s .tasks) self
 
 -- a message that is sent has room in the tables d
-abbrev pub HasRoom : Shape → (code : ℕ) → (d : List ℕ) → Type 0
-HasRoom s k d = isMessage (fields (codeAt k) .X) ≡ true → Roomy s d
+abbrev pub MessageRoom : Shape → (code : ℕ) → (d : List ℕ) → Type 0
+MessageRoom s k d = isMessage (fields (codeAt k) .X) ≡ true → Roomy s d

@@ -24,7 +24,7 @@ use Rattle.ledger.specs.Session.{accept}
 use Rattle.ledger.specs.Theorems.Accepted.{GoodX, Accepted, accepted}
 use Rattle.command.specs.Refused.{Refuses}
 use Rattle.executive.specs.declared.settling.Settled.{Settled}
-use Rattle.executive.specs.Meant.{HasRoom}
+use Rattle.executive.specs.Meant.{MessageRoom}
 use Rattle.executive.specs.Meeting.{never}
 use Rattle.executive.specs.Kept.{Ended}
 
@@ -80,7 +80,7 @@ module _ (c : Config) (s : Shape) (f d z w a : List ℕ) (self n : ℕ) (runs : 
       subst (λ (i : ℕ). Accepted c L (call c i f)) (sym (runs c L z w h)) (accepted c L f (tasks-length c s L d z w h) (sym (number-is L h) ∙ e))
 
   -- a message that is sent has room, since it lies in no mailbox of some ledger that the memory shows
-  pub room-found : n ≡ 0 → Of c s → Fits s (length d) → 16 * s .tasks ≤ length z → Holds s (length w) → soundIn s d ≡ true → HasRoom s (byte 0 f) d
+  pub room-found : n ≡ 0 → Of c s → Fits s (length d) → 16 * s .tasks ≤ length z → Holds s (length w) → soundIn s d ≡ true → MessageRoom s (byte 0 f) d
   unfolding call
   room-found e o (fitting l r) long held sound m =
       let L : Ledger = some c s d z w in

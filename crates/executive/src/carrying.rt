@@ -10,7 +10,7 @@ ghost use Rattle.ledger.specs.Ledger.{plain, setOutcome};
 ghost use Rattle.tables.specs.Layout.{Fits, OneOf, countAt};
 ghost use Rattle.tables.specs.Shows.{Does};
 ghost use Rattle.ledger.specs.Config.{configIn};
-ghost use Rattle.executive.specs.Lent.{Lent};
+ghost use Rattle.executive.specs.Suits.{Suits};
 ghost use Rattle.executive.specs.Carried.{Meant, Effects, Passed, Carries};
 
 // An accepted service first sets the caller's outcome to plain. The number of messages stays.
@@ -38,7 +38,7 @@ fn by_family(
     shape: Shape,
 )
     requires { ⌜ (5 ≤ length (now frame)) × OneOf 17 code
-        × Lent (now config) shape (length (now tables)) (length (now slots)) (length (now timers)) × Meant (configIn (now config)) shape code me a b (now frame) (now tables) ⌝ }
+        × Suits (now config) shape (length (now tables)) (length (now slots)) (length (now timers)) × Meant (configIn (now config)) shape code me a b (now frame) (now tables) ⌝ }
     ensures { λ _. ⌜ Effects (configIn (now (config .entry))) shape code me a b (now (frame .entry))
         (now (tables .entry)) (now (slots .entry)) (now (timers .entry)) (now (tables .exit)) (now (slots .exit)) (now (timers .exit)) ⌝ }
 {
@@ -67,7 +67,7 @@ fn carried(
     shape: Shape,
 )
     requires { ⌜ (5 ≤ length (now frame)) × (byte 0 (now frame) ≡ code) × OneOf 17 code
-        × Lent (now config) shape (length (now tables)) (length (now slots)) (length (now timers)) × Passed (configIn (now config)) shape me (now frame) (now tables) ⌝ }
+        × Suits (now config) shape (length (now tables)) (length (now slots)) (length (now timers)) × Passed (configIn (now config)) shape me (now frame) (now tables) ⌝ }
     ensures { λ _. ⌜ Carries (configIn (now (config .entry))) shape me (now (frame .entry))
         (now (tables .entry)) (now (slots .entry)) (now (timers .entry)) (now (tables .exit)) (now (slots .exit)) (now (timers .exit)) ⌝ }
 {
@@ -90,7 +90,7 @@ pub fn carry_out(
     timers: &mut [u8],
     shape: Shape,
 )
-    requires { ⌜ Lent (now config) shape (length (now tables)) (length (now slots)) (length (now timers)) × Passed (configIn (now config)) shape me (now frame) (now tables) ⌝ }
+    requires { ⌜ Suits (now config) shape (length (now tables)) (length (now slots)) (length (now timers)) × Passed (configIn (now config)) shape me (now frame) (now tables) ⌝ }
     ensures { λ _. ⌜ Carries (configIn (now (config .entry))) shape me (now (frame .entry))
         (now (tables .entry)) (now (slots .entry)) (now (timers .entry)) (now (tables .exit)) (now (slots .exit)) (now (timers .exit)) ⌝ }
 {

@@ -7,7 +7,7 @@ ghost use Prim.Native.Nat.{_≤_};
 ghost use lib.ListN.{length};
 ghost use Rattle.ledger.specs.Config.{configIn};
 ghost use Rattle.mailboxes.specs.Room.{soundIn};
-ghost use Rattle.executive.specs.Lent.{Lent};
+ghost use Rattle.executive.specs.Suits.{Suits};
 ghost use Rattle.executive.specs.Carried.{Passed};
 ghost use Rattle.executive.specs.Stepped.{Acts, Steps};
 
@@ -21,7 +21,7 @@ fn act(
     timers: &mut [u8],
     shape: Shape,
 ) -> Settled
-    requires { ⌜ Lent (now config) shape (length (now tables)) (length (now slots)) (length (now timers)) × Passed (configIn (now config)) shape me (now frame) (now tables) ⌝ }
+    requires { ⌜ Suits (now config) shape (length (now tables)) (length (now slots)) (length (now timers)) × Passed (configIn (now config)) shape me (now frame) (now tables) ⌝ }
     ensures { λ r. ⌜ Acts (configIn (now (config .entry))) shape me (now (frame .entry))
         (now (tables .entry)) (now (slots .entry)) (now (timers .entry)) (now (tables .exit)) (now (slots .exit)) (now (timers .exit)) r ⌝ }
 {
@@ -39,7 +39,7 @@ pub fn step(
     shape: Shape,
     answer: &mut [u8],
 ) -> u8
-    requires { ⌜ Lent (now config) shape (length (now tables)) (length (now slots)) (length (now timers)) × (21 ≤ length (now answer)) × (soundIn shape (now tables) ≡ true) ⌝ }
+    requires { ⌜ Suits (now config) shape (length (now tables)) (length (now slots)) (length (now timers)) × (21 ≤ length (now answer)) × (soundIn shape (now tables) ≡ true) ⌝ }
     ensures { λ r. ⌜ Steps (configIn (now (config .entry))) shape (now (frame .entry))
         (now (tables .entry)) (now (slots .entry)) (now (timers .entry)) (now (answer .entry))
         (now (tables .exit)) (now (slots .exit)) (now (timers .exit)) (now (answer .exit)) r ⌝ }

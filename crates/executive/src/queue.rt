@@ -14,20 +14,20 @@ ghost use Rattle.ledger.specs.Services as ledger_services;
 ghost use Rattle.tables.specs.Shows.{Shows};
 ghost use Rattle.queues.specs.Rings.{ringOf, RingFits};
 ghost use Rattle.ledger.specs.Config.{configIn};
-ghost use Rattle.command.specs.Configured.{Configures};
+ghost use Rattle.command.specs.Configured.{Framed};
 ghost use Rattle.executive.specs.Meant.{MeansA, MeansEntry, Asks};
-ghost use Rattle.executive.specs.Lent.{DoesOf, DoesWithSlotsOf};
+ghost use Rattle.executive.specs.Suits.{DoesOf, DoesWithSlotsOf};
 
 // The ring of a queue, within the tables.
 pub fn ring(config: &[u8], shape: Shape, q: u8) -> Ring
-    requires { ⌜ Configures (now config) shape × OneOf (shape .queues) q ⌝ }
+    requires { ⌜ Framed (now config) shape × OneOf (shape .queues) q ⌝ }
     ensures { λ r. ⌜ (r ≡ ringOf (configIn (now (config .entry))) shape q) × RingFits shape r ⌝ }
 {
     configuration::block::ring_of(config, shape, q as usize)
 }
 
 fn dequeue(tables: &mut [u8], slots: &mut [u8], config: &[u8], shape: Shape, me: u8, q: u8)
-    requires { ⌜ Fits shape (length (now tables)) × Configures (now config) shape × (16 * shape .tasks ≤ length (now slots))
+    requires { ⌜ Fits shape (length (now tables)) × Framed (now config) shape × (16 * shape .tasks ≤ length (now slots))
         × OneOf (shape .tasks) me × OneOf (shape .queues) q ⌝ }
     ensures { λ _. ⌜ DoesWithSlotsOf (configIn (now (config .entry))) shape (now (tables .entry)) (now (slots .entry))
         (now (tables .exit)) (now (slots .exit)) (λ c L. ledger_services.issue c me (ledger.dequeue q) L) ⌝ }
@@ -38,7 +38,7 @@ fn dequeue(tables: &mut [u8], slots: &mut [u8], config: &[u8], shape: Shape, me:
 
 // The entry is the part of the frame that starts at its sixth byte.
 fn enqueue(tables: &mut [u8], config: &[u8], shape: Shape, me: u8, q: u8, frame: &[u8])
-    requires { ⌜ Fits shape (length (now tables)) × Configures (now config) shape × OneOf (shape .tasks) me × OneOf (shape .queues) q
+    requires { ⌜ Fits shape (length (now tables)) × Framed (now config) shape × OneOf (shape .tasks) me × OneOf (shape .queues) q
         × (length (drop 5 (now frame)) ≡ ledger_services.shape (configIn (now config)) q .width) ⌝ }
     ensures { λ _. ⌜ DoesOf (configIn (now (config .entry))) shape (now (tables .entry)) (now (tables .exit))
         (λ c L. ledger_services.issue c me (ledger.enqueue q (drop 5 (now (frame .entry)))) L) ⌝ }
@@ -58,7 +58,7 @@ pub fn serve(
     q: u8,
     frame: &[u8],
 )
-    requires { ⌜ Fits shape (length (now tables)) × Configures (now config) shape × (16 * shape .tasks ≤ length (now slots)) × (7 ≤ code)
+    requires { ⌜ Fits shape (length (now tables)) × Framed (now config) shape × (16 * shape .tasks ≤ length (now slots)) × (7 ≤ code)
         × (code ≤ 8) × Asks shape code me × MeansA shape code q × MeansEntry (configIn (now config)) code q (drop 5 (now frame)) ⌝ }
     ensures { λ _. ⌜ ((b x : ℕ) → DoesWithSlotsOf (configIn (now (config .entry))) shape
         (now (tables .entry)) (now (slots .entry)) (now (tables .exit)) (now (slots .exit))

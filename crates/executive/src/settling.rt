@@ -10,11 +10,11 @@ ghost use lib.ListN.{length, take};
 ghost use Rattle.tables.specs.Layout.{Fits, OneOf};
 ghost use Rattle.tables.specs.Shows.{waitingIn, Does, Tells};
 ghost use Rattle.ledger.specs.Config.{configIn};
-ghost use Rattle.command.specs.Configured.{Configures};
+ghost use Rattle.command.specs.Configured.{Framed};
 ghost use Rattle.ledger.specs.Ledger as ledger;
 ghost use Rattle.ledger.specs.Services as ledger_services;
 ghost use Rattle.ledger.specs.Session as session;
-ghost use Rattle.executive.specs.Lent.{DoesOf, DoesWithSlotsOf};
+ghost use Rattle.executive.specs.Suits.{DoesOf, DoesWithSlotsOf};
 ghost use Rattle.executive.specs.Kept.{Runs, Reissues, Ends};
 
 // The task that runs when settling ends, and the number of reissues.
@@ -32,7 +32,7 @@ fn receive_again(tables: &mut [u8], shape: Shape, t: u8, from: u8)
 }
 
 fn dequeue_again(tables: &mut [u8], slots: &mut [u8], config: &[u8], shape: Shape, t: u8, q: u8)
-    requires { ⌜ Fits shape (length (now tables)) × Configures (now config) shape × (16 * shape .tasks ≤ length (now slots))
+    requires { ⌜ Fits shape (length (now tables)) × Framed (now config) shape × (16 * shape .tasks ≤ length (now slots))
         × OneOf (shape .tasks) t × OneOf (shape .queues) q ⌝ }
     ensures { λ _. ⌜ DoesWithSlotsOf (configIn (now (config .entry))) shape (now (tables .entry)) (now (slots .entry))
         (now (tables .exit)) (now (slots .exit)) (λ c L. session.issueAgain c t (ledger.dequeue q) (ledger.setRequest t ledger.none L)) ⌝ }
@@ -47,7 +47,7 @@ fn dequeue_again(tables: &mut [u8], slots: &mut [u8], config: &[u8], shape: Shap
 }
 
 fn enqueue_again(tables: &mut [u8], config: &[u8], shape: Shape, t: u8, q: u8)
-    requires { ⌜ Fits shape (length (now tables)) × Configures (now config) shape × OneOf (shape .tasks) t × OneOf (shape .queues) q ⌝ }
+    requires { ⌜ Fits shape (length (now tables)) × Framed (now config) shape × OneOf (shape .tasks) t × OneOf (shape .queues) q ⌝ }
     ensures { λ _. ⌜ DoesOf (configIn (now (config .entry))) shape (now (tables .entry)) (now (tables .exit))
         (λ c L. session.issueAgain c t (ledger.enqueue q (take (ledger_services.shape c q .width) (waitingIn shape
         (now (tables .entry)) t))) (ledger.setRequest t ledger.none L)) ⌝ }
@@ -84,7 +84,7 @@ fn is_open(tables: &[u8], shape: Shape, t: u8) -> bool
 
 // The open request of the running task, closed and issued again.
 fn reissue(tables: &mut [u8], slots: &mut [u8], config: &[u8], shape: Shape, running: u8)
-    requires { ⌜ Fits shape (length (now tables)) × Configures (now config) shape × (16 * shape .tasks ≤ length (now slots)) × OneOf (shape .tasks) running ⌝ }
+    requires { ⌜ Fits shape (length (now tables)) × Framed (now config) shape × (16 * shape .tasks ≤ length (now slots)) × OneOf (shape .tasks) running ⌝ }
     ensures { λ _. ⌜ Reissues (configIn (now (config .entry))) shape (now (tables .entry)) (now (slots .entry)) (now (tables .exit)) (now (slots .exit)) running ⌝ }
 {
     let task = tables::tasks::load(tables, shape, running);
@@ -105,7 +105,7 @@ fn settle_open(
     shape: Shape,
     first: u8,
 ) -> Settled
-    requires { ⌜ Fits shape (length (now tables)) × Configures (now config) shape × (16 * shape .tasks ≤ length (now slots))
+    requires { ⌜ Fits shape (length (now tables)) × Framed (now config) shape × (16 * shape .tasks ≤ length (now slots))
         × OneOf (shape .tasks) first × Runs shape (now tables) first true ⌝ }
     ensures { λ r. ⌜ Ends (configIn (now (config .entry))) shape (now (tables .entry)) (now (slots .entry)) (now (tables .exit)) (now (slots .exit)) r ⌝ }
 {
@@ -130,7 +130,7 @@ fn settle_open(
 }
 
 pub fn settle(tables: &mut [u8], slots: &mut [u8], config: &[u8], shape: Shape) -> Settled
-    requires { ⌜ Fits shape (length (now tables)) × Configures (now config) shape × (16 * shape .tasks ≤ length (now slots)) ⌝ }
+    requires { ⌜ Fits shape (length (now tables)) × Framed (now config) shape × (16 * shape .tasks ≤ length (now slots)) ⌝ }
     ensures { λ r. ⌜ Ends (configIn (now (config .entry))) shape (now (tables .entry)) (now (slots .entry)) (now (tables .exit)) (now (slots .exit)) r ⌝ }
 {
     let running = tables::tasks::running(tables, shape);

@@ -18,7 +18,7 @@ use Rattle.feeding.specs.declared.gathering.Gathered.{Gathered}
 use Rattle.feeding.specs.Input.{Stands, first, runs, over, print, printing, configures, steps, Said, lineFed, Fed, behind, fed, last}
 use Rattle.feeding.specs.Whole.{parts}
 use Rattle.feeding.specs.Line.{most, Keeps, keeps-none, Gathers, line-cut, cut-none}
-use Rattle.feeding.specs.Replies.{At, stageNumber, Answers, Begins, GoesOn}
+use Rattle.feeding.specs.Replies.{At, stageNumber, Answers, FirstReply, GoesOn}
 
 -- nothing is fed yet
 abbrev pub begun : Reached
@@ -62,7 +62,7 @@ unfolding answerOf
 prints a out out' m printed r h p = p (h .short) ∙ ap (λ (x : List ℕ). take printed out ++ print x) (h .is)
 
 module _ (line : List ℕ) {p₀ : Stage} (m m' : Memory) (out out' : List ℕ) (printed k : ℕ) where
-  pub says-first : {p : Stage} → p₀ ≡ First → Begins (frameOf line) m' p → Prints (m' .answer) out printed out' k → Says line p₀ m out printed m' out' (record { stage = p; printed = k })
+  pub says-first : {p : Stage} → p₀ ≡ First → FirstReply (frameOf line) m' p → Prints (m' .answer) out printed out' k → Says line p₀ m out printed m' out' (record { stage = p; printed = k })
   unfolding At lineFed printing stageNumber
   says-first {p} q b e = record { tells = go }
     where

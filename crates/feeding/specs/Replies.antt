@@ -27,7 +27,7 @@ use Rattle.line.specs.Answers.{answerTo, leftIn, Gives}
 use Rattle.line.specs.declared.Written.{Written}
 use Rattle.line.specs.declared.Written.the-variants as written-as
 use Rattle.executive.specs.Meeting.{never}
-use Rattle.mcx11.specs.Contract.{Memory, memory, hasSizes, isMarked, configOf, tablesIn, slotsIn, timersIn, lentWellFor, lentWell, Displays, answering, Configures, Frames}
+use Rattle.mcx11.specs.Contract.{Memory, memory, hasSizes, isMarked, configOf, tablesPart, slotsPart, timersPart, lentWellFor, lentWell, Displays, answering, Configures, Frames}
 use Rattle.mcx11.specs.Answer.{answerOf}
 use Rattle.mcx11.specs.Sizes.{Full, sizes-full, well-frame}
 use Rattle.mcx11.specs.Entries.{TellsNow}
@@ -60,7 +60,7 @@ pub record Answers (a : List ℕ) (m : Memory) : Type 0 where
   pub short : getD (m .answer) 0 0 ≤ 20
 
 -- the first line
-pub record Begins (f : Option (List ℕ)) (m' : Memory) (p : Stage) : Type 0 where
+pub record FirstReply (f : Option (List ℕ)) (m' : Memory) (p : Stage) : Type 0 where
   pub stands : At (configures f .stand) p m'
   pub answers : Answers (configures f .answer) m'
 
@@ -122,17 +122,17 @@ answers-written m a old h e = record { is = answer-is m a old e; short = rw (e, 
 
 -- ---- the first line
 
-begins : (f : Option (List ℕ)) {m' : Memory} {p : Stage} (k : Reply) → configures f ≡ k → At (k .stand) p m' → Answers (k .answer) m' → Begins f m' p
+begins : (f : Option (List ℕ)) {m' : Memory} {p : Stage} (k : Reply) → configures f ≡ k → At (k .stand) p m' → Answers (k .answer) m' → FirstReply f m' p
 begins f {m'} {p} k e s a =
     record { stands = subst (λ (x : Reply). At (x .stand) p m') (sym e) s; answers = subst (λ (x : Reply). Answers (x .answer) m') (sym e) a }
 
-pub begins-none : {f : Option (List ℕ)} (g d z w a a' : List ℕ) → f ≡ none → a' ≡ written (refusedConfiguration 1) a → Begins f (memory g d z w a') Ended
+pub begins-none : {f : Option (List ℕ)} (g d z w a a' : List ℕ) → f ≡ none → a' ≡ written (refusedConfiguration 1) a → FirstReply f (memory g d z w a') Ended
 unfolding configures At refusedConfiguration
 begins-none {f} g d z w a a' e h =
     begins f (record { stand = over; answer = refusedConfiguration 1 }) (ap configures e) refl (answers-written (memory g d z w a') (refusedConfiguration 1) a (omega arith) h)
 
 module _ {f : List ℕ} {m m' : Memory} {r : ℕ} (full : Full m) (h : Configures f m m' r) where
-  accepted-begins : configRefusal f ≡ 0 → Begins (some f) m' Running
+  accepted-begins : configRefusal f ≡ 0 → FirstReply (some f) m' Running
   unfolding configures At
   accepted-begins z =
       let a = h .accepted (sizes-full m full) z in
@@ -140,7 +140,7 @@ module _ {f : List ℕ} {m m' : Memory} {r : ℕ} (full : Full m) (h : Configure
       begins (some f) (record { stand = runs c (fresh c); answer = answer 0 0 (fresh c) }) (rw (eq-eqb _ _ z)) (refl, begins-config a, a .well, a .shown, once-fresh c)
       (answers-written m' (answer 0 0 (fresh c)) (m .answer) (answer-short c (fresh c) m' (a .shown) 0 0 .1) (a .answered))
 
-  refused-begins : (configRefusal f ≡ 0 → ⊥) → Begins (some f) m' Ended
+  refused-begins : (configRefusal f ≡ 0 → ⊥) → FirstReply (some f) m' Ended
   unfolding configures At answering refusedConfiguration
   refused-begins z =
       let a = h .refused (sizes-full m full) z in
@@ -155,10 +155,10 @@ module _ {f : List ℕ} {m m' : Memory} {r : ℕ} (full : Full m) (h : Configure
       go true e = let z = eqb-true (configRefusal f) 0 e in h .accepted (sizes-full m full) z .number ∙ sym z
       go false e = h .refused (sizes-full m full) (eqb-false (configRefusal f) 0 e) .0
 
-  pub begins-running : {o : Option (List ℕ)} → o ≡ some f → r ≡ 0 → Begins o m' Running
+  pub begins-running : {o : Option (List ℕ)} → o ≡ some f → r ≡ 0 → FirstReply o m' Running
   begins-running e z = rw e (accepted-begins (sym number-is ∙ z))
 
-  pub begins-ended : {o : Option (List ℕ)} → o ≡ some f → (r ≡ 0 → ⊥) → Begins o m' Ended
+  pub begins-ended : {o : Option (List ℕ)} → o ≡ some f → (r ≡ 0 → ⊥) → FirstReply o m' Ended
   begins-ended e z = rw e (refused-begins (λ x. z (number-is ∙ x)))
 
 -- ---- a line that is no frame
@@ -172,11 +172,11 @@ refuses-line g d z a a' s o tells =
 
 -- with another answer
 answered-well : (g d z w a a' : List ℕ) → length a' ≡ length a → lentWell (memory g d z w a) ≡ true → lentWell (memory g d z w a') ≡ true
-unfolding lentWell lentWellFor hasSizes isMarked configOf tablesIn
+unfolding lentWell lentWellFor hasSizes isMarked configOf tablesPart
 answered-well g d z w a a' n h = rw n h
 
 pub goes-on-none : {f : Option (List ℕ)} (g d z w a a' : List ℕ) → f ≡ none → length a' ≡ length a → RefusesLine g d z a a' → GoesOn f (memory g d z w a) (memory g d z w a')
-unfolding At Displays configOf tablesIn slotsIn timersIn steps stepLine
+unfolding At Displays configOf tablesPart slotsPart timersPart steps stepLine
 goes-on-none g d z w a a' e n h =
     let m = memory g d z w a in
     let m' = memory g d z w a' in

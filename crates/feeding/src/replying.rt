@@ -8,7 +8,7 @@ ghost use lib.ListN.{length};
 ghost use Rattle.ledger.specs.Lines.{frameOf};
 ghost use Rattle.mcx11.specs.Contract.{memory};
 ghost use Rattle.mcx11.specs.Sizes.{Full};
-ghost use Rattle.feeding.specs.Replies.{Begins, RefusesLine, GoesOn};
+ghost use Rattle.feeding.specs.Replies.{FirstReply, RefusesLine, GoesOn};
 
 // The answer to the first line: it is to be a configuration.
 pub fn reply_first(
@@ -20,7 +20,7 @@ pub fn reply_first(
     answer: &mut [u8],
 ) -> Stage
     requires { ⌜ Full (memory (now config) (now tables) (now slots) (now timers) (now answer)) ⌝ }
-    ensures { λ r. ⌜ Begins (frameOf (now (line .entry))) (memory (now (config .exit)) (now (tables .exit)) (now (slots .exit)) (now (timers .exit)) (now (answer .exit))) r ⌝ }
+    ensures { λ r. ⌜ FirstReply (frameOf (now (line .entry))) (memory (now (config .exit)) (now (tables .exit)) (now (slots .exit)) (now (timers .exit)) (now (answer .exit))) r ⌝ }
 {
     let mut frame = [0u8; 200];
     let w = line::read(line, &mut frame);

@@ -26,7 +26,7 @@ starts = 14 ∷ 0 ∷ 1 ∷ 0 ∷ 5 ∷ []
 abbrev pub ticks : List ℕ
 ticks = 16 ∷ 0 ∷ 0 ∷ 0 ∷ 0 ∷ []
 
-pub record Answers : Type 0 where
+pub record ShamAnswers : Type 0 where
   pub accepted : configRefusal twoTasks ≡ 0
   -- task 1 waits at the empty queue; task 2 puts, and task 1, which runs again, has the entry after one reissue
   pub settled : session twoTasks (takes ∷ puts ∷ []) ≡ (0 ∷ 1 ∷ 0 ∷ 1 ∷ []) ∷ (0 ∷ 2 ∷ 0 ∷ 1 ∷ []) ∷ (0 ∷ 1 ∷ 1 ∷ 3 ∷ 65 ∷ []) ∷ []
@@ -37,6 +37,6 @@ pub record Answers : Type 0 where
   -- task 1 runs again with the second tick
   pub ticked : session twoTasks (delays ∷ ticks ∷ ticks ∷ []) ≡ (0 ∷ 1 ∷ 0 ∷ 1 ∷ []) ∷ (0 ∷ 2 ∷ 0 ∷ 1 ∷ []) ∷ (0 ∷ 2 ∷ 0 ∷ 1 ∷ []) ∷ (0 ∷ 1 ∷ 0 ∷ 0 ∷ []) ∷ []
 
-pub the-answers : Answers
+pub the-answers : ShamAnswers
 unfolding everything
 the-answers = record { accepted = refl; settled = refl; filled = refl; started = refl; ticked = refl }

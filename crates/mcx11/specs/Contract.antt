@@ -83,14 +83,14 @@ unfoldable pub configOf : Memory → Config
 configOf m = configIn (keptFrame (m .config))
 
 -- the parts that a configuration needs
-unfoldable pub tablesIn : Config → Memory → List ℕ
-tablesIn c m = part (shapeOf c .end) (m .tables)
+unfoldable pub tablesPart : Config → Memory → List ℕ
+tablesPart c m = part (shapeOf c .end) (m .tables)
 
-unfoldable pub slotsIn : Config → Memory → List ℕ
-slotsIn c m = part (16 * shapeOf c .tasks) (m .slots)
+unfoldable pub slotsPart : Config → Memory → List ℕ
+slotsPart c m = part (16 * shapeOf c .tasks) (m .slots)
 
-unfoldable pub timersIn : Config → Memory → List ℕ
-timersIn c m = part (timersBytes (shapeOf c)) (m .timers)
+unfoldable pub timersPart : Config → Memory → List ℕ
+timersPart c m = part (timersBytes (shapeOf c)) (m .timers)
 
 -- ---- the test for number 11
 
@@ -101,7 +101,7 @@ messagesSound c d = let s = shapeOf c in ltb (counted s d) (s .messages) || whol
 -- the sizes, the marks, the frame of a configuration, and the messages, by the limits of the executive that the memory is lent to
 unfoldable pub lentWellFor : Limits → Memory → Bool
 lentWellFor k m =
-    hasSizes (sizesOf k) m && isMarked (sizesOf k) m && frameRule k (keptFrame (m .config)) && messagesSound (configOf m) (tablesIn (configOf m) m)
+    hasSizes (sizesOf k) m && isMarked (sizesOf k) m && frameRule k (keptFrame (m .config)) && messagesSound (configOf m) (tablesPart (configOf m) m)
 
 unfoldable pub lentWell : Memory → Bool
 lentWell m = lentWellFor controller m
@@ -110,7 +110,7 @@ lentWell m = lentWellFor controller m
 
 -- the memory shows the ledger
 unfoldable pub Displays : Config → Ledger → Memory → Type 0
-Displays c l m = Shows c (shapeOf c) l (tablesIn c m) (slotsIn c m) (timersIn c m)
+Displays c l m = Shows c (shapeOf c) l (tablesPart c m) (slotsPart c m) (timersPart c m)
 
 -- as many bytes in every block
 pub record SameSizes (m m' : Memory) : Type 0 where

@@ -22,19 +22,19 @@ use Rattle.configuration.specs.Block.{frameRule}
 use Rattle.parts.specs.Parts.{keptFrame}
 use Rattle.configuration.specs.Layout.{shapeOf}
 use Rattle.answer.specs.Read as read
-use Rattle.mcx11.specs.Contract.{Memory, sizesOf, fullSize, isMarked, configOf, tablesIn, slotsIn, timersIn, messagesSound, lentWellFor, lentWell, Displays}
+use Rattle.mcx11.specs.Contract.{Memory, sizesOf, fullSize, isMarked, configOf, tablesPart, slotsPart, timersPart, messagesSound, lentWellFor, lentWell, Displays}
 
 -- the items that the memory's bytes are
 unfoldable pub itemsIn : Config → Memory → Items
 itemsIn c m =
-    let p = regions (shapeOf c) (tablesIn c m) in
+    let p = regions (shapeOf c) (tablesPart c m) in
     record {
       ticks = ticksIn c p;
-      tasks = tasksIn c p (slotsIn c m);
+      tasks = tasksIn c p (slotsPart c m);
       semaphores = semaphoresIn c p;
       mailboxes = mailboxesIn c p;
       queues = queuesIn c p;
-      timers = timersOf c (timersIn c m);
+      timers = timersOf c (timersPart c m);
     }
 
 pub items-shown : (c : Config) (l : Ledger) (m : Memory) → Displays c l m → items l ≡ itemsIn c m
@@ -56,7 +56,7 @@ items-shown c l m h =
 pub displays-well : (m : Memory) (l : Ledger) → fullSize m ≡ true → isMarked (sizesOf controller) m ≡ true → frameRule controller (keptFrame (m .config)) ≡ true → Displays (configOf m) l m
     → Once (configOf m) (l .mailboxes) → lentWell m ≡ true
 unfolding lentWell lentWellFor fullSize messagesSound soundIn Displays
-displays-well m l f k r h o = let c = configOf m in rw (f, k, r) (sound-shown c (shapeOf c) l (tablesIn c m) (slotsIn c m) (timersIn c m) h o)
+displays-well m l f k r h o = let c = configOf m in rw (f, k, r) (sound-shown c (shapeOf c) l (tablesPart c m) (slotsPart c m) (timersPart c m) h o)
 
 -- ---- an answer has 4 to 20 bytes
 
@@ -71,7 +71,7 @@ module _ (c : Config) (l : Ledger) (m : Memory) (h : Displays c l m) where
 
   pub answer-short : (n r : ℕ) → (4 ≤ length (answer n r l)) × (length (answer n r l) ≤ 20)
   unfolding Displays
-  answer-short n r = read.answer-short c (shapeOf c) l (tablesIn c m) (slotsIn c m) (timersIn c m) h running-most n r
+  answer-short n r = read.answer-short c (shapeOf c) l (tablesPart c m) (slotsPart c m) (timersPart c m) h running-most n r
 
 pub step-short : (c : Config) (f : List ℕ) (l : Ledger) (m : Memory) → Displays c (step c f l .ledger) m → length (step c f l .answered) ≤ 20
 unfolding step

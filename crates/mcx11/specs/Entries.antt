@@ -24,15 +24,15 @@ use Rattle.configuration.specs.Block.{rule, frameRule}
 use Rattle.configuration.specs.Layout.{frameBytes, shapeOf, of-one}
 use Rattle.configuration.specs.Accepted.{accepted, accepted-of, accepted-rule}
 use Rattle.configuration.specs.Started.{timersBytes, Started}
-use Rattle.command.specs.Configured.{configures}
-use Rattle.executive.specs.Lent.{Lent, lent}
+use Rattle.command.specs.Configured.{framed}
+use Rattle.executive.specs.Suits.{Suits, suits}
 use Rattle.executive.specs.Meeting.{never}
 use Rattle.executive.specs.Stepped.{Steps}
 use Rattle.answer.specs.Written.{written}
 use Rattle.parts.specs.Parts.{partAt, frameAt, markedBy, ends, part, keptFrame, kept, Stays, Spares}
 use Rattle.parts.specs.Laws.{length-ends, marks-after, spares-after, part-stays, back-part, back-stays, back-same, kept-frame}
-use Rattle.mcx11.specs.Contract.{Memory, memory, Sizes, sizesOf, fullSize, configMark, tablesMark, slotsMark, timersMark, isMarked, configOf, tablesIn, slotsIn, timersIn, messagesSound, lentWell, Displays, SameSizes, OutsideStays, OutsideSpared, answering, Begins, Configures, Goes, Frames}
-use Rattle.mcx11.specs.Sizes.{Sized, sized, full-sizes, full-kept, well-full, well-frame, well-messages}
+use Rattle.mcx11.specs.Contract.{Memory, memory, Sizes, sizesOf, fullSize, configMark, tablesMark, slotsMark, timersMark, isMarked, configOf, tablesPart, slotsPart, timersPart, messagesSound, lentWell, Displays, SameSizes, OutsideStays, OutsideSpared, answering, Begins, Configures, Goes, Frames}
+use Rattle.mcx11.specs.Sizes.{RoomForMarks, room-for-marks, full-sizes, full-kept, well-full, well-frame, well-messages}
 use Rattle.mcx11.specs.Tested.{frame-is, sound-is, frame-rule, frame-whole, frame-short, tables-within, slots-within, timers-within}
 use Rattle.mcx11.specs.Displayed.{displays-well}
 
@@ -44,7 +44,7 @@ pub data Room (s : Shape) (g d z w : List ℕ) : Type 0 where
       → partAt + timersBytes s ≤ length w → soundIn s (part (s .end) d) ≡ true → Room s g d z w
 
 -- the parts went as the ledger goes, and the bytes outside them stay
-pub record Feeds (s : Shape) (f g d z w a d' z' w' a' : List ℕ) (r : ℕ) : Type 0 where
+pub record StepsInside (s : Shape) (f g d z w a d' z' w' a' : List ℕ) (r : ℕ) : Type 0 where
   pub steps : Steps (configIn (keptFrame g)) s f (part (s .end) d) (part (16 * s .tasks) z) (part (timersBytes s) w) a (part (s .end) d') (part (16 * s .tasks) z') (part (timersBytes s) w') a' r
   pub tables : Stays (s .end) d d'
   pub slots : Stays (16 * s .tasks) z z'
@@ -70,7 +70,7 @@ module _ {s : Shape} {g d z w : List ℕ} where
 
   -- what a step asks of them
   pub step-asks : Room s g d z w → (n : ℕ) → n ≡ word partAt g
-      → Lent (cut g frameAt (frameAt + n)) s (length (cut d partAt (partAt + s .end))) (length (cut z partAt (partAt + 16 * s .tasks))) (length (cut w partAt (partAt + timersBytes s)))
+      → Suits (cut g frameAt (frameAt + n)) s (length (cut d partAt (partAt + s .end))) (length (cut z partAt (partAt + 16 * s .tasks))) (length (cut w partAt (partAt + timersBytes s)))
       × (soundIn s (cut d partAt (partAt + s .end)) ≡ true)
   unfolding part
   step-asks (room o b i t x y k) n e =
@@ -78,15 +78,15 @@ module _ {s : Shape} {g d z w : List ℕ} where
       let nz = length-cut z partAt (partAt + 16 * s .tasks) x in
       let nw = length-cut w partAt (partAt + timersBytes s) y in
       let l = o .laid in
-      let q : Lent (keptFrame g) s (length (cut d partAt (partAt + s .end))) (length (cut z partAt (partAt + 16 * s .tasks))) (length (cut w partAt (partAt + timersBytes s))) =
-      lent (configures b o) (fitting l (omega arith)) (omega arith) (holding (omega arith) (l .timers)) in
-      (subst (λ (v : List ℕ). Lent v s (length (cut d partAt (partAt + s .end))) (length (cut z partAt (partAt + 16 * s .tasks))) (length (cut w partAt (partAt + timersBytes s)))) (sym (frame-is g n e)) q, k)
+      let q : Suits (keptFrame g) s (length (cut d partAt (partAt + s .end))) (length (cut z partAt (partAt + 16 * s .tasks))) (length (cut w partAt (partAt + timersBytes s))) =
+      suits (framed b o) (fitting l (omega arith)) (omega arith) (holding (omega arith) (l .timers)) in
+      (subst (λ (v : List ℕ). Suits v s (length (cut d partAt (partAt + s .end))) (length (cut z partAt (partAt + 16 * s .tasks))) (length (cut w partAt (partAt + timersBytes s)))) (sym (frame-is g n e)) q, k)
 
   -- the parts are back
   pub fed : Room s g d z w → (n : ℕ) → n ≡ word partAt g → (f a a' ds zs ws : List ℕ) (r : ℕ) → length ds ≡ length (cut d partAt (partAt + s .end))
       → length zs ≡ length (cut z partAt (partAt + 16 * s .tasks)) → length ws ≡ length (cut w partAt (partAt + timersBytes s))
       → Steps (configIn (cut g frameAt (frameAt + n))) s f (cut d partAt (partAt + s .end)) (cut z partAt (partAt + 16 * s .tasks)) (cut w partAt (partAt + timersBytes s)) a ds zs ws a' r
-      → Feeds s f g d z w a (putMid partAt (partAt + s .end - partAt) d ds) (putMid partAt (partAt + 16 * s .tasks - partAt) z zs) (putMid partAt (partAt + timersBytes s - partAt) w ws) a' r
+      → StepsInside s f g d z w a (putMid partAt (partAt + s .end - partAt) d ds) (putMid partAt (partAt + 16 * s .tasks - partAt) z zs) (putMid partAt (partAt + timersBytes s - partAt) w ws) a' r
   unfolding part
   fed q n e f a a' ds zs ws r nd nz nw h =
       let t = tables-in q in
@@ -134,7 +134,7 @@ module _ (f g d z w a : List ℕ) where
     is-shape = of-one (configIn (keptFrame g)) s o
 
     sound-here : soundIn s (part (s .end) d) ≡ true
-    unfolding configOf tablesIn
+    unfolding configOf tablesPart
     sound-here =
         let c : Config = configIn (keptFrame g) in
         sound-is c s o (part (s .end) d) ∙ ap (λ (x : Shape). messagesSound c (part (x .end) d)) (of-one c s o) ∙ well-messages m well
@@ -158,8 +158,8 @@ module _ (f g d z w a : List ℕ) where
           n .answer,
         )
 
-    pub frame-fed : (d' z' w' a' : List ℕ) (r : ℕ) → SameSizes m (memory g d' z' w' a') → Feeds s f g d z w a d' z' w' a' r → Frames f m (memory g d' z' w' a') r
-    unfolding configOf tablesIn slotsIn timersIn Displays
+    pub frame-fed : (d' z' w' a' : List ℕ) (r : ℕ) → SameSizes m (memory g d' z' w' a') → StepsInside s f g d z w a d' z' w' a' r → Frames f m (memory g d' z' w' a') r
+    unfolding configOf tablesPart slotsPart timersPart Displays
     frame-fed d' z' w' a' r sizes h =
         let c : Config = configIn (keptFrame g) in
         let p : s ≡ shapeOf c = is-shape in
@@ -214,9 +214,6 @@ placed s f d z w ds zs ws t x y nd nz nw h =
       slots = back-stays z (16 * s .tasks) zs nz x;
       timers = back-stays w (timersBytes s) ws nw y;
     }
-
-abbrev pub Begun : (f : List ℕ) (m m' : Memory) → Type 0
-Begun f m m' = Begins f m m' 0
 
 -- an accepted frame by the fixed sizes
 module _ (f : List ℕ) (zero : configRefusal f ≡ 0) (s : Shape) (o : Of (configIn f) s) where
@@ -279,13 +276,13 @@ module _ (f : List ℕ) (zero : configRefusal f ≡ 0) (s : Shape) (o : Of (conf
         )
 
     shown-here : Displays (configIn f) (fresh (configIn f)) m₁
-    unfolding Displays tablesIn slotsIn timersIn
+    unfolding Displays tablesPart slotsPart timersPart
     shown-here =
         let c : Config = configIn f in
         let v : Shows c s (fresh c) (part (s .end) d') (part (16 * s .tasks) z') (part (timersBytes s) w') = h .started .shows s o in
         subst (λ (y : Shape). Shows c y (fresh c) (part (y .end) d') (part (16 * y .tasks) z') (part (timersBytes y) w')) shape-here v
 
-    pub begun : Begun f m₀ m₁
+    pub begun : Begins f m₀ m₁ 0
     unfolding sizesOf
     begun =
         let n = full-sizes m₀ full in
@@ -309,7 +306,7 @@ module _ (f : List ℕ) (zero : configRefusal f ≡ 0) (s : Shape) (o : Of (conf
 -- the same, from what the calls leave
 pub begun-by : (f : List ℕ) → configRefusal f ≡ 0 → (s : Shape) → Of (configIn f) s → (n : Sizes) → n ≡ sizesOf controller → (g d z w a g₁ d₁ z₁ w₁ g' d' z' w' a' : List ℕ) → fullSize (memory g d z w a) ≡ true
     → (g₁ ≡ ends configMark (n .config) g) × (d₁ ≡ ends tablesMark (n .tables) d) × (z₁ ≡ ends slotsMark (n .slots) z) × (w₁ ≡ ends timersMark (n .timers) w)
-    → g' ≡ splice g₁ partAt (kept f) → Places s f d₁ z₁ w₁ d' z' w' → TellsNow s d' z' 0 a a' → SameSizes (memory g d z w a) (memory g' d' z' w' a') → Begun f (memory g d z w a) (memory g' d' z' w' a')
+    → g' ≡ splice g₁ partAt (kept f) → Places s f d₁ z₁ w₁ d' z' w' → TellsNow s d' z' 0 a a' → SameSizes (memory g d z w a) (memory g' d' z' w' a') → Begins f (memory g d z w a) (memory g' d' z' w' a') 0
 unfolding sizesOf
 begun-by f zero s o n en g d z w a g₁ d₁ z₁ w₁ g' d' z' w' a' full e eg h tells sizes =
     let eg₁ : g₁ ≡ ends configMark 208 g = e .0 ∙ ap (λ (k : Sizes). ends configMark (k .config) g) en in
@@ -321,11 +318,11 @@ begun-by f zero s o n en g d z w a g₁ d₁ z₁ w₁ g' d' z' w' a' full e eg 
     let h₃ : Places s f (ends tablesMark 7517 d) (ends slotsMark 2024 z) (ends timersMark 659 w) d' z' w' = subst (λ (x : List ℕ). Places s f (ends tablesMark 7517 d) (ends slotsMark 2024 z) x d' z' w') ew h₂ in
     begun f zero s o g d z w a full g' d' z' w' a' (eg ∙ ap (λ (x : List ℕ). splice x partAt (kept f)) eg₁) h₃ tells sizes
 
-pub begin-sized : (n : Sizes) → n ≡ sizesOf controller → (g d z w a : List ℕ) → fullSize (memory g d z w a) ≡ true → Sized n (length g) (length d) (length z) (length w)
+pub begin-sized : (n : Sizes) → n ≡ sizesOf controller → (g d z w a : List ℕ) → fullSize (memory g d z w a) ≡ true → RoomForMarks n (length g) (length d) (length z) (length w)
 unfolding sizesOf
 begin-sized n e g d z w a full =
     let h = full-sizes (memory g d z w a) full in
-    subst (λ (x : Sizes). Sized x (length g) (length d) (length z) (length w)) (sym e) (sized (omega arith, h .config) (omega arith, h .tables) (omega arith, h .slots) (omega arith, h .timers))
+    subst (λ (x : Sizes). RoomForMarks x (length g) (length d) (length z) (length w)) (sym e) (room-for-marks (omega arith, h .config) (omega arith, h .tables) (omega arith, h .slots) (omega arith, h .timers))
 
 module _ (f g d z w a : List ℕ) where
   abbrev before : Memory
@@ -351,7 +348,7 @@ module _ (f g d z w a : List ℕ) where
         accepted = λ k x. absurd (ne (e ∙ x));
       }
 
-  pub configure-accepted : (n : ℕ) (m' : Memory) → SameSizes before m' → fullSize before ≡ true → n ≡ configRefusal f → n ≡ 0 → Begun f before m' → Configures f before m' 0
+  pub configure-accepted : (n : ℕ) (m' : Memory) → SameSizes before m' → fullSize before ≡ true → n ≡ configRefusal f → n ≡ 0 → Begins f before m' 0 → Configures f before m' 0
   configure-accepted n m' sz full e z0 b =
       record {
         sizes = sz;

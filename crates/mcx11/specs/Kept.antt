@@ -17,7 +17,7 @@ use Rattle.configuration.specs.Layout.{shapeOf}
 use Rattle.configuration.specs.Started.{timersBytes}
 use Rattle.parts.specs.Parts.{partAt, markedBy, part, keptFrame}
 use Rattle.parts.specs.Laws.{marks-kept}
-use Rattle.mcx11.specs.Contract.{Memory, sizesOf, fullSize, configMark, tablesMark, slotsMark, timersMark, isMarked, configOf, tablesIn, slotsIn, timersIn, lentWell, Displays, SameSizes, OutsideStays, Begins, Goes, Frames}
+use Rattle.mcx11.specs.Contract.{Memory, sizesOf, fullSize, configMark, tablesMark, slotsMark, timersMark, isMarked, configOf, tablesPart, slotsPart, timersPart, lentWell, Displays, SameSizes, OutsideStays, Begins, Goes, Frames}
 use Rattle.mcx11.specs.Sizes.{full-sizes, full-kept, well-full, well-marked, well-frame}
 use Rattle.mcx11.specs.Tested.{frame-rule, frame-shape, tables-within, slots-within, timers-within}
 use Rattle.mcx11.specs.Displayed.{displays-well}
@@ -41,8 +41,8 @@ module _ (m : Memory) (full : fullSize m ≡ true) (keeps : frameRule controller
       (tables-within controller controller-made c ruled (shapeOf c) o, slots-within controller controller-made c ruled (shapeOf c) o, timers-within controller controller-made c ruled (shapeOf c) o)
 
   -- and have all their bytes
-  pub parts-long : let c = configOf m in (length (tablesIn c m) ≡ shapeOf c .end) × (length (slotsIn c m) ≡ 16 * shapeOf c .tasks) × (length (timersIn c m) ≡ timersBytes (shapeOf c))
-  unfolding tablesIn slotsIn timersIn part
+  pub parts-long : let c = configOf m in (length (tablesPart c m) ≡ shapeOf c .end) × (length (slotsPart c m) ≡ 16 * shapeOf c .tasks) × (length (timersPart c m) ≡ timersBytes (shapeOf c))
+  unfolding tablesPart slotsPart timersPart part
   parts-long =
       let n = full-sizes m full in
       let f = parts-fit in

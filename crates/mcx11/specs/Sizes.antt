@@ -11,28 +11,28 @@ use Rattle.ledger.specs.Config.{Limits, controller}
 use Rattle.configuration.specs.Block.{frameRule}
 use Rattle.parts.specs.Parts.{keptFrame}
 use Rattle.mcx11.specs.declared.lent.Sizes as code
-use Rattle.mcx11.specs.Contract.{Memory, memory, Sizes, sizesOf, hasSizes, fullSize, isMarked, configOf, tablesIn, messagesSound, lentWellFor, lentWell, SameSizes}
+use Rattle.mcx11.specs.Contract.{Memory, memory, Sizes, sizesOf, hasSizes, fullSize, isMarked, configOf, tablesPart, messagesSound, lentWellFor, lentWell, SameSizes}
 
 -- the sizes as the program has them
 abbrev pub sizesIn : code.Sizes → Sizes
 sizesIn n = record { config = n .config; tables = n .tables; slots = n .slots; timers = n .timers; answer = n .answer }
 
 -- blocks that have their sizes, with room for both marks in each. (No record, so that its parts stay out of sight where one fact of it is wanted)
-pub data Sized (n : Sizes) (g d z w : ℕ) : Type 0 where
-  sized : (8 ≤ n .config) × (n .config ≤ g) → (8 ≤ n .tables) × (n .tables ≤ d) → (8 ≤ n .slots) × (n .slots ≤ z) → (8 ≤ n .timers) × (n .timers ≤ w) → Sized n g d z w
+pub data RoomForMarks (n : Sizes) (g d z w : ℕ) : Type 0 where
+  room-for-marks : (8 ≤ n .config) × (n .config ≤ g) → (8 ≤ n .tables) × (n .tables ≤ d) → (8 ≤ n .slots) × (n .slots ≤ z) → (8 ≤ n .timers) × (n .timers ≤ w) → RoomForMarks n g d z w
 
 module _ {n : Sizes} {g d z w : ℕ} where
-  pub config-sized : Sized n g d z w → (8 ≤ n .config) × (n .config ≤ g)
-  config-sized (sized a b c e) = a
+  pub config-sized : RoomForMarks n g d z w → (8 ≤ n .config) × (n .config ≤ g)
+  config-sized (room-for-marks a b c e) = a
 
-  pub tables-sized : Sized n g d z w → (8 ≤ n .tables) × (n .tables ≤ d)
-  tables-sized (sized a b c e) = b
+  pub tables-sized : RoomForMarks n g d z w → (8 ≤ n .tables) × (n .tables ≤ d)
+  tables-sized (room-for-marks a b c e) = b
 
-  pub slots-sized : Sized n g d z w → (8 ≤ n .slots) × (n .slots ≤ z)
-  slots-sized (sized a b c e) = c
+  pub slots-sized : RoomForMarks n g d z w → (8 ≤ n .slots) × (n .slots ≤ z)
+  slots-sized (room-for-marks a b c e) = c
 
-  pub timers-sized : Sized n g d z w → (8 ≤ n .timers) × (n .timers ≤ w)
-  timers-sized (sized a b c e) = e
+  pub timers-sized : RoomForMarks n g d z w → (8 ≤ n .timers) × (n .timers ≤ w)
+  timers-sized (room-for-marks a b c e) = e
 
 pub record Full (m : Memory) : Type 0 where
   pub config : 208 ≤ length (m .config)
@@ -71,7 +71,7 @@ full-kept s = rw (s .config, s .tables, s .slots, s .timers, s .answer)
 -- what the test for 11 found
 module _ (m : Memory) (h : lentWell m ≡ true) where
   abbrev sound : Bool
-  sound = messagesSound (configOf m) (tablesIn (configOf m) m)
+  sound = messagesSound (configOf m) (tablesPart (configOf m) m)
 
   abbrev framed : Bool
   framed = frameRule controller (keptFrame (m .config))
@@ -88,6 +88,6 @@ module _ (m : Memory) (h : lentWell m ≡ true) where
   unfolding lentWell lentWellFor
   well-frame = and-right (hasSizes (sizesOf controller) m && isMarked (sizesOf controller) m) _ (and-left _ sound h)
 
-  pub well-messages : messagesSound (configOf m) (tablesIn (configOf m) m) ≡ true
+  pub well-messages : messagesSound (configOf m) (tablesPart (configOf m) m) ≡ true
   unfolding lentWell lentWellFor
   well-messages = and-right (hasSizes (sizesOf controller) m && isMarked (sizesOf controller) m && framed) _ h

@@ -23,8 +23,8 @@ use Rattle.configuration.specs.Lent.{shapes-length}
 use Rattle.configuration.specs.Started.{timersBytes}
 use Rattle.rows.specs.Splice.{cut}
 use Rattle.parts.specs.Parts.{partAt, frameAt, markedBy, part, keptFrame}
-use Rattle.mcx11.specs.Contract.{Memory, memory, Sizes, sizesOf, hasSizes, configMark, tablesMark, slotsMark, timersMark, isMarked, configOf, tablesIn, messagesSound, lentWellFor, lentWell}
-use Rattle.mcx11.specs.Sizes.{Sized, sized}
+use Rattle.mcx11.specs.Contract.{Memory, memory, Sizes, sizesOf, hasSizes, configMark, tablesMark, slotsMark, timersMark, isMarked, configOf, tablesPart, messagesSound, lentWellFor, lentWell}
+use Rattle.mcx11.specs.Sizes.{RoomForMarks, room-for-marks}
 
 -- all answers of a length
 abbrev pub AllAnswers : ℕ → (List ℕ → Type 0) → Type 0
@@ -140,7 +140,7 @@ module _ (k : Limits) (g d z w : List ℕ) (na : ℕ) (n : Sizes) (en : n ≡ si
       all-sizes : (leb (n .config) (length g) && leb (n .tables) (length d) && leb (n .slots) (length z) && leb (n .timers) (length w) && leb (n .answer) na) ≡ true
       all-sizes = sym e ∙ full
 
-      pub tested-sized : Sized n (length g) (length d) (length z) (length w)
+      pub tested-sized : RoomForMarks n (length g) (length d) (length z) (length w)
       unfolding sizesOf
       tested-sized =
           let t = all-sizes in
@@ -148,7 +148,7 @@ module _ (k : Limits) (g d z w : List ℕ) (na : ℕ) (n : Sizes) (en : n ≡ si
           let ts : n .tables ≡ sizesOf k .tables = ap (λ (x : Sizes). x .tables) en in
           let ss : n .slots ≡ sizesOf k .slots = ap (λ (x : Sizes). x .slots) en in
           let ws : n .timers ≡ sizesOf k .timers = ap (λ (x : Sizes). x .timers) en in
-          sized (omega arith, leb-true (n .config) (length g) (search (and-left, and-right) depth 9)) (omega arith, leb-true (n .tables) (length d) (search (and-left, and-right) depth 9))
+          room-for-marks (omega arith, leb-true (n .config) (length g) (search (and-left, and-right) depth 9)) (omega arith, leb-true (n .tables) (length d) (search (and-left, and-right) depth 9))
           (omega arith, leb-true (n .slots) (length z) (search (and-left, and-right) depth 9)) (omega arith, leb-true (n .timers) (length w) (search (and-left, and-right) depth 9))
 
       pub tested-long : frameAt + longest k + 4 ≤ length g
@@ -182,7 +182,7 @@ module _ (k : Limits) (g d z w : List ℕ) (na : ℕ) (n : Sizes) (en : n ≡ si
                 (fitting (o .laid) (omega arith), omega (arith, tables-within k made (configIn (keptFrame g)) (frame-rule k made (keptFrame g) keeps) s o))
 
             pub tested-messages : (r : Lent) → r ≡ cond (soundIn s (part (s .end) d)) (Good s) Bad → Tested k g d z w na r
-            unfolding lentWellFor tablesIn configOf
+            unfolding lentWellFor tablesPart configOf
             tested-messages r er = subst (Tested k g d z w na) (sym er) (go (soundIn s (part (s .end) d)) refl)
               where
                 same : soundIn s (part (s .end) d) ≡ messagesSound (configIn (keptFrame g)) (part (shapeOf (configIn (keptFrame g)) .end) d)

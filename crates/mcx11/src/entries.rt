@@ -21,11 +21,11 @@ ghost use Rattle.tables.specs.Shows.{Of};
 ghost use Rattle.configuration.specs.Started.{timersBytes};
 ghost use Rattle.parts.specs.Parts.{partAt, ends};
 ghost use Rattle.mcx11.specs.Contract as contract;
-ghost use Rattle.mcx11.specs.Contract.{memory, Configures, Frames};
-ghost use Rattle.mcx11.specs.Sizes.{sizesIn, Sized};
-ghost use Rattle.mcx11.specs.Entries.{Room, Feeds, TellsNow, Places, Begun};
+ghost use Rattle.mcx11.specs.Contract.{memory, Begins, Configures, Frames};
+ghost use Rattle.mcx11.specs.Sizes.{sizesIn, RoomForMarks};
+ghost use Rattle.mcx11.specs.Entries.{Room, StepsInside, TellsNow, Places};
 
-// Feeds a frame to the parts of blocks that are lent well.
+// StepsInside a frame to the parts of blocks that are lent well.
 fn feed(
     frame: &[u8],
     config: &[u8],
@@ -36,7 +36,7 @@ fn feed(
     answer: &mut [u8],
 ) -> u8
     requires { ⌜ Room shape (now config) (now tables) (now slots) (now timers) × (21 ≤ length (now answer)) ⌝ }
-    ensures { λ r. ⌜ Feeds shape (now (frame .entry)) (now (config .entry)) (now (tables .entry)) (now (slots .entry)) (now (timers .entry)) (now (answer .entry))
+    ensures { λ r. ⌜ StepsInside shape (now (frame .entry)) (now (config .entry)) (now (tables .entry)) (now (slots .entry)) (now (timers .entry)) (now (answer .entry))
         (now (tables .exit)) (now (slots .exit)) (now (timers .exit)) (now (answer .exit)) r ⌝ }
 {
     let frame_end = FRAME_AT + parts::frame_length(config);
@@ -54,7 +54,7 @@ fn feed(
     )
 }
 
-// Feeds a frame. Gives its number: 0 accepted, 11 where the lent memory is short or broken (then nothing is written).
+// StepsInside a frame. Gives its number: 0 accepted, 11 where the lent memory is short or broken (then nothing is written).
 #[no_mangle]
 pub extern "C" fn mcx11_frame_blocks(
     frame: &[u8],
@@ -76,7 +76,7 @@ pub extern "C" fn mcx11_frame_blocks(
 
 // Sets the marks of all blocks.
 fn mark_blocks(n: Sizes, config: &mut [u8], tables: &mut [u8], slots: &mut [u8], timers: &mut [u8])
-    requires { ⌜ Sized (sizesIn n) (length (now config)) (length (now tables)) (length (now slots)) (length (now timers)) ⌝ }
+    requires { ⌜ RoomForMarks (sizesIn n) (length (now config)) (length (now tables)) (length (now slots)) (length (now timers)) ⌝ }
     ensures { λ _. ⌜ (now (config .exit) ≡ ends contract.configMark (n .config) (now (config .entry))) × (now (tables .exit) ≡ ends contract.tablesMark (n .tables) (now (tables .entry)))
         × (now (slots .exit) ≡ ends contract.slotsMark (n .slots) (now (slots .entry))) × (now (timers .exit) ≡ ends contract.timersMark (n .timers) (now (timers .entry))) ⌝ }
 {
@@ -135,8 +135,8 @@ fn begin(
 )
     requires { ⌜ (configRefusal (now frame) ≡ 0) × (sizesIn n ≡ contract.sizesOf limits.controller)
         × (contract.fullSize (memory (now config) (now tables) (now slots) (now timers) (now answer)) ≡ true) ⌝ }
-    ensures { λ _. ⌜ Begun (now (frame .entry)) (memory (now (config .entry)) (now (tables .entry)) (now (slots .entry)) (now (timers .entry)) (now (answer .entry)))
-        (memory (now (config .exit)) (now (tables .exit)) (now (slots .exit)) (now (timers .exit)) (now (answer .exit))) ⌝ }
+    ensures { λ _. ⌜ Begins (now (frame .entry)) (memory (now (config .entry)) (now (tables .entry)) (now (slots .entry)) (now (timers .entry)) (now (answer .entry)))
+        (memory (now (config .exit)) (now (tables .exit)) (now (slots .exit)) (now (timers .exit)) (now (answer .exit))) 0 ⌝ }
 {
     let shape = configuration::block::shape_of(frame);
     mark_blocks(n, config, tables, slots, timers);

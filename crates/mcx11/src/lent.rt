@@ -18,7 +18,7 @@ ghost use Rattle.configuration.specs.Layout.{Lends};
 ghost use Rattle.configuration.specs.declared.Lent.the-variants as variants;
 ghost use Rattle.parts.specs.Parts.{partAt, frameAt, markedBy, part, keptFrame};
 ghost use Rattle.mcx11.specs.Contract.{sizesOf, configMark, tablesMark, slotsMark, timersMark};
-ghost use Rattle.mcx11.specs.Sizes.{sizesIn, Sized};
+ghost use Rattle.mcx11.specs.Sizes.{sizesIn, RoomForMarks};
 ghost use Rattle.mcx11.specs.Tested.{Tested};
 
 // The fixed sizes of the lent blocks.
@@ -102,7 +102,7 @@ pub fn has_sizes(
 
 // Whether each block has its own mark at both ends.
 fn is_marked(n: Sizes, config: &[u8], tables: &[u8], slots: &[u8], timers: &[u8]) -> bool
-    requires { ⌜ Sized (sizesIn n) (length (now config)) (length (now tables)) (length (now slots)) (length (now timers)) ⌝ }
+    requires { ⌜ RoomForMarks (sizesIn n) (length (now config)) (length (now tables)) (length (now slots)) (length (now timers)) ⌝ }
     ensures { λ r. ⌜ r ≡ (markedBy configMark (n .config) (now (config .entry)) && markedBy tablesMark (n .tables) (now (tables .entry))
         && markedBy slotsMark (n .slots) (now (slots .entry)) && markedBy timersMark (n .timers) (now (timers .entry))) ⌝ }
 {

@@ -85,16 +85,16 @@ count-low {s} {r} f d i = count-in (r .depth) (getD (regions s d .rings) (i * 2 
 
 -- ---- where the rings begin
 module _ where
-  abbrev bytesIn : List config.Shape → ℕ → ℕ
+  abbrev bytesIn : List config.QueueShape → ℕ → ℕ
   bytesIn l i = sum (map bytesOf (take i l))
 
-  next : (l : List config.Shape) (i : ℕ) (z : config.Shape) → i < length l → bytesIn l (suc i) ≡ bytesIn l i + bytesOf (getD l i z)
+  next : (l : List config.QueueShape) (i : ℕ) (z : config.QueueShape) → i < length l → bytesIn l (suc i) ≡ bytesIn l i + bytesOf (getD l i z)
   unfolding sum
   next [] i z h = absurd (omega arith)
   next (x ∷ xs) zero z h = omega arith
   next (x ∷ xs) (suc i) z h = omega (arith, next xs i z (omega arith))
 
-  up : (l : List config.Shape) (i j : ℕ) → i ≤ j → bytesIn l i ≤ bytesIn l j
+  up : (l : List config.QueueShape) (i j : ℕ) → i ≤ j → bytesIn l i ≤ bytesIn l j
   unfolding sum
   up [] zero j h = omega arith
   up [] (suc i) zero h = omega arith
@@ -103,7 +103,7 @@ module _ where
   up (x ∷ xs) (suc i) zero h = absurd (omega arith)
   up (x ∷ xs) (suc i) (suc j) h = omega (arith, up xs i j (omega arith))
 
-  whole : (l : List config.Shape) (i : ℕ) → bytesIn l i ≤ sum (map bytesOf l)
+  whole : (l : List config.QueueShape) (i : ℕ) → bytesIn l i ≤ sum (map bytesOf l)
   unfolding sum
   whole [] zero = omega arith
   whole [] (suc i) = omega arith
@@ -115,8 +115,8 @@ module _ (c : Config) (s : Shape) (o : Of c s) where
   ends : (i : ℕ) → i < c .Q → begins c (suc i) ≡ begins c i + shape c (suc i) .depth * shape c (suc i) .width
   unfolding begins shape at bytesOf
   ends i h =
-      let z : config.Shape = record { width = 0; depth = 0 } in
-      let k : config.Shape = getD (c .shapes) i z in
+      let z : config.QueueShape = record { width = 0; depth = 0 } in
+      let k : config.QueueShape = getD (c .shapes) i z in
       next (c .shapes) i z (omega (arith, o .shapes)) ∙ ap (λ (x : ℕ). bytesIn (c .shapes) i + x) (mul-comm (k .width) (k .depth))
 
   pub apart-rings : (i j : ℕ) → i < j → j < c .Q → begins c i + shape c (suc i) .depth * shape c (suc i) .width ≤ begins c j
@@ -146,7 +146,7 @@ pub body-is : (c : Config) (s : Shape) → Of c s → (d : List ℕ) (i : ℕ) �
     → cut (regions s d .bodies) (begins c i) (begins c i + shape c (suc i) .depth * shape c (suc i) .width) ≡ bodyIn (ringOf c s (suc i)) d
 unfolding bodyIn ringOf regions named bound region
 body-is c s o d i b =
-    let k : config.Shape = shape c (suc i) in
+    let k : config.QueueShape = shape c (suc i) in
     let x : s .bodyat + begins c i + k .depth * k .width ≡ s .bodyat + (begins c i + k .depth * k .width) = omega arith in
     cut-cut d (s .bodyat) (s .end) (begins c i) (begins c i + k .depth * k .width) (inside c s o i b) ∙ ap (cut d (s .bodyat + begins c i)) (sym x)
 
@@ -154,7 +154,7 @@ module _ (c : Config) (s : Shape) (L : Ledger) (d z w : List ℕ) (h : Shows c s
   held-at : (i : ℕ) → i < c .Q → (r : Ring) → r ≡ ringOf c s (suc i) → held (queue L (suc i)) ≡ holds (r .width) (r .depth) (headIn s r d i) (countIn s r d i) (bodyIn r d)
   unfolding heldAt headIn countIn ringOf
   held-at i b r e =
-      let k : config.Shape = shape c (suc i) in
+      let k : config.QueueShape = shape c (suc i) in
       let m : suc i - 1 ≡ i = omega arith in
       queue-is c L (regions s d) z w (h .shown) (suc i) (omega arith, omega arith) ∙ ap (heldAt c (regions s d)) m
       ∙ ap (holds (k .width) (k .depth) (headOf (k .depth) (getD (regions s d .rings) (i * 2) 0)) (countOf (k .depth) (getD (regions s d .rings) (i * 2 + 1) 0))) (body-is c s (h .of) d i b)

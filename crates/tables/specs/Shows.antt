@@ -44,7 +44,7 @@ unfoldable pub semaphoresIn : Config → Regions → List ledger.Semaphore
 semaphoresIn c p = tab (semaphoreCount c) (semaphoreAt c p)
 
 -- where the entries of the queue in row i begin: behind those of the queues before it
-unfoldable pub bytesOf : config.Shape → ℕ
+unfoldable pub bytesOf : config.QueueShape → ℕ
 bytesOf k = k .width * k .depth
 
 unfoldable pub begins : Config → ℕ → ℕ

@@ -16,7 +16,7 @@ use Rattle.configuration.specs.Block.{frameRule}
 use Rattle.parts.specs.Parts.{keptFrame}
 use Rattle.configuration.specs.Layout.{shapeOf}
 use Rattle.answer.specs.Written.{written}
-use Rattle.mcx11.specs.Contract.{Memory, sizesOf, fullSize, isMarked, configOf, tablesIn, slotsIn, timersIn, messagesSound, lentWellFor, lentWell, Displays, Configures, Goes, Frames}
+use Rattle.mcx11.specs.Contract.{Memory, sizesOf, fullSize, isMarked, configOf, tablesPart, slotsPart, timersPart, messagesSound, lentWellFor, lentWell, Displays, Configures, Goes, Frames}
 use Rattle.mcx11.specs.Sizes.{full-kept, well-full, well-frame}
 use Rattle.mcx11.specs.Kept.{marks-stay, config-stays, begins-config}
 use Rattle.mcx11.specs.Answer.{answerOf}
@@ -38,14 +38,14 @@ shown-both c l m₁ m₂ e₁ e₂ h₁ h₂ =
 -- ---- from memories that are alike
 
 -- what the executive can tell of a memory: whether it has the sizes and the marks, its configuration's frame, its answer and its items
-pub record Alike (m₁ m₂ : Memory) : Type 0 where
+pub record Indistinct (m₁ m₂ : Memory) : Type 0 where
   pub sizes : fullSize m₁ ≡ fullSize m₂
   pub marks : isMarked (sizesOf controller) m₁ ≡ isMarked (sizesOf controller) m₂
   pub frames : keptFrame (m₁ .config) ≡ keptFrame (m₂ .config)
   pub answers : m₁ .answer ≡ m₂ .answer
   pub items : itemsOf m₁ ≡ itemsOf m₂
 
-alike-self : (m : Memory) → Alike m m
+alike-self : (m : Memory) → Indistinct m m
 alike-self m = record { sizes = refl; marks = refl; frames = refl; answers = refl; items = refl }
 
 -- what the one shows, the other shows
@@ -69,7 +69,7 @@ displays-both c l k m₁ m₂ e h g =
       };
     }
 
-module _ {m m' : Memory} (a : Alike m m') where
+module _ {m m' : Memory} (a : Indistinct m m') where
   abbrev c : Config
   c = configOf m
 
@@ -90,32 +90,32 @@ module _ {m m' : Memory} (a : Alike m m') where
         let k : Displays (configOf m') (ledgerIn m') m' = displays-ledger m' (sym (a .sizes) ∙ full) (ap (frameRule controller) (sym (a .frames)) ∙ kept) in
         displays-both c (ledgerIn m) (ledgerIn m') m m' items-alike (displays-ledger m full kept) (subst (λ (x : Config). Displays x (ledgerIn m') m') (sym configs) k)
 
-    messages-alike : messagesSound c (tablesIn c m) ≡ messagesSound c (tablesIn c m')
+    messages-alike : messagesSound c (tablesPart c m) ≡ messagesSound c (tablesPart c m')
     unfolding messagesSound soundIn Displays
     messages-alike =
-        sound-same c (shapeOf c) (ledgerIn m) (tablesIn c m) (slotsIn c m) (timersIn c m) (tablesIn c m') (slotsIn c m') (timersIn c m') (displays-ledger m full kept) ledger-alike
+        sound-same c (shapeOf c) (ledgerIn m) (tablesPart c m) (slotsPart c m) (timersPart c m) (tablesPart c m') (slotsPart c m') (timersPart c m') (displays-ledger m full kept) ledger-alike
 
   -- both are lent well, or neither is
   well-alike : lentWell m ≡ lentWell m'
   unfolding lentWell lentWellFor fullSize
   well-alike =
       go (fullSize m) refl (isMarked (sizesOf controller) m) keeps refl
-      ∙ (λ i. a .sizes i && a .marks i && frameRule controller (a .frames i) && messagesSound (configs i) (tablesIn (configs i) m'))
+      ∙ (λ i. a .sizes i && a .marks i && frameRule controller (a .frames i) && messagesSound (configs i) (tablesPart (configs i) m'))
     where
-      go : (x : Bool) → fullSize m ≡ x → (k : Bool) (y : Bool) → keeps ≡ y → (x && k && y && messagesSound c (tablesIn c m)) ≡ (x && k && y && messagesSound c (tablesIn c m'))
+      go : (x : Bool) → fullSize m ≡ x → (k : Bool) (y : Bool) → keeps ≡ y → (x && k && y && messagesSound c (tablesPart c m)) ≡ (x && k && y && messagesSound c (tablesPart c m'))
       go false e k y q = refl
       go true e false y q = refl
       go true e true false q = refl
       go true e true true q = messages-alike e q
 
-  pub frames-alike : {f : List ℕ} {m₁ m₂ : Memory} {r₁ r₂ : ℕ} → Frames f m m₁ r₁ → Frames f m' m₂ r₂ → (r₁ ≡ r₂) × Alike m₁ m₂
+  pub frames-alike : {f : List ℕ} {m₁ m₂ : Memory} {r₁ r₂ : ℕ} → Frames f m m₁ r₁ → Frames f m' m₂ r₂ → (r₁ ≡ r₂) × Indistinct m₁ m₂
   frames-alike {f} {m₁} {m₂} {r₁} {r₂} s₁ s₂ = go (lentWell m) refl
     where
-      go : (b : Bool) → lentWell m ≡ b → (r₁ ≡ r₂) × Alike m₁ m₂
+      go : (b : Bool) → lentWell m ≡ b → (r₁ ≡ r₂) × Indistinct m₁ m₂
       go false w =
           let x = s₁ .bad w in
           let y = s₂ .bad (sym well-alike ∙ w) in
-          (x .0 ∙ sym (y .0), subst (λ (n : Memory). Alike m₁ n) (sym (y .1)) (subst (λ (n : Memory). Alike n m') (sym (x .1)) a))
+          (x .0 ∙ sym (y .0), subst (λ (n : Memory). Indistinct m₁ n) (sym (y .1)) (subst (λ (n : Memory). Indistinct n m') (sym (x .1)) a))
       go true w =
           let l = ledgerIn m in
           let w' : lentWell m' ≡ true = sym well-alike ∙ w in
@@ -181,7 +181,7 @@ pub record AgreeOnLists (answered₁ answered₂ : List (List ℕ)) (returned₁
   pub answers : answered₁ ≡ answered₂
   pub items : itemsOf m₁ ≡ itemsOf m₂
 
-lists-alike : {m m' m₁ m₂ : Memory} {fs answered₁ answered₂ : List (List ℕ)} {returned₁ returned₂ : List ℕ} → Alike m m'
+lists-alike : {m m' m₁ m₂ : Memory} {fs answered₁ answered₂ : List (List ℕ)} {returned₁ returned₂ : List ℕ} → Indistinct m m'
     → FrameCalls m fs answered₁ returned₁ m₁ → FrameCalls m' fs answered₂ returned₂ m₂ → AgreeOnLists answered₁ answered₂ returned₁ returned₂ m₁ m₂
 unfolding answerOf
 lists-alike a none none = record { numbers = refl; answers = refl; items = a .items }

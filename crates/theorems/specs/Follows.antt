@@ -14,7 +14,7 @@ use Rattle.mcx11.specs.Answer.{answer-is}
 use Rattle.theorems.specs.Numbers.{numbersFrom}
 use Rattle.mcx11.specs.Kept.{config-stays, well-again}
 
-pub record Follows (c : Config) (l : Ledger) (m : Memory) (fs answered : List (List ℕ)) (returned : List ℕ) (m' : Memory) : Type 0 where
+pub record FollowsLedger (c : Config) (l : Ledger) (m : Memory) (fs answered : List (List ℕ)) (returned : List ℕ) (m' : Memory) : Type 0 where
   pub config : m' .config ≡ m .config
   pub answers : answered ≡ runFrom c l fs .1
   pub numbers : returned ≡ numbersFrom c l fs
@@ -23,7 +23,7 @@ pub record Follows (c : Config) (l : Ledger) (m : Memory) (fs answered : List (L
   pub outside : OutsideStays c m m'
 
 pub follows : {m m' : Memory} {fs answered : List (List ℕ)} {returned : List ℕ} (l : Ledger)
-    → lentWell m ≡ true → Displays (configOf m) l m → Once (configOf m) (l .mailboxes) → FrameCalls m fs answered returned m' → Follows (configOf m) l m fs answered returned m'
+    → lentWell m ≡ true → Displays (configOf m) l m → Once (configOf m) (l .mailboxes) → FrameCalls m fs answered returned m' → FollowsLedger (configOf m) l m fs answered returned m'
 unfolding runFrom numbersFrom
 follows l w h o none = record { config = refl; answers = refl; numbers = refl; shown = h; well = w; outside = record { tables = λ i k. refl; slots = λ i k. refl; timers = λ i k. refl } }
 follows l w h o (call {f} {m} {m₁} {m'} {r} {fs} {answers} {numbers} s more) =
@@ -33,8 +33,8 @@ follows l w h o (call {f} {m} {m₁} {m'} {r} {fs} {answers} {numbers} s more) =
     let e : configOf m₁ ≡ c = config-stays s in
     let h₁ : Displays (configOf m₁) (next .ledger) m₁ = subst (λ (k : Config). Displays k (next .ledger) m₁) (sym e) (g .shown) in
     let o₁ : Once (configOf m₁) (next .ledger .mailboxes) = subst (λ (k : Config). Once k (next .ledger .mailboxes)) (sym e) (once-step c f l o) in
-    let rest : Follows c (next .ledger) m₁ fs answers numbers m' =
-    subst (λ (k : Config). Follows k (next .ledger) m₁ fs answers numbers m') e (follows (next .ledger) (well-again s l w h o) h₁ o₁ more) in
+    let rest : FollowsLedger c (next .ledger) m₁ fs answers numbers m' =
+    subst (λ (k : Config). FollowsLedger k (next .ledger) m₁ fs answers numbers m') e (follows (next .ledger) (well-again s l w h o) h₁ o₁ more) in
     let now = s .outside w in
     let later = rest .outside in
     record {

@@ -23,7 +23,7 @@ use Rattle.theorems.specs.Calls.{FrameCalls}
 use Rattle.mcx11.specs.Answer.{answerOf, answer-is}
 use Rattle.theorems.specs.Numbers.{numbers, Not11, none-11, configuration-never-11}
 use Rattle.mcx11.specs.Displayed.{itemsIn, items-shown}
-use Rattle.theorems.specs.Follows.{Follows, follows}
+use Rattle.theorems.specs.Follows.{FollowsLedger, follows}
 
 -- the calls for the configuration g, lent the memory m₀, and for the frames fs, with these answers and numbers, those of the configuration
 -- first, left the memory m
@@ -93,7 +93,7 @@ every-list {g} {m₀} {m₁} {m} {r₀} {fs} {answered} {returned} h full s more
     let e : configOf m₁ ≡ c = begins-config a in
     let d : Displays (configOf m₁) (fresh c) m₁ = subst (λ (k : Config). Displays k (fresh c) m₁) (sym e) (a .shown) in
     let o : Once (configOf m₁) (fresh c .mailboxes) = subst (λ (k : Config). Once k (fresh c .mailboxes)) (sym e) (once-fresh c) in
-    let rest : Follows c (fresh c) m₁ fs answered returned m = subst (λ (k : Config). Follows k (fresh c) m₁ fs answered returned m) e (follows (fresh c) (a .well) d o more) in
+    let rest : FollowsLedger c (fresh c) m₁ fs answered returned m = subst (λ (k : Config). FollowsLedger k (fresh c) m₁ fs answered returned m) e (follows (fresh c) (a .well) d o more) in
     whole g m₀ fs (answerOf m₁ ∷ answered) (r₀ ∷ returned) m h
     (ap₂ _∷_ (answer-is m₁ (answer 0 0 (fresh c)) (m₀ .answer) (a .answered)) (rest .answers))
     (ap₂ _∷_ (a .number) (rest .numbers))

@@ -15,7 +15,7 @@ use Rattle.theorems.specs.Calls.{FrameCalls}
 use Rattle.theorems.specs.Same.{every-list}
 
 -- some executive's answers to a configuration and frames: a call for each that meets the contract, on memory of full size
-pub record Answered (g : List ℕ) (fs answers : List (List ℕ)) : Type 0 where
+pub record Played (g : List ℕ) (fs answers : List (List ℕ)) : Type 0 where
   pub before : Memory
   pub begun : Memory
   pub after : Memory
@@ -27,7 +27,7 @@ pub record Answered (g : List ℕ) (fs answers : List (List ℕ)) : Type 0 where
   pub fed : FrameCalls begun fs rest numbers after
   pub are : answers ≡ answerOf begun ∷ rest
 
-ledgers : {g : List ℕ} {fs answers : List (List ℕ)} → configRefusal g ≡ 0 → Answered g fs answers → answers ≡ session g fs
+ledgers : {g : List ℕ} {fs answers : List (List ℕ)} → configRefusal g ≡ 0 → Played g fs answers → answers ≡ session g fs
 ledgers h x = x .are ∙ every-list h (x .full) (x .configured) (x .fed) .answers
 
 module _ (a : List (List ℕ)) where
@@ -35,42 +35,42 @@ module _ (a : List (List ℕ)) where
   abbrev shows : (k i : ℕ) → ℕ
   shows k i = byte i (getD a k [])
 
-  of-session : {fs : List (List ℕ)} → Answered twoTasks fs a → {l : List (List ℕ)} → session twoTasks fs ≡ l → (k i : ℕ) → shows k i ≡ byte i (getD l k [])
+  of-session : {fs : List (List ℕ)} → Played twoTasks fs a → {l : List (List ℕ)} → session twoTasks fs ≡ l → (k i : ℕ) → shows k i ≡ byte i (getD l k [])
   of-session x e k i = ap (λ (l : List (List ℕ)). byte i (getD l k [])) (ledgers (the-answers .accepted) x ∙ e)
 
   -- it settles after the first frame, and later reports the old task
-  pub no-old-task : Answered twoTasks (takes ∷ puts ∷ []) a → shows 2 1 ≡ shows 1 1 → ⊥
+  pub no-old-task : Played twoTasks (takes ∷ puts ∷ []) a → shows 2 1 ≡ shows 1 1 → ⊥
   no-old-task x h =
       let now : shows 2 1 ≡ 1 = of-session x (the-answers .settled) 2 1 in
       let old : shows 1 1 ≡ 2 = of-session x (the-answers .settled) 1 1 in
       omega (arith, h, now, old)
 
   -- it prints another number of reissues
-  pub no-invented-reissues : Answered twoTasks (takes ∷ puts ∷ []) a → (shows 2 2 ≡ 1 → ⊥) → ⊥
+  pub no-invented-reissues : Played twoTasks (takes ∷ puts ∷ []) a → (shows 2 2 ≡ 1 → ⊥) → ⊥
   no-invented-reissues x h = h (of-session x (the-answers .settled) 2 2)
 
   -- it gives 23 with a timer free
-  pub no-23-with-a-timer-free : Answered twoTasks (starts ∷ []) a → shows 1 0 ≡ 23 → ⊥
+  pub no-23-with-a-timer-free : Played twoTasks (starts ∷ []) a → shows 1 0 ≡ 23 → ⊥
   no-23-with-a-timer-free x h =
       let is : shows 1 0 ≡ 0 = of-session x (the-answers .started) 1 0 in
       omega (arith, h, is)
 
   -- it waits at a filled queue: the task that takes does not run on
-  pub no-wait-on-filled : Answered twoTasks (puts ∷ takes ∷ []) a → (shows 2 1 ≡ 1 → ⊥) → ⊥
+  pub no-wait-on-filled : Played twoTasks (puts ∷ takes ∷ []) a → (shows 2 1 ≡ 1 → ⊥) → ⊥
   no-wait-on-filled x h = h (of-session x (the-answers .filled) 2 1)
 
   -- it refuses all
-  pub no-refusing-all : Answered twoTasks (puts ∷ takes ∷ []) a → (shows 1 0 ≡ 0 → ⊥) → ⊥
+  pub no-refusing-all : Played twoTasks (puts ∷ takes ∷ []) a → (shows 1 0 ≡ 0 → ⊥) → ⊥
   no-refusing-all x h = h (of-session x (the-answers .filled) 1 0)
 
   -- it runs task 0 always
-  pub no-task-0-always : Answered twoTasks (puts ∷ takes ∷ []) a → shows 0 1 ≡ 0 → ⊥
+  pub no-task-0-always : Played twoTasks (puts ∷ takes ∷ []) a → shows 0 1 ≡ 0 → ⊥
   no-task-0-always x h =
       let is : shows 0 1 ≡ 1 = of-session x (the-answers .filled) 0 1 in
       omega (arith, h, is)
 
   -- it ignores ticks: the second changes nothing
-  pub no-ignoring-ticks : Answered twoTasks (delays ∷ ticks ∷ ticks ∷ []) a → getD a 3 [] ≡ getD a 2 [] → ⊥
+  pub no-ignoring-ticks : Played twoTasks (delays ∷ ticks ∷ ticks ∷ []) a → getD a 3 [] ≡ getD a 2 [] → ⊥
   no-ignoring-ticks x h =
       let now : shows 3 1 ≡ 1 = of-session x (the-answers .ticked) 3 1 in
       let old : shows 2 1 ≡ 2 = of-session x (the-answers .ticked) 2 1 in

@@ -8,19 +8,19 @@ use Rattle.tables.specs.AnyMemory.{some, shows-some}
 use Rattle.configuration.specs.Block.{frameRule}
 use Rattle.configuration.specs.Layout.{shapeOf}
 use Rattle.parts.specs.Parts.{keptFrame}
-use Rattle.mcx11.specs.Contract.{Memory, fullSize, configOf, tablesIn, slotsIn, timersIn, lentWell, Displays}
+use Rattle.mcx11.specs.Contract.{Memory, fullSize, configOf, tablesPart, slotsPart, timersPart, lentWell, Displays}
 use Rattle.mcx11.specs.Sizes.{well-full, well-frame}
 use Rattle.mcx11.specs.Kept.{config-shape, parts-long}
 
 unfoldable pub ledgerIn : Memory → Ledger
-ledgerIn m = let c = configOf m in some c (shapeOf c) (tablesIn c m) (slotsIn c m) (timersIn c m)
+ledgerIn m = let c = configOf m in some c (shapeOf c) (tablesPart c m) (slotsPart c m) (timersPart c m)
 
 pub displays-ledger : (m : Memory) → fullSize m ≡ true → frameRule controller (keptFrame (m .config)) ≡ true → Displays (configOf m) (ledgerIn m) m
 unfolding Displays ledgerIn
 displays-ledger m full keeps =
     let c = configOf m in
     let n = parts-long m full keeps in
-    shows-some c (shapeOf c) (tablesIn c m) (slotsIn c m) (timersIn c m) (config-shape m full keeps) (omega (arith, n .0)) (omega (arith, n .1)) (omega (arith, n .2))
+    shows-some c (shapeOf c) (tablesPart c m) (slotsPart c m) (timersPart c m) (config-shape m full keeps) (omega (arith, n .0)) (omega (arith, n .1)) (omega (arith, n .2))
 
 -- so does every memory that is lent well
 pub displays-some : (m : Memory) → lentWell m ≡ true → Displays (configOf m) (ledgerIn m) m

@@ -5,7 +5,7 @@ use mathlib.Core.List.{List, [], _∷_, _++_}
 use lib.Dec.{leb, eqb}
 use lib.ListN.{length, take, drop}
 use Rattle.ledger.specs.Lists.{at}
-use Rattle.ledger.specs.Config.{Config, Shape}
+use Rattle.ledger.specs.Config.{Config, QueueShape}
 use Rattle.ledger.specs.Ledger.{entry, dequeue, enqueue, Ledger, task, queue, held, setQueue, setOutcome, setSlot, setRequest}
 use Rattle.ledger.specs.Services.Semaphores.{waitFor, wakeWaiter}
 
@@ -15,7 +15,7 @@ notEmpty c q = c .S + c .T + 2 * q - 1
 unfoldable pub notFull : Config → ℕ → ℕ
 notFull c q = c .S + c .T + 2 * q
 
-unfoldable pub shape : Config → ℕ → Shape
+unfoldable pub shape : Config → ℕ → QueueShape
 shape c q = at (c .shapes) q (record { width = 0; depth = 0 })
 
 unfoldable pub empty : Ledger → ℕ → Bool

@@ -8,12 +8,12 @@ use borrow.Author.Tests.{leb-true, eqb-true, not-false}
 use lib.Dec.{eqb, ltb}
 use lib.ListN.{length, length-take, length-drop}
 use Rattle.ledger.specs.Lists.{_⇒_, all, within}
-use Rattle.ledger.specs.Config.{Shape, Config, shapesIn, configIn, controller, goodHead, goodRest, configRefusal}
+use Rattle.ledger.specs.Config.{QueueShape, Config, shapesIn, configIn, controller, goodHead, goodRest, configRefusal}
 use Rattle.ledger.specs.Services.{shape}
 use Rattle.ledger.specs.Theorems.Items.{Numbered}
 use Rattle.ledger.specs.Theorems.Checks.{and-left, and-right, within-numbered, passes, at-all}
 
-pub record Shaped (s : Shape) : Type 0 where
+pub record Shaped (s : QueueShape) : Type 0 where
   pub width : Numbered 16 (s .width)
   pub depth : Numbered 255 (s .depth)
 

@@ -9,7 +9,7 @@ use Rattle.ledger.specs.Services.{effect}
 use Rattle.ledger.specs.Refusals.{codeAt}
 use Rattle.tables.specs.Shows.{moved}
 use Rattle.ledger.specs.Config.{configIn}
-use Rattle.executive.specs.Lent.{configuration, tables, slots, timers}
+use Rattle.executive.specs.Suits.{configuration, tables, slots, timers}
 use Rattle.executive.specs.Carried.{by-code, exit-is}
 use borrow.Author.Needs.{needs}
 use Rattle.executive.proofs.carrying.by_family.Statement.{statement}

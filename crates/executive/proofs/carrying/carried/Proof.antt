@@ -11,7 +11,7 @@ use Rattle.ledger.specs.Config.{configIn}
 use Rattle.command.specs.Configured.{of, fits}
 use Rattle.command.specs.Refused.{row-is, task-is, semaphore-is, owner-of}
 use Rattle.mailboxes.specs.Room.{roomy-stays}
-use Rattle.executive.specs.Lent.{configuration, tables, still-lent}
+use Rattle.executive.specs.Suits.{configuration, tables, still-suits}
 use Rattle.executive.specs.Carried.{meant-of, accept-is, free-is}
 use borrow.Author.Needs.{needs}
 use Rattle.executive.proofs.carrying.carried.Statement.{statement}
@@ -36,7 +36,7 @@ prepare-requires : tie.Need-prepare-requires
 prepare-requires c κs = let s = c .before .before .before .before .before .before .before .before .before .before .before in let g = configIn (now (s .args .config)) in let f = now (s .args .frame) in let o = of (configuration (s .pre .3)) in let r = row-is f (s .args .code) (c .before .before .before .before .before .row .result) (s .pre .0) (s .pre .1) (s .pre .2) (c .before .before .before .before .before .row .ensures) in let k = good g (s .args .me) f (omega (arith, s .pre .4 .low, o .tasks)) (s .pre .4 .input) in let a = task-is g (s .args .me) r (c .before .before .before .meant-task .ensures) in let b = semaphore-is g (s .args .me) r a (c .before .meant-semaphore .ensures g o) in let m = meant-of o (s .args .me) f (now (s .args .tables)) k (s .pre .4 .room) (s .args .code) _ _ (s .pre .1) a b in let v = ap (λ u. u .service) (c .before .before .before .before .before .row .ensures) in (tables (s .pre .3), λ t. m .asks (sym v ∙ t))
 
 by-family-requires : tie.Need-by-family-requires
-by-family-requires c κs = let s = c .before .before .before .before .before .before .before .before .before .before .before .before .before .before .before .before .before in let g = configIn (now (s .args .config)) in let f = now (s .args .frame) in let o = of (configuration (s .pre .3)) in let r = row-is f (s .args .code) (c .before .before .before .before .before .before .before .before .before .before .before .row .result) (s .pre .0) (s .pre .1) (s .pre .2) (c .before .before .before .before .before .before .before .before .before .before .before .row .ensures) in let k = good g (s .args .me) f (omega (arith, s .pre .4 .low, o .tasks)) (s .pre .4 .input) in let a = task-is g (s .args .me) r (c .before .before .before .before .before .before .before .before .before .meant-task .ensures) in let b = semaphore-is g (s .args .me) r a (c .before .before .before .before .before .before .before .meant-semaphore .ensures g o) in let p = c .before .before .before .before .before .prepare in let m = meant-of o (s .args .me) f (p .last .0) k (λ x. roomy-stays (s .args .shape) (now (s .args .tables)) (p .last .0) (p .ensures .1) (s .pre .4 .room x)) (s .args .code) _ _ (s .pre .1) a b in (s .pre .0, s .pre .2, still-lent (s .pre .3) (omega (arith, p .kept .0)) refl refl, m)
+by-family-requires c κs = let s = c .before .before .before .before .before .before .before .before .before .before .before .before .before .before .before .before .before in let g = configIn (now (s .args .config)) in let f = now (s .args .frame) in let o = of (configuration (s .pre .3)) in let r = row-is f (s .args .code) (c .before .before .before .before .before .before .before .before .before .before .before .row .result) (s .pre .0) (s .pre .1) (s .pre .2) (c .before .before .before .before .before .before .before .before .before .before .before .row .ensures) in let k = good g (s .args .me) f (omega (arith, s .pre .4 .low, o .tasks)) (s .pre .4 .input) in let a = task-is g (s .args .me) r (c .before .before .before .before .before .before .before .before .before .meant-task .ensures) in let b = semaphore-is g (s .args .me) r a (c .before .before .before .before .before .before .before .meant-semaphore .ensures g o) in let p = c .before .before .before .before .before .prepare in let m = meant-of o (s .args .me) f (p .last .0) k (λ x. roomy-stays (s .args .shape) (now (s .args .tables)) (p .last .0) (p .ensures .1) (s .pre .4 .room x)) (s .args .code) _ _ (s .pre .1) a b in (s .pre .0, s .pre .2, still-suits (s .pre .3) (omega (arith, p .kept .0)) refl refl, m)
 
 same-length : tie.Need-same-length
 same-length c = search needs

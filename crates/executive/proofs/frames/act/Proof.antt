@@ -1,7 +1,7 @@
 -- `act` carries out and settles, each over the ledger that the call before left.
 use native.Mathlib.Omega.{arith}
 use Rattle.tables.specs.Layout.{still-fits}
-use Rattle.executive.specs.Lent.{configuration, tables, slots}
+use Rattle.executive.specs.Suits.{configuration, tables, slots}
 use borrow.Author.Needs.{needs}
 use Rattle.executive.proofs.frames.act.Statement.{statement}
 use Rattle.executive.proofs.frames.act.Tie as tie

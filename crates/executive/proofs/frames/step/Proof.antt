@@ -4,7 +4,7 @@ use denote.Ref.{now}
 use Rattle.ledger.specs.Config.{configIn}
 use Rattle.tables.specs.Layout.{still-fits, few}
 use Rattle.command.specs.Configured.{of}
-use Rattle.executive.specs.Lent.{configuration, tables, slots, timers}
+use Rattle.executive.specs.Suits.{configuration, tables, slots, timers}
 use Rattle.executive.specs.Stepped.{room-found, step-refused, step-accepted}
 use borrow.Author.Needs.{needs}
 use Rattle.executive.proofs.frames.step.Statement.{statement}

@@ -7,7 +7,7 @@ use Rattle.ledger.specs.Services.{effect}
 use Rattle.ledger.specs.Lists.{at}
 use Rattle.ledger.specs.Refusals.{fields, codeAt, isMessage}
 use Rattle.tables.specs.Shows.{moved}
-use Rattle.executive.specs.Meant.{MeansA, MeansB, MeansX, Asks, HasRoom}
+use Rattle.executive.specs.Meant.{MeansA, MeansB, MeansX, Asks, MessageRoom}
 use Rattle.executive.specs.Carried.{low-is, by-code}
 use borrow.Author.Needs.{needs}
 use Rattle.executive.proofs.message.serve.Statement.{statement}
@@ -21,7 +21,7 @@ send-requires c κs =
       s .pre .0,
       subst (λ (n : ℕ). Asks (s .args .shape) n (s .args .me)) e (s .pre .3) refl,
       subst (λ (n : ℕ). MeansA (s .args .shape) n (s .args .a)) e (s .pre .4),
-      subst (λ (n : ℕ). HasRoom (s .args .shape) n (now (s .args .tables))) e (s .pre .7) refl,
+      subst (λ (n : ℕ). MessageRoom (s .args .shape) n (now (s .args .tables))) e (s .pre .7) refl,
     )
 
 sendw-requires : tie.Need-sendw-requires
@@ -32,7 +32,7 @@ sendw-requires c κs =
       s .pre .0,
       subst (λ (n : ℕ). Asks (s .args .shape) n (s .args .me)) e (s .pre .3) refl,
       subst (λ (n : ℕ). MeansA (s .args .shape) n (s .args .a)) e (s .pre .4),
-      subst (λ (n : ℕ). HasRoom (s .args .shape) n (now (s .args .tables))) e (s .pre .7) refl,
+      subst (λ (n : ℕ). MessageRoom (s .args .shape) n (now (s .args .tables))) e (s .pre .7) refl,
       subst (λ (n : ℕ). MeansB (s .args .shape) n (s .args .b)) e (s .pre .5),
     )
 

@@ -9,7 +9,7 @@ use borrow.Author.Tests.{leb-false}
 use lib.ListN.{length, take, drop, length-append, length-drop}
 use lib.Seq.{take-at, drop-append-le, drop-drop}
 use Rattle.ledger.specs.Lists.{at}
-use Rattle.ledger.specs.Config.{Shape, Config}
+use Rattle.ledger.specs.Config.{QueueShape, Config}
 use Rattle.ledger.specs.Ledger.{Queue, Ledger, emptyQueue, task, queue, held, fresh}
 use Rattle.ledger.specs.Services.{shape, full, copyInto}
 use Rattle.ledger.specs.Theorems.Items.{at-put-each}
@@ -17,7 +17,7 @@ use Rattle.ledger.specs.Theorems.Parts.{Every, nil, cons, part-drop, eve
 use Rattle.ledger.specs.Theorems.Fresh.{fresh-queue}
 use Rattle.ledger.specs.Theorems.Changes.{Change, alters, restarts, pends, finishes, wakes, waits, delivers, removes, putsEntry, takesEntry, startsTimer, stopsTimers, ticks, tocks, updates}
 
-pub record SoundQueue (s : Shape) (k : Queue) : Type 0 where
+pub record SoundQueue (s : QueueShape) (k : Queue) : Type 0 where
   pub widths : Every (λ e. length e ≡ s .width) (k .put)
   pub taken : k .taken ≤ length (k .put)
   pub depth : length (held k) ≤ s .depth
@@ -27,11 +27,11 @@ abbrev pub SoundQueues : Config → Ledger → Type 0
 SoundQueues c l = (q : ℕ) → SoundQueue (shape c q) (queue l q)
 
 -- the oldest entry has the width
-pub oldest-width : (s : Shape) (k : Queue) (e : List ℕ) (es : List (List ℕ)) → held k ≡ e ∷ es → SoundQueue s k → length e ≡ s .width
+pub oldest-width : (s : QueueShape) (k : Queue) (e : List ℕ) (es : List (List ℕ)) → held k ≡ e ∷ es → SoundQueue s k → length e ≡ s .width
 unfolding held
 oldest-width s k e es h q = every-first {xs = es} (rw h at (every-part (part-drop (k .taken) (k .put)) (q .widths)))
 
-put-sound : (s : Shape) (k : Queue) (e : List ℕ) → length e ≡ s .width → length (held k) < s .depth → SoundQueue s k
+put-sound : (s : QueueShape) (k : Queue) (e : List ℕ) → length e ≡ s .width → length (held k) < s .depth → SoundQueue s k
     → SoundQueue s (record { put = k .put ++ (e ∷ []); taken = k .taken; handedOut = k .handedOut })
 unfolding held
 put-sound s k e w d q =
@@ -43,7 +43,7 @@ put-sound s k e w d q =
       fifo = rw h (sym (append-assoc (k .handedOut) _ _) ∙ ap (λ xs. xs ++ (e ∷ [])) (q .fifo));
     }
 
-take-sound : (s : Shape) (k : Queue) (e : List ℕ) (es : List (List ℕ)) (slot : List ℕ) → held k ≡ e ∷ es → SoundQueue s k
+take-sound : (s : QueueShape) (k : Queue) (e : List ℕ) (es : List (List ℕ)) (slot : List ℕ) → held k ≡ e ∷ es → SoundQueue s k
     → SoundQueue s (record { put = k .put; taken = suc (k .taken); handedOut = k .handedOut ++ (take (s .width) (copyInto slot e) ∷ []) })
 unfolding held copyInto
 take-sound s k e es slot h q =
