@@ -10,5 +10,6 @@ pub mod Lines
 -- What is proved of them, and how they are computed.
 pub mod Examples
 pub mod Readings
+pub mod Shams
 pub mod Theorems
 pub mod Computing

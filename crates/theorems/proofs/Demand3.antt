@@ -66,5 +66,5 @@ by-contract (call s more) = calls.call (frames s) (by-contract more)
 -- DEMAND 3: for every accepted configuration, every memory of full size, whatever it held, and every list of frames
 pub demand-3 : {g : List ℕ} {m₀ m₁ m : Memory} {r : ℕ} {fs answers : List (List ℕ)} {numbers : List ℕ}
     → configRefusal g ≡ 0 → fullSize m₀ ≡ true → ConfigureCall g m₀ m₁ r → FrameCalls m₁ fs answers numbers m
-    → Same g fs (answerOf m₁ ∷ answers) (r ∷ numbers) m
+    → Same g m₀ fs (answerOf m₁ ∷ answers) (r ∷ numbers) m
 demand-3 h full s more = every-list h full (configures s) (by-contract more)

@@ -113,7 +113,7 @@ module _ (m : Memory) (d o : List ℕ) (b : SessionStarts m d o) where
 
 -- what demand 3 says of runs that left the memory `last`, in which the five blocks hold m' and all else is as it was
 pub record AsTheLedger (m : Memory) (d o g : List ℕ) (fs answers : List (List ℕ)) (numbers : List ℕ) (last : machine.Memory) (m' : Memory) : Type 0 where
-  pub same : Same g fs answers numbers m'
+  pub same : Same g m fs answers numbers m'
   pub others : Loads last 0 (othersAt m d) o
 
 pub record SessionRan (m : Memory) (buffer others g : List ℕ) (fs : List (List ℕ)) : Type 0 where

@@ -9,15 +9,16 @@ use lib.ListN.{getD}
 use Rattle.rows.specs.Splice.{cut}
 use Rattle.ledger.specs.Config.{Config, controller, configIn, configRefusal}
 use Rattle.ledger.specs.Ledger.{Ledger, fresh}
-use Rattle.ledger.specs.Refusals.{refusal}
 use Rattle.ledger.specs.Session.{Items, items, step}
 use Rattle.mailboxes.specs.Room.{soundIn}
 use Rattle.mailboxes.specs.Whole.{sound-same}
-use Rattle.configuration.specs.Block.{configured, rule}
+use Rattle.configuration.specs.Block.{frameRule}
+use Rattle.parts.specs.Parts.{keptFrame}
 use Rattle.configuration.specs.Layout.{shapeOf}
 use Rattle.answer.specs.Written.{written}
-use Rattle.mcx11.specs.Contract.{Memory, fullSize, messagesSound, lentWellFor, lentWell, Displays, Configures, Frames}
-use Rattle.mcx11.specs.Sizes.{full-kept, well-full, well-rule}
+use Rattle.mcx11.specs.Contract.{Memory, sizesOf, fullSize, isMarked, configOf, tablesIn, slotsIn, timersIn, messagesSound, lentWellFor, lentWell, Displays, Configures, Goes, Frames}
+use Rattle.mcx11.specs.Sizes.{full-kept, well-full, well-frame}
+use Rattle.mcx11.specs.Kept.{marks-stay, config-stays, begins-config}
 use Rattle.mcx11.specs.Answer.{answerOf}
 use Rattle.mcx11.specs.Displayed.{itemsIn, items-shown}
 use Rattle.theorems.specs.Calls.{FrameCalls, none, call}
@@ -25,10 +26,10 @@ use Rattle.theorems.specs.SomeLedger.{ledgerIn, displays-ledger, display
 
 -- the items of a memory, by its own configuration
 unfoldable pub itemsOf : Memory → Items
-itemsOf m = itemsIn (configured (m .config)) m
+itemsOf m = itemsIn (configOf m) m
 
 -- two memories that show the same ledger have the same items
-shown-both : (c : Config) (l : Ledger) (m₁ m₂ : Memory) → configured (m₁ .config) ≡ c → configured (m₂ .config) ≡ c → Displays c l m₁ → Displays c l m₂
+shown-both : (c : Config) (l : Ledger) (m₁ m₂ : Memory) → configOf m₁ ≡ c → configOf m₂ ≡ c → Displays c l m₁ → Displays c l m₂
     → itemsOf m₁ ≡ itemsOf m₂
 unfolding itemsOf
 shown-both c l m₁ m₂ e₁ e₂ h₁ h₂ =
@@ -36,15 +37,16 @@ shown-both c l m₁ m₂ e₁ e₂ h₁ h₂ =
 
 -- ---- from memories that are alike
 
--- what the executive can tell of a memory: whether it has the sizes, its configuration, its answer and its items
+-- what the executive can tell of a memory: whether it has the sizes and the marks, its configuration's frame, its answer and its items
 pub record Alike (m₁ m₂ : Memory) : Type 0 where
   pub sizes : fullSize m₁ ≡ fullSize m₂
-  pub configs : configured (m₁ .config) ≡ configured (m₂ .config)
+  pub marks : isMarked (sizesOf controller) m₁ ≡ isMarked (sizesOf controller) m₂
+  pub frames : keptFrame (m₁ .config) ≡ keptFrame (m₂ .config)
   pub answers : m₁ .answer ≡ m₂ .answer
   pub items : itemsOf m₁ ≡ itemsOf m₂
 
 alike-self : (m : Memory) → Alike m m
-alike-self m = record { sizes = refl; configs = refl; answers = refl; items = refl }
+alike-self m = record { sizes = refl; marks = refl; frames = refl; answers = refl; items = refl }
 
 -- what the one shows, the other shows
 displays-both : (c : Config) (l k : Ledger) (m₁ m₂ : Memory) → itemsIn c m₁ ≡ itemsIn c m₂ → Displays c l m₁ → Displays c k m₂ → Displays c l m₂
@@ -69,35 +71,42 @@ displays-both c l k m₁ m₂ e h g =
 
 module _ {m m' : Memory} (a : Alike m m') where
   abbrev c : Config
-  c = configured (m .config)
+  c = configOf m
+
+  configs : configOf m ≡ configOf m'
+  unfolding configOf
+  configs = ap configIn (a .frames)
 
   items-alike : itemsIn c m ≡ itemsIn c m'
   unfolding itemsOf
-  items-alike = a .items ∙ ap (λ (k : Config). itemsIn k m') (sym (a .configs))
+  items-alike = a .items ∙ ap (λ (k : Config). itemsIn k m') (sym configs)
 
-  module _ (full : fullSize m ≡ true) (keeps : rule controller c ≡ true) where
+  abbrev keeps : Bool
+  keeps = frameRule controller (keptFrame (m .config))
+
+  module _ (full : fullSize m ≡ true) (kept : keeps ≡ true) where
     ledger-alike : Displays c (ledgerIn m) m'
     ledger-alike =
-        let e = a .configs in
-        let k : Displays (configured (m' .config)) (ledgerIn m') m' = displays-ledger m' (sym (a .sizes) ∙ full) (ap (rule controller) (sym e) ∙ keeps) in
-        displays-both c (ledgerIn m) (ledgerIn m') m m' items-alike (displays-ledger m full keeps) (subst (λ (x : Config). Displays x (ledgerIn m') m') (sym e) k)
+        let k : Displays (configOf m') (ledgerIn m') m' = displays-ledger m' (sym (a .sizes) ∙ full) (ap (frameRule controller) (sym (a .frames)) ∙ kept) in
+        displays-both c (ledgerIn m) (ledgerIn m') m m' items-alike (displays-ledger m full kept) (subst (λ (x : Config). Displays x (ledgerIn m') m') (sym configs) k)
 
-    messages-alike : messagesSound c (m .tables) ≡ messagesSound c (m' .tables)
+    messages-alike : messagesSound c (tablesIn c m) ≡ messagesSound c (tablesIn c m')
     unfolding messagesSound soundIn Displays
     messages-alike =
-        sound-same c (shapeOf c) (ledgerIn m) (m .tables) (m .slots) (m .timers) (m' .tables) (m' .slots) (m' .timers) (displays-ledger m full keeps) ledger-alike
+        sound-same c (shapeOf c) (ledgerIn m) (tablesIn c m) (slotsIn c m) (timersIn c m) (tablesIn c m') (slotsIn c m') (timersIn c m') (displays-ledger m full kept) ledger-alike
 
   -- both are lent well, or neither is
   well-alike : lentWell m ≡ lentWell m'
   unfolding lentWell lentWellFor fullSize
   well-alike =
-      go (fullSize m) refl (rule controller c) refl
-      ∙ ap₂ (λ (b : Bool) (k : Config). b && rule controller k && messagesSound k (m' .tables)) (a .sizes) (a .configs)
+      go (fullSize m) refl (isMarked (sizesOf controller) m) keeps refl
+      ∙ (λ i. a .sizes i && a .marks i && frameRule controller (a .frames i) && messagesSound (configs i) (tablesIn (configs i) m'))
     where
-      go : (x : Bool) → fullSize m ≡ x → (y : Bool) → rule controller c ≡ y → (x && y && messagesSound c (m .tables)) ≡ (x && y && messagesSound c (m' .tables))
-      go false e y k = refl
-      go true e false k = refl
-      go true e true k = messages-alike e k
+      go : (x : Bool) → fullSize m ≡ x → (k : Bool) (y : Bool) → keeps ≡ y → (x && k && y && messagesSound c (tablesIn c m)) ≡ (x && k && y && messagesSound c (tablesIn c m'))
+      go false e k y q = refl
+      go true e false y q = refl
+      go true e true false q = refl
+      go true e true true q = messages-alike e q
 
   pub frames-alike : {f : List ℕ} {m₁ m₂ : Memory} {r₁ r₂ : ℕ} → Frames f m m₁ r₁ → Frames f m' m₂ r₂ → (r₁ ≡ r₂) × Alike m₁ m₂
   frames-alike {f} {m₁} {m₂} {r₁} {r₂} s₁ s₂ = go (lentWell m) refl
@@ -109,40 +118,41 @@ module _ {m m' : Memory} (a : Alike m m') where
           (x .0 ∙ sym (y .0), subst (λ (n : Memory). Alike m₁ n) (sym (y .1)) (subst (λ (n : Memory). Alike n m') (sym (x .1)) a))
       go true w =
           let l = ledgerIn m in
-          let h : Displays c l m' = ledger-alike (well-full m w) (well-rule m w) in
+          let w' : lentWell m' ≡ true = sym well-alike ∙ w in
+          let h : Displays c l m' = ledger-alike (well-full m w) (well-frame m w) in
           let g₁ = s₁ .good w l (displays-some m w) in
-          let g₂ : (r₂ ≡ refusal c l f) × Displays c (step c f l .ledger) m₂ × (m₂ .answer ≡ written (step c f l .answered) (m' .answer)) =
-          subst (λ (k : Config). Displays k l m' → (r₂ ≡ refusal k l f) × Displays k (step k f l .ledger) m₂ × (m₂ .answer ≡ written (step k f l .answered) (m' .answer))) (sym (a .configs)) (s₂ .good (sym well-alike ∙ w) l) h in
-          let e₁ : configured (m₁ .config) ≡ c = ap configured (s₁ .config) in
-          let e₂ : configured (m₂ .config) ≡ c = ap configured (s₂ .config) ∙ sym (a .configs) in (
-            g₁ .0 ∙ sym (g₂ .0),
+          let g₂ : Goes c l f m' m₂ r₂ = subst (λ (k : Config). Displays k l m' → Goes k l f m' m₂ r₂) (sym configs) (s₂ .good w' l) h in
+          let e₁ : configOf m₁ ≡ c = config-stays s₁ in
+          let e₂ : configOf m₂ ≡ c = config-stays s₂ ∙ sym configs in (
+            g₁ .number ∙ sym (g₂ .number),
             record {
               sizes = full-kept (s₁ .sizes) ∙ a .sizes ∙ sym (full-kept (s₂ .sizes));
-              configs = e₁ ∙ sym e₂;
-              answers = g₁ .2 ∙ ap (written (step c f l .answered)) (a .answers) ∙ sym (g₂ .2);
-              items = shown-both c (step c f l .ledger) m₁ m₂ e₁ e₂ (g₁ .1) (g₂ .1);
+              marks = marks-stay m m₁ (well-full m w) (well-frame m w) (s₁ .config) (s₁ .outside w) ∙ a .marks ∙ sym (marks-stay m' m₂ (well-full m' w') (well-frame m' w') (s₂ .config) (s₂ .outside w'));
+              frames = ap keptFrame (s₁ .config) ∙ a .frames ∙ sym (ap keptFrame (s₂ .config));
+              answers = g₁ .answered ∙ ap (written (step c f l .answered)) (a .answers) ∙ sym (g₂ .answered);
+              items = shown-both c (step c f l .ledger) m₁ m₂ e₁ e₂ (g₁ .shown) (g₂ .shown);
             },
           )
 
 -- ---- one call
 
--- the number, the configuration, the answer and every item
+-- the number, the configuration's frame, the answer and every item
 pub record Agree (m₁ m₂ : Memory) (r₁ r₂ : ℕ) : Type 0 where
   pub numbers : r₁ ≡ r₂
-  pub configs : configured (m₁ .config) ≡ configured (m₂ .config)
+  pub frames : keptFrame (m₁ .config) ≡ keptFrame (m₂ .config)
   pub answers : m₁ .answer ≡ m₂ .answer
   pub items : itemsOf m₁ ≡ itemsOf m₂
 
 same-memory : (m m₁ m₂ : Memory) (r r₁ r₂ : ℕ) → (r₁ ≡ r) × (m₁ ≡ m) → (r₂ ≡ r) × (m₂ ≡ m) → Agree m₁ m₂ r₁ r₂
 same-memory m m₁ m₂ r r₁ r₂ a b =
     let e : m₁ ≡ m₂ = a .1 ∙ sym (b .1) in
-    record { numbers = a .0 ∙ sym (b .0); configs = ap (λ (x : Memory). configured (x .config)) e; answers = ap (λ (x : Memory). x .answer) e; items = ap itemsOf e }
+    record { numbers = a .0 ∙ sym (b .0); frames = ap (λ (x : Memory). keptFrame (x .config)) e; answers = ap (λ (x : Memory). x .answer) e; items = ap itemsOf e }
 
 -- for every frame and every memory, well lent or not
 pub frames-agree : {f : List ℕ} {m m₁ m₂ : Memory} {r₁ r₂ : ℕ} → Frames f m m₁ r₁ → Frames f m m₂ r₂ → Agree m₁ m₂ r₁ r₂
 frames-agree {m = m} s₁ s₂ =
     let a = frames-alike (alike-self m) s₁ s₂ in
-    record { numbers = a .0; configs = a .1 .configs; answers = a .1 .answers; items = a .1 .items }
+    record { numbers = a .0; frames = a .1 .frames; answers = a .1 .answers; items = a .1 .items }
 
 -- for every configuration, accepted or not, and every memory
 pub configurations-agree : {g : List ℕ} {m m₁ m₂ : Memory} {r₁ r₂ : ℕ} → Configures g m m₁ r₁ → Configures g m m₂ r₂ → Agree m₁ m₂ r₁ r₂
@@ -154,10 +164,10 @@ configurations-agree {g} {m} {m₁} {m₂} {r₁} {r₂} s₁ s₂ = go (fullSiz
         let a₁ = s₁ .accepted f h in
         let a₂ = s₂ .accepted f h in
         record {
-          numbers = a₁ .0 ∙ sym (a₂ .0);
-          configs = a₁ .1 ∙ sym (a₂ .1);
-          answers = a₁ .4 ∙ sym (a₂ .4);
-          items = shown-both c (fresh c) m₁ m₂ (a₁ .1) (a₂ .1) (a₁ .3) (a₂ .3);
+          numbers = a₁ .number ∙ sym (a₂ .number);
+          frames = a₁ .frame ∙ sym (a₂ .frame);
+          answers = a₁ .answered ∙ sym (a₂ .answered);
+          items = shown-both c (fresh c) m₁ m₂ (begins-config a₁) (begins-config a₂) (a₁ .shown) (a₂ .shown);
         }
 
     go : (b : Bool) → fullSize m ≡ b → Agree m₁ m₂ r₁ r₂

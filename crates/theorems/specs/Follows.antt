@@ -8,39 +8,40 @@ use Rattle.ledger.specs.Config.{Config, controller}
 use Rattle.ledger.specs.Ledger.{Ledger}
 use Rattle.ledger.specs.Session.{step, runFrom}
 use Rattle.ledger.specs.Theorems.Once.{Once, once-step}
-use Rattle.configuration.specs.Block.{configured, rule}
-use Rattle.mcx11.specs.Contract.{Memory, lentWell, Displays}
+use Rattle.mcx11.specs.Contract.{Memory, configOf, lentWell, Displays, OutsideStays}
 use Rattle.theorems.specs.Calls.{FrameCalls, none, call}
 use Rattle.mcx11.specs.Answer.{answer-is}
 use Rattle.theorems.specs.Numbers.{numbersFrom}
-use Rattle.mcx11.specs.Sizes.{full-kept, well-full, well-rule}
-use Rattle.mcx11.specs.Displayed.{displays-well}
+use Rattle.mcx11.specs.Kept.{config-stays, well-again}
 
-pub record Follows (c : Config) (l : Ledger) (fs answered : List (List ℕ)) (returned : List ℕ) (m' : Memory) : Type 0 where
-  pub config : configured (m' .config) ≡ c
+pub record Follows (c : Config) (l : Ledger) (m : Memory) (fs answered : List (List ℕ)) (returned : List ℕ) (m' : Memory) : Type 0 where
+  pub config : m' .config ≡ m .config
   pub answers : answered ≡ runFrom c l fs .1
   pub numbers : returned ≡ numbersFrom c l fs
   pub shown : Displays c (runFrom c l fs .0) m'
   pub well : lentWell m' ≡ true
+  pub outside : OutsideStays c m m'
 
 pub follows : {m m' : Memory} {fs answered : List (List ℕ)} {returned : List ℕ} (l : Ledger)
-    → lentWell m ≡ true → Displays (configured (m .config)) l m → Once (configured (m .config)) (l .mailboxes) → FrameCalls m fs answered returned m' → Follows (configured (m .config)) l fs answered returned m'
+    → lentWell m ≡ true → Displays (configOf m) l m → Once (configOf m) (l .mailboxes) → FrameCalls m fs answered returned m' → Follows (configOf m) l m fs answered returned m'
 unfolding runFrom numbersFrom
-follows l w h o none = record { config = refl; answers = refl; numbers = refl; shown = h; well = w }
+follows l w h o none = record { config = refl; answers = refl; numbers = refl; shown = h; well = w; outside = record { tables = λ i k. refl; slots = λ i k. refl; timers = λ i k. refl } }
 follows l w h o (call {f} {m} {m₁} {m'} {r} {fs} {answers} {numbers} s more) =
-    let c = configured (m .config) in
+    let c = configOf m in
     let next = step c f l in
     let g = s .good w l h in
-    let e : configured (m₁ .config) ≡ c = ap configured (s .config) in
-    let h₁ : Displays (configured (m₁ .config)) (next .ledger) m₁ = subst (λ (k : Config). Displays k (next .ledger) m₁) (sym e) (g .1) in
-    let o₁ : Once (configured (m₁ .config)) (next .ledger .mailboxes) = subst (λ (k : Config). Once k (next .ledger .mailboxes)) (sym e) (once-step c f l o) in
-    let w₁ : lentWell m₁ ≡ true = displays-well m₁ (next .ledger) (full-kept (s .sizes) ∙ well-full m w) (ap (rule controller) e ∙ well-rule m w) h₁ o₁ in
-    let rest : Follows c (next .ledger) fs answers numbers m' =
-    subst (λ (k : Config). Follows k (next .ledger) fs answers numbers m') e (follows (next .ledger) w₁ h₁ o₁ more) in
+    let e : configOf m₁ ≡ c = config-stays s in
+    let h₁ : Displays (configOf m₁) (next .ledger) m₁ = subst (λ (k : Config). Displays k (next .ledger) m₁) (sym e) (g .shown) in
+    let o₁ : Once (configOf m₁) (next .ledger .mailboxes) = subst (λ (k : Config). Once k (next .ledger .mailboxes)) (sym e) (once-step c f l o) in
+    let rest : Follows c (next .ledger) m₁ fs answers numbers m' =
+    subst (λ (k : Config). Follows k (next .ledger) m₁ fs answers numbers m') e (follows (next .ledger) (well-again s l w h o) h₁ o₁ more) in
+    let now = s .outside w in
+    let later = rest .outside in
     record {
-      config = rest .config;
-      answers = ap₂ _∷_ (answer-is m₁ (next .answered) (m .answer) (g .2)) (rest .answers);
-      numbers = ap₂ _∷_ (g .0) (rest .numbers);
+      config = rest .config ∙ s .config;
+      answers = ap₂ _∷_ (answer-is m₁ (next .answered) (m .answer) (g .answered)) (rest .answers);
+      numbers = ap₂ _∷_ (g .number) (rest .numbers);
       shown = rest .shown;
       well = rest .well;
+      outside = record { tables = λ i k. later .tables i k ∙ now .tables i k; slots = λ i k. later .slots i k ∙ now .slots i k; timers = λ i k. later .timers i k ∙ now .timers i k };
     }

@@ -4,3 +4,4 @@ pub mod Follows
 pub mod Same
 pub mod SomeLedger
 pub mod Agree
+pub mod Shams

@@ -2,7 +2,7 @@
 -- proved of the ledger holds of them.
 use Prim.Native.Nat.{ℕ, _*_, _≤_}
 use mathlib.Core.Path.{_≡_, ap, ap₂, sym, _∙_, subst}
-use mathlib.Core.Logic.{_⊎_}
+use mathlib.Core.Logic.{_⊎_, inr}
 use mathlib.Core.Bool.{true}
 use mathlib.Core.List.{List, [], _∷_, _++_}
 use borrow.Author.Tests.{ne-eqb}
@@ -16,17 +16,18 @@ use Rattle.ledger.specs.Theorems.Lowest.{TaskRuns, NullRuns}
 use Rattle.ledger.specs.Theorems.Shown.{lowest-shown, reissues-shown}
 use Rattle.ledger.specs.Theorems.HandedOut.{handed-out}
 use Rattle.ledger.specs.Theorems.Once.{Once, once-fresh}
-use Rattle.configuration.specs.Block.{configured}
-use Rattle.mcx11.specs.Contract.{Memory, fullSize, lentWell, Displays, answering, Configures}
+use Rattle.parts.specs.Parts.{keptFrame}
+use Rattle.mcx11.specs.Contract.{Memory, fullSize, configOf, lentWell, Displays, OutsideStays, OutsideSpared, answering, Configures}
+use Rattle.mcx11.specs.Kept.{begins-config}
 use Rattle.theorems.specs.Calls.{FrameCalls}
 use Rattle.mcx11.specs.Answer.{answerOf, answer-is}
 use Rattle.theorems.specs.Numbers.{numbers, Not11, none-11, configuration-never-11}
 use Rattle.mcx11.specs.Displayed.{itemsIn, items-shown}
 use Rattle.theorems.specs.Follows.{Follows, follows}
 
--- the calls for the configuration g and the frames fs, with these answers and numbers, those of the configuration first, left the
--- memory m
-pub record Same (g : List ℕ) (fs answered : List (List ℕ)) (returned : List ℕ) (m : Memory) : Type 0 where
+-- the calls for the configuration g, lent the memory m₀, and for the frames fs, with these answers and numbers, those of the configuration
+-- first, left the memory m
+pub record Same (g : List ℕ) (m₀ : Memory) (fs answered : List (List ℕ)) (returned : List ℕ) (m : Memory) : Type 0 where
   -- byte by byte, the answers are the ledger's
   pub answers : answered ≡ session g fs
   -- each number is the ledger's, and none is 11
@@ -37,6 +38,10 @@ pub record Same (g : List ℕ) (fs answered : List (List ℕ)) (returned : List 
   pub items : items (run (configIn g) fs .0) ≡ itemsIn (configIn g) m
   -- it is lent well, so that the next frame doesn't meet 11 either
   pub well : lentWell m ≡ true
+  -- it still holds the accepted frame
+  pub frame : keptFrame (m .config) ≡ g
+  -- every byte outside that frame, the marks and the parts that the configuration needs is as it was before the configuration
+  pub outside : OutsideSpared g m₀ m
   -- the second byte of answer i, that after i frames, is the runnable task with the lowest number, or 0 if none is runnable
   pub lowest : (i : ℕ) → i ≤ length fs
       → let T = configIn g .T in let l = run (configIn g) (take i fs) .0 in let n = byte 1 (getD answered i []) in TaskRuns T l n ⊎ NullRuns T l n
@@ -49,10 +54,10 @@ session-is : (g : List ℕ) (fs : List (List ℕ)) → configRefusal g ≡ 0 →
 unfolding session
 session-is g fs h = rw h
 
-whole : (g : List ℕ) (fs answered : List (List ℕ)) (returned : List ℕ) (m : Memory) → configRefusal g ≡ 0
+whole : (g : List ℕ) (m₀ : Memory) (fs answered : List (List ℕ)) (returned : List ℕ) (m : Memory) → configRefusal g ≡ 0
     → answered ≡ run (configIn g) fs .1 → returned ≡ numbers (configIn g) fs → Displays (configIn g) (run (configIn g) fs .0) m → lentWell m ≡ true
-    → Same g fs answered returned m
-whole g fs answered returned m h a n d w =
+    → keptFrame (m .config) ≡ g → OutsideSpared g m₀ m → Same g m₀ fs answered returned m
+whole g m₀ fs answered returned m h a n d w k o =
     record {
       answers = a ∙ session-is g fs h;
       numbers = n;
@@ -60,28 +65,42 @@ whole g fs answered returned m h a n d w =
       shown = d;
       items = items-shown (configIn g) (run (configIn g) fs .0) m d;
       well = w;
+      frame = k;
+      outside = o;
       lowest = rw a (lowest-shown g h fs);
       bound = rw a (reissues-shown (configIn g) fs);
       fifo = handed-out g h fs;
     }
 
+-- what a configuration spares, and then every frame
+spares : {g : List ℕ} {m₀ m₁ m : Memory} → OutsideSpared g m₀ m₁ → m .config ≡ m₁ .config → OutsideStays (configIn g) m₁ m → OutsideSpared g m₀ m
+spares a e o =
+    record {
+      config = λ i h l. ap (λ (x : List ℕ). getD x i 0) e ∙ a .config i h l;
+      tables = λ i h l. o .tables i (inr h) ∙ a .tables i h l;
+      slots = λ i h l. o .slots i (inr h) ∙ a .slots i h l;
+      timers = λ i h l. o .timers i (inr h) ∙ a .timers i h l;
+    }
+
 -- for every accepted configuration, every memory of full size, whatever it held, and every list of frames, refused ones among them
 pub every-list : {g : List ℕ} {m₀ m₁ m : Memory} {r₀ : ℕ} {fs answered : List (List ℕ)} {returned : List ℕ}
     → configRefusal g ≡ 0 → fullSize m₀ ≡ true → Configures g m₀ m₁ r₀ → FrameCalls m₁ fs answered returned m
-    → Same g fs (answerOf m₁ ∷ answered) (r₀ ∷ returned) m
+    → Same g m₀ fs (answerOf m₁ ∷ answered) (r₀ ∷ returned) m
 unfolding run numbers
 every-list {g} {m₀} {m₁} {m} {r₀} {fs} {answered} {returned} h full s more =
     let c = configIn g in
     let a = s .accepted full h in
-    let e : configured (m₁ .config) ≡ c = a .1 in
-    let d : Displays (configured (m₁ .config)) (fresh c) m₁ = subst (λ (k : Config). Displays k (fresh c) m₁) (sym e) (a .3) in
-    let o : Once (configured (m₁ .config)) (fresh c .mailboxes) = subst (λ (k : Config). Once k (fresh c .mailboxes)) (sym e) (once-fresh c) in
-    let rest : Follows c (fresh c) fs answered returned m = subst (λ (k : Config). Follows k (fresh c) fs answered returned m) e (follows (fresh c) (a .2) d o more) in
-    whole g fs (answerOf m₁ ∷ answered) (r₀ ∷ returned) m h
-    (ap₂ _∷_ (answer-is m₁ (answer 0 0 (fresh c)) (m₀ .answer) (a .4)) (rest .answers))
-    (ap₂ _∷_ (a .0) (rest .numbers))
+    let e : configOf m₁ ≡ c = begins-config a in
+    let d : Displays (configOf m₁) (fresh c) m₁ = subst (λ (k : Config). Displays k (fresh c) m₁) (sym e) (a .shown) in
+    let o : Once (configOf m₁) (fresh c .mailboxes) = subst (λ (k : Config). Once k (fresh c .mailboxes)) (sym e) (once-fresh c) in
+    let rest : Follows c (fresh c) m₁ fs answered returned m = subst (λ (k : Config). Follows k (fresh c) m₁ fs answered returned m) e (follows (fresh c) (a .well) d o more) in
+    whole g m₀ fs (answerOf m₁ ∷ answered) (r₀ ∷ returned) m h
+    (ap₂ _∷_ (answer-is m₁ (answer 0 0 (fresh c)) (m₀ .answer) (a .answered)) (rest .answers))
+    (ap₂ _∷_ (a .number) (rest .numbers))
     (rest .shown)
     (rest .well)
+    (ap keptFrame (rest .config) ∙ a .frame)
+    (spares (a .outside) (rest .config) (rest .outside))
 
 -- a configuration that is refused gives its number, which isn't 11, and the one answer of the session
 pub record Refused (g answered : List ℕ) (r : ℕ) : Type 0 where

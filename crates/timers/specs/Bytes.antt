@@ -8,21 +8,8 @@ use lib.Seq.{sets-eq, getD-take}
 use Rattle.ledger.specs.Ledger.{Timer}
 use Rattle.rows.specs.Splice.{splice}
 use Rattle.rows.specs.Rows.{rowAt, getD-row, drop-elems, elems}
-use Rattle.timers.specs.Timers.{le4, bytes4, rowOf, entry, entryOf, recordAt, dueAt}
-
--- ---- four bytes
-
--- what the four stores of `put4` leave
-pub stored4 : (d : List ℕ) (i x : ℕ) → i + 4 ≤ length d
-    → set (set (set (set d i (x % 256)) (i + 1) (x / 256 % 256)) (i + 2) (x / 65536 % 256)) (i + 3) (x / 16777216) ≡ splice d i (bytes4 x)
-stored4 d i x h =
-    let a : i + 1 ≡ suc i = omega arith in
-    let b : i + 2 ≡ suc (suc i) = omega arith in
-    let c : i + 3 ≡ suc (suc (suc i)) = omega arith in
-    rw (a, b, c) (sets-eq (bytes4 x) d i h)
-
-pub four-back : (x : ℕ) → x < 2 ^ 32 → le4 (bytes4 x) 0 ≡ x
-four-back x h = omega arith
+use Rattle.rows.specs.Four.{le4, bytes4, four-back}
+use Rattle.timers.specs.Timers.{rowOf, entry, entryOf, recordAt, dueAt}
 
 -- ---- one row
 

@@ -9,7 +9,8 @@ use Rattle.ledger.specs.Lists.{insertBy}
 use Rattle.ledger.specs.Ledger.{Timer}
 use Rattle.rows.specs.Splice.{splice}
 use Rattle.rows.specs.Rows.{rowsOf, insertAt, removeAt}
-use Rattle.timers.specs.Timers.{le4, bytes4, timer, entry, untilDue, shownBy, recordsIn, recordAt, timersIn, tocksLeft, noEntry, dueAt, settledBy, handedOn, Keeps, allFrom, reached, Leaves, Lowered}
+use Rattle.rows.specs.Four.{le4, bytes4}
+use Rattle.timers.specs.Timers.{timer, entry, untilDue, shownBy, recordsIn, recordAt, timersIn, tocksLeft, noEntry, dueAt, settledBy, handedOn, Keeps, allFrom, reached, Leaves, Lowered}
 use Rattle.timers.specs.Order.{from-fewer, from-settled}
 use Rattle.timers.specs.Reading.{shown-settled, shown-insert, shown-remove}
 use Rattle.timers.specs.Records.{length-records, record-at, time-set, floor-set, record-removed}

@@ -13,7 +13,8 @@ use Rattle.ledger.specs.Ledger.{Timer}
 use Rattle.ledger.specs.Session.{TimerLeft}
 use Rattle.rows.specs.Rows.{mapUpto, mapUpto-at, mapUpto-suc, mapUpto-all, removeAt}
 use Rattle.rows.specs.First.{firstOf, first-here, first-on, first-end, keepFrom, keep-on, keep-out, keep-end, any-is}
-use Rattle.timers.specs.Timers.{le4, leftAt, untilDue, recordsIn, recordAt, timersIn, noTimer, noEntry, dueAt, settledBy, allFrom, reached, Leaves}
+use Rattle.rows.specs.Four.{le4}
+use Rattle.timers.specs.Timers.{leftAt, untilDue, recordsIn, recordAt, timersIn, noTimer, noEntry, dueAt, settledBy, allFrom, reached, Leaves}
 use Rattle.timers.specs.Order.{from-none, from-fewer, from-cons}
 use Rattle.timers.specs.Reading.{shown-length, shown-blind}
 use Rattle.timers.specs.Records.{length-records, record-at}

@@ -10,7 +10,8 @@ use Rattle.rows.specs.Splice.{splice}
 use Rattle.rows.specs.Laws.{length-splice}
 use Rattle.rows.specs.Rows.{rowsOf, rowAt, rows-set, insertAt, removeAt, getD-rows, length-rows, map-set, map-insertAt, splice-row, length-row}
 use Rattle.rows.specs.First.{map-removeAt}
-use Rattle.timers.specs.Timers.{le4, bytes4, rowOf, entry, entryOf, recordsIn, recordAt, timersIn, shownBy, noEntry, dueAt, Keeps, Leaves}
+use Rattle.rows.specs.Four.{le4, bytes4}
+use Rattle.timers.specs.Timers.{rowOf, entry, entryOf, recordsIn, recordAt, timersIn, shownBy, noEntry, dueAt, Keeps, Leaves}
 use Rattle.timers.specs.Bytes.{clockAt, clock-at, row-at, row-due, row-period, row-entry}
 
 pub length-records : (n : ℕ) (d : List ℕ) → length (recordsIn n d) ≡ n

@@ -8,17 +8,11 @@ use lib.Dec.{ltb, eqb}
 use Rattle.ledger.specs.Lists.{keep, without, insertBy}
 use Rattle.ledger.specs.Ledger.{Timer}
 use Rattle.ledger.specs.Session.{TimerLeft}
+use Rattle.rows.specs.Four.{le4, bytes4}
 use Rattle.rows.specs.Rows.{rowsOf}
 use Rattle.rows.specs.First.{firstOf, keepFrom}
 
 -- ---- bytes
-
--- the number of four bytes from index i on, low first, and the bytes of a number
-abbrev pub le4 : List ℕ → ℕ → ℕ
-le4 d i = getD d i 0 + getD d (i + 1) 0 * 256 + getD d (i + 2) 0 * 65536 + getD d (i + 3) 0 * 16777216
-
-abbrev pub bytes4 : ℕ → List ℕ
-bytes4 x = x % 256 ∷ x / 256 % 256 ∷ x / 65536 % 256 ∷ x / 16777216 ∷ []
 
 -- the row that is made of a record, byte by byte
 abbrev pub rowOf : (task semaphore due period : ℕ) → List ℕ

@@ -12,7 +12,8 @@ use Rattle.ledger.specs.Ledger.{Timer}
 use Rattle.ledger.specs.Session.{TimerLeft}
 use Rattle.rows.specs.Splice.{splice}
 use Rattle.rows.specs.Rows.{removeAt, rowsOf, insertAt}
-use Rattle.timers.specs.Timers.{le4, bytes4, timer, leftAt, shownBy, recordsIn, recordAt, timersIn, tocksLeft, tocked, isDue, dueIn, firstDue, putAgain, takenDue, Keeps, allFrom, reached, rowOf, entry, handedOn, Placed}
+use Rattle.rows.specs.Four.{le4, bytes4}
+use Rattle.timers.specs.Timers.{timer, leftAt, shownBy, recordsIn, recordAt, timersIn, tocksLeft, tocked, isDue, dueIn, firstDue, putAgain, takenDue, Keeps, allFrom, reached, rowOf, entry, handedOn, Placed}
 use Rattle.timers.specs.Reading.{shown-tock, shown-floor, shown-first, shown-insert, shown-remove}
 use Rattle.timers.specs.Due.{floor-none, due-count, due-some, due-first, due-rest, due-before}
 use Rattle.timers.specs.Records.{length-records, record-at, time-set, floor-set, record-replaced}

@@ -1,42 +1,19 @@
 // Timers: rows of ten bytes in a lent slice. Row 0 is their clock (time, floor), rows 1 to n are task, semaphore, the time when due and the period.
 // Promises that each function changes the timers that the bytes mean, whatever they are, as the ledger changes its own (specs/Timers, specs/Shown).
 // Rests on the crates rows (rows moved in a slice) and ledger (the definitions).
+use rows::get4;
+use rows::put4;
 ghost use mathlib.Core.Path.{_≡_};
 ghost use mathlib.Core.List.{map};
 ghost use Prim.Native.Nat.{_+_, _-_, _*_, _^_, _<_, _≤_, min};
 ghost use lib.ListN.{length};
 ghost use Rattle.ledger.specs.Lists.{any, keep, insertBy};
 ghost use Rattle.rows.specs.Splice.{splice};
+ghost use Rattle.rows.specs.Four.{le4};
 ghost use Rattle.rows.specs.Rows.{insertAt, removeAt};
-ghost use Rattle.timers.specs.Timers.{le4, bytes4, rowOf, timer, entry, leftAt, recordAt, recordsIn, timersIn, untilDue};
+ghost use Rattle.timers.specs.Timers.{rowOf, timer, entry, leftAt, recordAt, recordsIn, timersIn, untilDue};
 ghost use Rattle.timers.specs.Timers.{tocksLeft, startedFor, stays, tocked, dueIn, firstDue, takenDue};
 ghost use Rattle.timers.specs.Timers.{Leaves, SetDue, settledBy, handedOn, Placed, Lowered, NextOut};
-
-// The number of four bytes, low first.
-fn four(a: u8, b: u8, c: u8, d: u8) -> u32
-    ensures { λ r. ⌜ r ≡ a + b * 256 + c * 65536 + d * 16777216 ⌝ }
-{
-    (a as u32) + (b as u32) * 256 + (c as u32) * 65536 + (d as u32) * 16777216
-}
-
-// Four bytes from index i on, low first.
-pub fn get4(b: &[u8], i: usize) -> u32
-    requires { ⌜ i + 4 ≤ length (now b) ⌝ }
-    ensures { λ r. ⌜ r ≡ le4 (now (b .entry)) i ⌝ }
-{
-    four(b[i], b[i + 1], b[i + 2], b[i + 3])
-}
-
-// Stores a number as four bytes from index i on.
-pub fn put4(b: &mut [u8], i: usize, x: u32)
-    requires { ⌜ i + 4 ≤ length (now b) ⌝ }
-    ensures { λ _. ⌜ now (b .exit) ≡ splice (now (b .entry)) i (bytes4 x) ⌝ }
-{
-    b[i] = (x % 256) as u8;
-    b[i + 1] = (x / 256 % 256) as u8;
-    b[i + 2] = (x / 65536 % 256) as u8;
-    b[i + 3] = (x / 16777216) as u8;
-}
 
 // The time at which record k is due.
 fn due_at(b: &[u8], k: usize) -> u32

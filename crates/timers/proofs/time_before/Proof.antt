@@ -4,7 +4,8 @@ use Prim.Native.Nat.{ℕ}
 use native.Mathlib.Omega.{arith}
 use denote.Ref.{now}
 use Rattle.rows.specs.Splice.{splice}
-use Rattle.timers.specs.Timers.{bytes4}
+
+use Rattle.rows.specs.Four.{bytes4}
 use Rattle.timers.specs.Ends.{back-time, back-same}
 use borrow.Author.Needs.{needs}
 use Rattle.timers.proofs.time_before.Statement.{statement}

@@ -1,0 +1,42 @@
+-- Sessions in which each sham that document 01 names would answer otherwise, with the ledger's answers computed.
+use Prim.Native.Nat.{ℕ}
+use mathlib.Core.Path.{_≡_, refl}
+use mathlib.Core.List.{List, [], _∷_}
+use Rattle.ledger.specs.Config.{configRefusal}
+use Rattle.ledger.specs.Session.{session}
+use Rattle.ledger.specs.Computing.Quick.{everything}
+
+-- two tasks, one queue of width and depth 1, one timer, one tick a tock
+abbrev pub twoTasks : List ℕ
+twoTasks = 2 ∷ 1 ∷ 1 ∷ 1 ∷ 1 ∷ 1 ∷ 0 ∷ 125 ∷ 0 ∷ 0 ∷ 1 ∷ 1 ∷ []
+
+-- takes from queue 1, puts $41 there; delays itself by two tocks; starts a timer on semaphore 1; the tick
+abbrev pub takes : List ℕ
+takes = 7 ∷ 1 ∷ 0 ∷ 0 ∷ 0 ∷ []
+
+abbrev pub puts : List ℕ
+puts = 8 ∷ 1 ∷ 0 ∷ 0 ∷ 0 ∷ 65 ∷ []
+
+abbrev pub delays : List ℕ
+delays = 13 ∷ 0 ∷ 0 ∷ 0 ∷ 2 ∷ []
+
+abbrev pub starts : List ℕ
+starts = 14 ∷ 0 ∷ 1 ∷ 0 ∷ 5 ∷ []
+
+abbrev pub ticks : List ℕ
+ticks = 16 ∷ 0 ∷ 0 ∷ 0 ∷ 0 ∷ []
+
+pub record Answers : Type 0 where
+  pub accepted : configRefusal twoTasks ≡ 0
+  -- task 1 waits at the empty queue; task 2 puts, and task 1, which runs again, has the entry after one reissue
+  pub settled : session twoTasks (takes ∷ puts ∷ []) ≡ (0 ∷ 1 ∷ 0 ∷ 1 ∷ []) ∷ (0 ∷ 2 ∷ 0 ∷ 1 ∷ []) ∷ (0 ∷ 1 ∷ 1 ∷ 3 ∷ 65 ∷ []) ∷ []
+  -- task 1 takes what it put, and runs on
+  pub filled : session twoTasks (puts ∷ takes ∷ []) ≡ (0 ∷ 1 ∷ 0 ∷ 1 ∷ []) ∷ (0 ∷ 1 ∷ 0 ∷ 0 ∷ []) ∷ (0 ∷ 1 ∷ 0 ∷ 3 ∷ 65 ∷ []) ∷ []
+  -- the one timer is free
+  pub started : session twoTasks (starts ∷ []) ≡ (0 ∷ 1 ∷ 0 ∷ 1 ∷ []) ∷ (0 ∷ 1 ∷ 0 ∷ 0 ∷ []) ∷ []
+  -- task 1 runs again with the second tick
+  pub ticked : session twoTasks (delays ∷ ticks ∷ ticks ∷ []) ≡ (0 ∷ 1 ∷ 0 ∷ 1 ∷ []) ∷ (0 ∷ 2 ∷ 0 ∷ 1 ∷ []) ∷ (0 ∷ 2 ∷ 0 ∷ 1 ∷ []) ∷ (0 ∷ 1 ∷ 0 ∷ 0 ∷ []) ∷ []
+
+pub the-answers : Answers
+unfolding everything
+the-answers = record { accepted = refl; settled = refl; filled = refl; started = refl; ticked = refl }

@@ -1,0 +1,77 @@
+-- The shams that document 01 names, refuted: no executive that meets the contracts behaves so, whatever memory it is lent.
+use Prim.Native.Nat.{ℕ}
+use mathlib.Core.Path.{_≡_, ap, sym, _∙_}
+use mathlib.Core.Bool.{true}
+use mathlib.Core.List.{List, [], _∷_}
+use native.Mathlib.Omega.{arith}
+use lib.ListN.{getD}
+use Rattle.ledger.specs.Lists.{byte}
+use Rattle.ledger.specs.Config.{configRefusal}
+use Rattle.ledger.specs.Session.{session}
+use Rattle.ledger.specs.Shams.{twoTasks, takes, puts, delays, starts, ticks, the-answers}
+use Rattle.mcx11.specs.Contract.{Memory, fullSize, Configures}
+use Rattle.mcx11.specs.Answer.{answerOf}
+use Rattle.theorems.specs.Calls.{FrameCalls}
+use Rattle.theorems.specs.Same.{every-list}
+
+-- some executive's answers to a configuration and frames: a call for each that meets the contract, on memory of full size
+pub record Answered (g : List ℕ) (fs answers : List (List ℕ)) : Type 0 where
+  pub before : Memory
+  pub begun : Memory
+  pub after : Memory
+  pub number : ℕ
+  pub numbers : List ℕ
+  pub rest : List (List ℕ)
+  pub full : fullSize before ≡ true
+  pub configured : Configures g before begun number
+  pub fed : FrameCalls begun fs rest numbers after
+  pub are : answers ≡ answerOf begun ∷ rest
+
+ledgers : {g : List ℕ} {fs answers : List (List ℕ)} → configRefusal g ≡ 0 → Answered g fs answers → answers ≡ session g fs
+ledgers h x = x .are ∙ every-list h (x .full) (x .configured) (x .fed) .answers
+
+module _ {a : List (List ℕ)} where
+  -- byte i of answer k, that to the configuration being answer 0
+  abbrev shows : (k i : ℕ) → ℕ
+  shows k i = byte i (getD a k [])
+
+  of-session : {fs : List (List ℕ)} → Answered twoTasks fs a → {l : List (List ℕ)} → session twoTasks fs ≡ l → (k i : ℕ) → shows k i ≡ byte i (getD l k [])
+  of-session x e k i = ap (λ (l : List (List ℕ)). byte i (getD l k [])) (ledgers (the-answers .accepted) x ∙ e)
+
+  -- it settles after the first frame, and later reports the old task
+  pub no-old-task : Answered twoTasks (takes ∷ puts ∷ []) a → shows 2 1 ≡ shows 1 1 → ⊥
+  no-old-task x h =
+      let now : shows 2 1 ≡ 1 = of-session x (the-answers .settled) 2 1 in
+      let old : shows 1 1 ≡ 2 = of-session x (the-answers .settled) 1 1 in
+      omega (arith, h, now, old)
+
+  -- it prints another number of reissues
+  pub no-invented-reissues : Answered twoTasks (takes ∷ puts ∷ []) a → (shows 2 2 ≡ 1 → ⊥) → ⊥
+  no-invented-reissues x h = h (of-session x (the-answers .settled) 2 2)
+
+  -- it gives 23 with a timer free
+  pub no-23-with-a-timer-free : Answered twoTasks (starts ∷ []) a → shows 1 0 ≡ 23 → ⊥
+  no-23-with-a-timer-free x h =
+      let is : shows 1 0 ≡ 0 = of-session x (the-answers .started) 1 0 in
+      omega (arith, h, is)
+
+  -- it waits at a filled queue: the task that takes does not run on
+  pub no-wait-on-filled : Answered twoTasks (puts ∷ takes ∷ []) a → (shows 2 1 ≡ 1 → ⊥) → ⊥
+  no-wait-on-filled x h = h (of-session x (the-answers .filled) 2 1)
+
+  -- it refuses all
+  pub no-refusing-all : Answered twoTasks (puts ∷ takes ∷ []) a → (shows 1 0 ≡ 0 → ⊥) → ⊥
+  no-refusing-all x h = h (of-session x (the-answers .filled) 1 0)
+
+  -- it runs task 0 always
+  pub no-task-0-always : Answered twoTasks (puts ∷ takes ∷ []) a → shows 0 1 ≡ 0 → ⊥
+  no-task-0-always x h =
+      let is : shows 0 1 ≡ 1 = of-session x (the-answers .filled) 0 1 in
+      omega (arith, h, is)
+
+  -- it ignores ticks: the second changes nothing
+  pub no-ignoring-ticks : Answered twoTasks (delays ∷ ticks ∷ ticks ∷ []) a → getD a 3 [] ≡ getD a 2 [] → ⊥
+  no-ignoring-ticks x h =
+      let now : shows 3 1 ≡ 1 = of-session x (the-answers .ticked) 3 1 in
+      let old : shows 2 1 ≡ 2 = of-session x (the-answers .ticked) 2 1 in
+      omega (arith, ap (byte 1) h, now, old)
