@@ -50,7 +50,7 @@ impl<Call: FnMut(&mut Lent, &[u8]) -> Number> Watch<Call> {
                 return self.refused(rule, &mut memory, frame, &told);
             }
             let other = other.get_or_insert_with(|| {
-                let configuration = rules::configuration(&memory.config).expect("rule 1");
+                let configuration = rules::configuration(&memory.config).expect("a configuration");
                 let items = memory.items(&configuration);
                 Executive::restored(configuration, &items)
             });
