@@ -11,7 +11,7 @@ use Rattle.ledger.specs.Lines.{output}
 use Rattle.ledger.specs.Time.{are, refused, milliseconds}
 use Rattle.ledger.specs.Computing.Hex.{hex, text}
 use Rattle.ledger.specs.Computing.Quick.{everything}
-use Rattle.ledger.specs.Computing.Sessions.{after, two, period, number-of}
+use Rattle.ledger.specs.Computing.Sessions.{after, two, timing, number-of}
 
 -- lines of a session
 abbrev answers : String → List String → List (List ℕ)
@@ -36,9 +36,9 @@ pub record Table : Type 0 where
   signal-on-PENDING : semaphoreOf (after two ("0200010000" ∷ [])) 1 ≡ DONE
   signal-on-DONE : semaphoreOf (after two ("0200010000" ∷ "0200010000" ∷ [])) 1 ≡ DONE
   wait-on-DONE : semaphoreOf (after two ("0200010000" ∷ "0100010000" ∷ [])) 1 ≡ PENDING
-  X-7FFF : map period (after two ("0E00017FFF" ∷ []) .timers) ≡ (32767, 0) ∷ []
-  X-FFFF : map period (after two ("0E0001FFFF" ∷ []) .timers) ≡ (1, 1) ∷ []
-  X-8000 : map period (after two ("0E00018000" ∷ []) .timers) ≡ (32768, 32768) ∷ []
+  X-7FFF : map timing (after two ("0E00017FFF" ∷ []) .timers) ≡ (32767, 0) ∷ []
+  X-FFFF : map timing (after two ("0E0001FFFF" ∷ []) .timers) ≡ (1, 1) ∷ []
+  X-8000 : map timing (after two ("0E00018000" ∷ []) .timers) ≡ (32768, 32768) ∷ []
   X-0000 : answers two ("0E00010000" ∷ []) ≡ lines ("00010001" ∷ "09010001" ∷ [])
   -- tasks 1 and 2 wait on their own semaphores, task 3 sends 1 and wakes task 1, which sends 2 and waits; task 3 sends 3
   senders-3-1-3 : map number-of (mailbox (after three ("0100000000" ∷ "0100000000" ∷ "0402000001" ∷ "0200020000" ∷ "0402000002" ∷ "0100000000" ∷ "0402000003" ∷ [])) 2)

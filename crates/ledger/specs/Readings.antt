@@ -12,7 +12,7 @@ use Rattle.ledger.specs.Session.{runFrom}
 use Rattle.ledger.specs.Lines.{number, result, frameOf, lineOf, readLine, writeLine, output}
 use Rattle.ledger.specs.Computing.Hex.{hex, letters, text}
 use Rattle.ledger.specs.Computing.Quick.{everything}
-use Rattle.ledger.specs.Computing.Sessions.{after, two, period, number-of}
+use Rattle.ledger.specs.Computing.Sessions.{after, two, timing, number-of}
 
 -- a frame and its answer; a session of them behind a configuration
 infix 68 _▸_
@@ -57,6 +57,8 @@ pub record Table : Type 0 where
   a-task-may-name-itself : Talk room ("0401000001" ▸ "0001000503" ∷ "0601000000" ▸ "00010002010103" ∷ "0901000000" ▸ "00010000" ∷ [])
   but-not-execute-itself : Talk room ("0C01000000" ▸ "05010001" ∷ "0C00000000" ▸ "05010001" ∷ [])
   an-idle-task-may-be-suspended-terminated-and-timed : Talk room ("0B02000000" ▸ "00010000" ∷ "0A02000000" ▸ "00010000" ∷ "0B02000000" ▸ "00010000" ∷ "0E02000005" ▸ "00010000" ∷ [])
+  an-idle-task-may-be-sent-to : Talk room ("0B02000000" ▸ "00010000" ∷ "0402000001" ▸ "0001000503" ∷ [])
+  a-task-that-is-not-suspended-may-be-resumed : Talk room ("0902000000" ▸ "00010000" ∷ [])
   execute-restarts-a-waiting-task : Talk room ("0100010000" ▸ "00020001" ∷ "0C01000000" ▸ "00010001" ∷ [])
   and-its-semaphore-is-PENDING : semaphoreOf (after room ("0100010000" ∷ "0C01000000" ∷ [])) 1 ≡ PENDING
   -- task 1 starts a timer of task 3 on task 2's semaphore and one of task 2; then it terminates task 2
@@ -99,6 +101,8 @@ pub record Table : Type 0 where
   and-its-request-stays-open : task (after room ("0100010000" ∷ "0701000000" ∷ "1100010000" ∷ "080100000041" ∷ [])) 2 .request ≡ dequeue 1
   a-first-issue-that-meets-21-is-a-refused-frame : Talk room ("0701000000" ▸ "00020001" ∷ "0701000000" ▸ "15020001" ∷ [])
   and-so-is-an-enqueue : Talk room ("080100000041" ▸ "00010000" ∷ "080100000042" ▸ "00020001" ∷ "080100000043" ▸ "15020001" ∷ [])
+  -- the queue is full, and task 1 waits; task 2 takes, and task 1's put is issued again
+  an-enqueue-that-completes-in-settling-leaves-the-outcome : Talk room ("080100000041" ▸ "00010000" ∷ "080100000042" ▸ "00020001" ∷ "0701000000" ▸ "00010100" ∷ [])
   -- task 1 wakes tasks 2 and 3, takes the entry itself and waits: task 2 waits again, task 3 has its message
   two-reissues-in-one-frame : Talk room ("0100010000" ▸ "00020001" ∷ "0701000000" ▸ "00030001" ∷ "0600000000" ▸ "00000000" ∷ "1100010000" ▸ "0001000501"
       ∷ "080100000041" ▸ "00010000" ∷ "0403000001" ▸ "0001000503" ∷ "0701000000" ▸ "0001000341" ∷ "0100010000" ▸ "00030202010103" ∷ [])
@@ -115,7 +119,7 @@ pub record Table : Type 0 where
       ∷ "0E02020005" ▸ "17010000" ∷ "0F00000000" ▸ "00010000" ∷ "0E02020005" ▸ "00010000" ∷ [])
   with-R-0-there-is-no-timer : Talk bare ("0D00000001" ▸ "17010001" ∷ "0E00000001" ▸ "17010001" ∷ "0E00000000" ▸ "09010001" ∷ [])
   -- R is 1, and in use: period 2, three tocks
-  a-cyclic-timer-keeps-its-period : map period (after two ("0E0001FFFE" ∷ "1000000000" ∷ "1000000000" ∷ "1000000000" ∷ []) .timers) ≡ (4, 2) ∷ []
+  a-cyclic-timer-keeps-its-period : map timing (after two ("0E0001FFFE" ∷ "1000000000" ∷ "1000000000" ∷ "1000000000" ∷ []) .timers) ≡ (4, 2) ∷ []
   -- the timer is task 3's, the waiter task 1
   a-timer-wakes-whoever-waits : Talk room ("0E03010001" ▸ "00010000" ∷ "0100010000" ▸ "00020001" ∷ "1000000000" ▸ "0001000501" ∷ [])
   ticks-are-counted-up : clock (after bare ("1000000000" ∷ "1000000000" ∷ [])) ≡ (0, 2)
@@ -163,6 +167,8 @@ the-table = record {
   a-task-may-name-itself = refl;
   but-not-execute-itself = refl;
   an-idle-task-may-be-suspended-terminated-and-timed = refl;
+  an-idle-task-may-be-sent-to = refl;
+  a-task-that-is-not-suspended-may-be-resumed = refl;
   execute-restarts-a-waiting-task = refl;
   and-its-semaphore-is-PENDING = refl;
   terminate-leaves-timers-of-others-on-its-semaphore = refl;
@@ -190,6 +196,7 @@ the-table = record {
   and-its-request-stays-open = refl;
   a-first-issue-that-meets-21-is-a-refused-frame = refl;
   and-so-is-an-enqueue = refl;
+  an-enqueue-that-completes-in-settling-leaves-the-outcome = refl;
   two-reissues-in-one-frame = refl;
   the-slots-other-bytes-stay = refl;
   handed-out-is-what-was-copied-into-slots = refl;

@@ -14,8 +14,9 @@ after g fs = run (configIn (hex g)) (map hex fs) .0
 abbrev pub two : String
 two = "020101010101007D00000101"
 
-abbrev pub period : Timer → ℕ × ℕ
-period t = (t .due, t .period)
+-- when a timer is due, and its period
+abbrev pub timing : Timer → ℕ × ℕ
+timing t = (t .due, t .period)
 
 abbrev pub number-of : Message → ℕ
 number-of m = m .number
