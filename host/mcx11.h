@@ -27,10 +27,10 @@ extern "C" {
 
 /** @name The sizes of the lent blocks
  * @{ */
-#define MCX11_CONFIG_BYTES 198  /**< of mcx11_t::config */
-#define MCX11_TABLES_BYTES 7509 /**< of mcx11_t::tables */
-#define MCX11_SLOTS_BYTES 2016  /**< of mcx11_t::slots */
-#define MCX11_TIMERS_BYTES 651  /**< of mcx11_t::timers */
+#define MCX11_CONFIG_BYTES 208  /**< of mcx11_t::config */
+#define MCX11_TABLES_BYTES 7517 /**< of mcx11_t::tables */
+#define MCX11_SLOTS_BYTES 2024  /**< of mcx11_t::slots */
+#define MCX11_TIMERS_BYTES 659  /**< of mcx11_t::timers */
 #define MCX11_ANSWER_BYTES 21   /**< of mcx11_t::answer */
 /** @} */
 
@@ -45,12 +45,13 @@ extern "C" {
 
 /**
  * All that the host lends. Let it begin with all bytes 0 (static, or memset): a frame before the configuration then gives 11.
- * Only the calls write it, one at a time. It holds no addresses: between calls it may be copied and moved.
+ * Only the calls write it, one at a time. It holds no addresses: between calls it may be copied and moved. A configuration sets a
+ * mark at both ends of every block but the last; where one does not stand, a frame gives 11.
  */
 typedef struct mcx11_t {
     uint8_t config[MCX11_CONFIG_BYTES]; /**< the accepted configuration */
     uint8_t tables[MCX11_TABLES_BYTES]; /**< tasks, semaphores, messages, queues, ticks */
-    uint8_t slots[MCX11_SLOTS_BYTES];   /**< 16 bytes for each task, task 1's first */
+    uint8_t slots[MCX11_SLOTS_BYTES];   /**< a slot of 16 bytes for each task */
     uint8_t timers[MCX11_TIMERS_BYTES]; /**< the timers and their clock */
     uint8_t answer[MCX11_ANSWER_BYTES]; /**< the length of the last answer, and behind it the answer */
 } mcx11_t;
@@ -414,15 +415,21 @@ enum mcx11_block {
 #define MCX11_DONE ((uint8_t)255)  /**< a semaphore's state; any other but PENDING is WAITING with the task of this number */
 
 /** @cond the header's own */
+/* Where the part of a block begins, behind its mark, and in config the frame, behind its length. */
+enum mcx11_at {
+    MCX11_AT_PART = 4,
+    MCX11_AT_FRAME = 6
+};
+
 /* How many there are of each, and where their bytes begin in their blocks. */
 struct mcx11_layout_t {
     size_t tasks, named, semaphores, queues, timers, messages;
-    size_t at_sizes, at_planes, at_semaphores, at_rings, at_messages, at_entries;
+    size_t at_sizes, at_ticks, at_count, at_planes, at_semaphores, at_rings, at_messages, at_entries;
 };
 
 static inline struct mcx11_layout_t mcx11_layout(const mcx11_t *m)
 {
-    const uint8_t *c = m->config;
+    const uint8_t *c = m->config + MCX11_AT_FRAME;
     const size_t semaphores = (size_t)c[0] + c[1] + c[2] + c[2];
     const size_t one = c[0] <= MCX11_MOST_TASKS && c[2] <= MCX11_MOST_QUEUES && c[3] <= 64 && c[4] <= 64 && semaphores <= 255;
     struct mcx11_layout_t at; /* where the counts are no configuration's, there is nothing at all */
@@ -432,8 +439,10 @@ static inline struct mcx11_layout_t mcx11_layout(const mcx11_t *m)
     at.timers = one * c[3];
     at.messages = one * c[4];
     at.semaphores = one * semaphores;
-    at.at_sizes = 8 + at.tasks;
-    at.at_planes = 2;
+    at.at_sizes = MCX11_AT_FRAME + 8 + at.tasks;
+    at.at_ticks = MCX11_AT_PART;
+    at.at_count = at.at_ticks + 1;
+    at.at_planes = at.at_count + 1;
     at.at_semaphores = at.at_planes + 64 + 6 * at.tasks;
     at.at_rings = at.at_semaphores + at.semaphores + 16 * at.tasks;
     at.at_messages = at.at_rings + 2 * at.queues;
@@ -444,14 +453,20 @@ static inline struct mcx11_layout_t mcx11_layout(const mcx11_t *m)
 /* How many timers run. Their rows are 1, 2 and so on; row 0 is their clock. */
 static inline size_t mcx11_timer_rows(const mcx11_t *m)
 {
-    const size_t most = mcx11_layout(m).timers;
-    return m->timers[0] < most ? m->timers[0] : most;
+    const size_t most = mcx11_layout(m).timers, run = m->timers[MCX11_AT_PART];
+    return run < most ? run : most;
+}
+
+/* The ten bytes of a row. */
+static inline const uint8_t *mcx11_timer_record(const mcx11_t *m, size_t row)
+{
+    return m->timers + MCX11_AT_PART + 1 + 10 * row;
 }
 
 /* Four bytes of a row, low byte first: at 2 when a timer is due, and the time; at 6 its period, and the floor. */
 static inline uint32_t mcx11_timer_four(const mcx11_t *m, size_t row, size_t place)
 {
-    const uint8_t *four = m->timers + 1 + 10 * row + place;
+    const uint8_t *four = mcx11_timer_record(m, row) + place;
     return (uint32_t)four[3] << 24 | (uint32_t)four[2] << 16 | (uint32_t)four[1] << 8 | four[0];
 }
 
@@ -461,7 +476,7 @@ static inline size_t mcx11_timer_row(const mcx11_t *m, uint8_t task, uint8_t sem
     const size_t rows = mcx11_timer_rows(m);
     size_t row;
     for (row = 1; row <= rows; row++) {
-        const uint8_t *record = m->timers + 1 + 10 * row;
+        const uint8_t *record = mcx11_timer_record(m, row);
         if (record[0] == task && record[1] == semaphore)
             return row;
     }
@@ -485,7 +500,8 @@ static inline uint32_t mcx11_timer_due(const mcx11_t *m, size_t row)
 /** The ticks left in the present tock. */
 static inline uint8_t mcx11_ticks_left(const mcx11_t *m)
 {
-    return m->tables[0] >= 1 && m->tables[0] <= m->config[5] ? m->tables[0] : m->config[5];
+    const uint8_t left = m->tables[mcx11_layout(m).at_ticks], all = m->config[MCX11_AT_FRAME + 5];
+    return left >= 1 && left <= all ? left : all;
 }
 
 /** T, the tasks of the configuration; 0 before it. */
@@ -517,7 +533,7 @@ static inline uint8_t mcx11_blocks(const mcx11_t *m, uint8_t task)
 /** The task's slot of 16 bytes; its last entry stands in front. */
 static inline const uint8_t *mcx11_slot(const mcx11_t *m, uint8_t task)
 {
-    return task >= 1 && task <= mcx11_layout(m).tasks ? m->slots + 16 * ((size_t)task - 1) : NULL;
+    return task >= 1 && task <= mcx11_layout(m).tasks ? m->slots + MCX11_AT_PART + 16 * ((size_t)task - 1) : NULL;
 }
 
 /** The semaphore's state: MCX11_PENDING, MCX11_DONE, or the number of the task that waits. Queue q has S + T + 2q - 1 and the
@@ -533,7 +549,7 @@ static inline uint8_t mcx11_semaphore(const mcx11_t *m, uint8_t semaphore)
 static inline uint8_t mcx11_mailbox_count(const mcx11_t *m, uint8_t task)
 {
     const struct mcx11_layout_t at = mcx11_layout(m);
-    const size_t lie = m->tables[1] < at.messages ? m->tables[1] : at.messages;
+    const size_t told = m->tables[at.at_count], lie = told < at.messages ? told : at.messages;
     uint8_t count = 0;
     size_t i;
     for (i = 0; i < lie; i++) {

@@ -2,7 +2,8 @@
 
 use std::hint::black_box;
 
-use c::lent::{Lent, SIZES};
+use c::lent::{Lent, Regions, COUNT, FRAME, SIZES};
+use plain_executive::configuration::Configuration;
 use plain_executive::executive::Executive;
 use plain_executive::generator::Script;
 use plain_executive::line;
@@ -110,16 +111,18 @@ impl Session {
     }
 
     /// Before each frame, the break that the test for 11 meets last: in the last message that lies if G lie, else in the last
-    /// queue, else in the semaphore sum.
+    /// queue, else in the frame's length.
     pub fn breaks(&self) -> Vec<Break> {
         let mut memory = self.memory();
-        let [tasks, named, queues] = [0, 1, 2].map(|place| usize::from(self.configuration[place]));
-        let messages = 66 + 6 * tasks + (named + tasks + 2 * queues) + 16 * tasks + 2 * queues;
+        let configuration = Configuration::read(&self.configuration).expect("accepted");
+        let messages = Regions::of(&configuration).messages;
         let mut next = |frame: &Frame| {
-            let lying = usize::from(memory.tables[1]);
+            let lying = usize::from(memory.tables[COUNT]);
             let number = (lying > 0).then(|| Break::Tables(messages + 4 * (lying - 1) + 1, 0));
-            let depth = (queues > 0).then(|| Break::Config(8 + tasks + 2 * queues - 1, 0));
-            let candidates = [number, depth, Some(Break::Config(1, 255))];
+            let last = FRAME + self.configuration.len() - 1;
+            let depth = (!configuration.queues.is_empty()).then_some(Break::Config(last, 0));
+            let length = Break::Config(FRAME - 1, self.configuration.len() as u8 ^ 1);
+            let candidates = [number, depth, Some(length)];
             let mut found = candidates.into_iter().flatten();
             let found = found.find(|rule| rule.frame(&mut memory.clone(), frame) == MEMORY).expect("a break");
             memory.frame(frame);

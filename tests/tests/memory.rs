@@ -1,4 +1,4 @@
-//! docs/MEMORY.md: its sizes and regions are those of the Rattle sources and of the largest configuration, and its example
+//! docs/MEMORY.md: its sizes, marks and regions are those of the Rattle sources and of the largest configuration, and its example
 //! is what the other executive holds.
 
 use plain_executive::configuration::{Configuration, QueueSize};
@@ -13,6 +13,9 @@ use std::fs;
 use std::path::{Path, PathBuf};
 
 const BLOCKS: [&str; 5] = ["config", "tables", "slots", "timers", "answer"];
+/// Where the part of a block begins, and in config the frame.
+const PART: usize = 4;
+const FRAME: usize = 6;
 
 fn repository() -> PathBuf {
     Path::new(env!("CARGO_MANIFEST_DIR")).join("..")
@@ -52,6 +55,15 @@ fn sizes() -> Vec<(String, usize, String)> {
         .collect();
     assert_eq!(sizes.iter().map(|size| size.0.as_str()).collect::<Vec<_>>(), BLOCKS);
     sizes
+}
+
+/// The bytes of both marks of a block.
+fn of_marks(block: &str) -> usize {
+    if block == "answer" {
+        0
+    } else {
+        8
+    }
 }
 
 /// A sum of terms such as 6T, 2 or W.
@@ -127,9 +139,10 @@ fn some_configurations() -> Vec<Configuration> {
 fn the_sizes_are_what_the_largest_configuration_needs() {
     let largest = Configuration::read(&largest_frame()).expect("accepted");
     for (block, bytes, needed) in sizes() {
-        assert_eq!(evaluate(&needed, |name| Numbers::of(&largest).letter(name)), bytes, "{block}");
+        let needed = evaluate(&needed, |name| Numbers::of(&largest).letter(name));
+        assert_eq!(needed + of_marks(&block), bytes, "{block}");
     }
-    assert_eq!(largest_frame().len(), sizes()[0].1);
+    assert_eq!(FRAME + largest_frame().len() + 4, sizes()[0].1);
     let total: usize = sizes().iter().map(|size| size.1).sum();
     assert!(text("docs/MEMORY.md").contains(&format!(" {},{:03} bytes", total / 1000, total % 1000)), "{total}");
 }
@@ -147,7 +160,7 @@ fn no_accepted_configuration_needs_more() {
                 queue_bytes: (queues * 16 * 255).min(4096),
             };
             for (block, bytes, needed) in sizes() {
-                assert!(evaluate(&needed, |name| most.letter(name)) <= bytes, "{block}: {most:?}");
+                assert!(evaluate(&needed, |name| most.letter(name)) + of_marks(&block) <= bytes, "{block}: {most:?}");
             }
         }
     }
@@ -169,7 +182,34 @@ fn the_sizes_are_those_of_the_sources() {
 fn number(file: &str, name: &str) -> usize {
     let source = text(file);
     let line = source.lines().find_map(|line| line.strip_prefix(&format!("{name} = ")));
-    line.and_then(|number| number.parse().ok()).unwrap_or_else(|| panic!("{file}: {name} is no number"))
+    let read = |number: &str| match number.strip_prefix("0x") {
+        Some(digits) => usize::from_str_radix(digits, 16).ok(),
+        None => number.parse().ok(),
+    };
+    line.and_then(read).unwrap_or_else(|| panic!("{file}: {name} is no number"))
+}
+
+/// Of each block its mark, by the page.
+fn marks() -> HashMap<String, Vec<u8>> {
+    let mark = |row: &Vec<String>| (row[0].trim_matches('`').to_string(), row[1].as_bytes().to_vec());
+    table(&["Block", "Mark"]).iter().map(mark).collect()
+}
+
+#[test]
+fn the_marks_and_the_parts_are_those_of_the_sources() {
+    let rows = table(&["Block", "Mark"]);
+    assert_eq!(rows.len(), 4);
+    for (row, block) in rows.iter().zip(BLOCKS) {
+        assert_eq!(row[0], format!("`{block}`"));
+        let mark = &marks()[block];
+        let digits: Vec<String> = mark.iter().map(|byte| format!("{byte:02X}")).collect();
+        assert_eq!(row[2], digits.join(" "), "{block}");
+        let low_first = number("crates/mcx11/specs/Contract.antt", &format!("{block}Mark"));
+        assert_eq!(u32::from_le_bytes(mark[..].try_into().expect("four bytes")) as usize, low_first, "{block}");
+    }
+    for (name, at) in [("partAt", PART), ("frameAt", FRAME)] {
+        assert_eq!(number("crates/parts/specs/Parts.antt", name), at, "{name}");
+    }
 }
 
 /// Both sides of each line such as `pub waiting : s .waitingat ≡ s .semaphoreat + s .semaphores` in a record of the specifications.
@@ -236,17 +276,27 @@ fn the_regions_are_those_of_the_layout() {
 
 // ---- the example
 
-/// A block of the example; None is a free byte. It notes which bytes have been read.
+#[derive(Clone, Copy, Debug, PartialEq, Eq)]
+enum Shown {
+    Byte(u8),
+    Free,
+    Outside,
+}
+
+/// A block of the example. It notes which bytes have been read.
 struct Bytes {
     name: &'static str,
-    bytes: Vec<Option<u8>>,
+    bytes: Vec<Shown>,
     read: RefCell<Vec<bool>>,
 }
 
 impl Bytes {
     fn at(&self, index: usize) -> u8 {
         self.read.borrow_mut()[index] = true;
-        self.bytes[index].unwrap_or_else(|| panic!("byte {index} of {} is shown as free", self.name))
+        match self.bytes[index] {
+            Shown::Byte(byte) => byte,
+            other => panic!("byte {index} of {} is shown as {other:?}", self.name),
+        }
     }
 
     fn number(&self, index: usize) -> usize {
@@ -259,12 +309,22 @@ impl Bytes {
 
     fn all_others_are_free(&self) {
         for (index, read) in self.read.borrow().iter().enumerate() {
-            assert!(*read || self.bytes[index].is_none(), "byte {index} of {} is free", self.name);
+            assert!(*read || !matches!(self.bytes[index], Shown::Byte(_)), "byte {index} of {} is free", self.name);
+        }
+    }
+
+    /// The mark stands at both ends of the size, and what is neither part nor mark is shown as outside.
+    fn is_laid_out(&self, size: usize, mark: &[u8], part: usize) {
+        assert_eq!(self.bytes.len(), size, "{}", self.name);
+        assert_eq!((self.some(0, 4), self.some(size - 4, 4)), (mark.to_vec(), mark.to_vec()), "{}", self.name);
+        for (index, shown) in self.bytes.iter().enumerate() {
+            let outside = (PART + part..size - 4).contains(&index);
+            assert_eq!(*shown == Shown::Outside, outside, "byte {index} of {}", self.name);
         }
     }
 }
 
-fn cell_bytes(cell: &str) -> Vec<Option<u8>> {
+fn cell_bytes(cell: &str) -> Vec<Shown> {
     let mut bytes = Vec::new();
     let mut words = cell.split(' ').peekable();
     while let Some(word) = words.next() {
@@ -272,14 +332,18 @@ fn cell_bytes(cell: &str) -> Vec<Option<u8>> {
             Some(_) => (word.parse().expect("a count"), words.next().expect("a byte")),
             None => (1, word),
         };
-        let byte = (word != "--").then(|| u8::from_str_radix(word, 16).unwrap_or_else(|_| panic!("{word} is no byte")));
+        let byte = match word {
+            "--" => Shown::Free,
+            ".." => Shown::Outside,
+            _ => Shown::Byte(u8::from_str_radix(word, 16).unwrap_or_else(|_| panic!("{word} is no byte"))),
+        };
         bytes.extend(vec![byte; count]);
     }
     bytes
 }
 
 fn example(column: usize) -> HashMap<&'static str, Bytes> {
-    let mut found: HashMap<&'static str, Vec<Option<u8>>> = HashMap::new();
+    let mut found: HashMap<&'static str, Vec<Shown>> = HashMap::new();
     let mut block = "";
     for row in table(&["Block", "Bytes", "Holds"]) {
         block = BLOCKS.iter().find(|name| row[0] == format!("`{name}`")).unwrap_or(&block);
@@ -300,7 +364,7 @@ fn assert_shown(memory: &HashMap<&str, Bytes>, configuration: &Configuration, it
     let numbers = Numbers::of(configuration);
     let starts: HashMap<String, usize> = table(&["Region", "Bytes"])
         .iter()
-        .scan(0, |at, row| {
+        .scan(PART, |at, row| {
             let from = *at;
             *at += evaluate(&row[1], |name| numbers.letter(name));
             Some((row[0].clone(), from))
@@ -323,7 +387,7 @@ fn assert_shown(memory: &HashMap<&str, Bytes>, configuration: &Configuration, it
             let bits = tables.at(starts["planes"] + 16 * plane + index / 8);
             assert_eq!(bits >> (index % 8) & 1 == 1, task.blocks.has(block), "task {}", index + 1);
         }
-        let slot = slots.some(16 * index, 16);
+        let slot = slots.some(PART + 16 * index, 16);
         assert_eq!(slot, task.slot);
         let record = starts["records"] + 6 * index;
         let outcome = match tables.at(record) {
@@ -377,15 +441,16 @@ fn assert_shown(memory: &HashMap<&str, Bytes>, configuration: &Configuration, it
         places += width * depth;
     }
 
-    let number = limited(timers.number(0), numbers.timers);
+    let number = limited(timers.number(PART), numbers.timers);
     assert_eq!(number, items.timers.len());
-    let four = |row: usize, at: usize| u32::from_le_bytes(timers.some(1 + 10 * row + at, 4).try_into().unwrap());
+    let record = |row: usize| PART + 1 + 10 * row;
+    let four = |row: usize, at: usize| u32::from_le_bytes(timers.some(record(row) + at, 4).try_into().unwrap());
     let (time, floor) = (four(0, 2), four(0, 6));
     let mut before = floor.max(time);
     for (index, timer) in items.timers.iter().enumerate() {
         let (row, due) = (index + 1, four(index + 1, 2));
         assert!(before <= due, "timer {row} is due at {due}, before {before}");
-        assert_eq!(timers.some(1 + 10 * row, 2), [timer.task, timer.semaphore]);
+        assert_eq!(timers.some(record(row), 2), [timer.task, timer.semaphore]);
         assert_eq!((u64::from(due - time), four(row, 6)), (timer.tocks_left, timer.period));
         before = due;
     }
@@ -407,14 +472,15 @@ fn the_example_is_what_the_other_executive_holds() {
     for (index, frame) in frames.iter().enumerate() {
         let answer = if index == 0 { executive.answer(0, 0) } else { executive.frame(frame) };
         let memory = example(3 + index);
-        assert_eq!(memory["config"].some(0, frames[0].len()), frames[0]);
+        assert_eq!(memory["config"].some(PART, 2), (frames[0].len() as u16).to_be_bytes());
+        assert_eq!(memory["config"].some(FRAME, frames[0].len()), frames[0]);
         assert_shown(&memory, executive.configuration(), &executive.items());
         let length = memory["answer"].number(0);
         assert_eq!(memory["answer"].some(1, length), answer.bytes());
         let needed =
             |block: usize| evaluate(&sizes()[block].2, |name| Numbers::of(executive.configuration()).letter(name));
-        for (block, name) in BLOCKS.iter().enumerate().take(4) {
-            assert_eq!(memory[name].bytes.len(), needed(block), "{name}");
+        for (block, name) in BLOCKS.into_iter().enumerate().take(4) {
+            memory[name].is_laid_out(sizes()[block].1, &marks()[name], needed(block));
         }
         memory.values().for_each(Bytes::all_others_are_free);
     }

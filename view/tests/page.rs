@@ -4,7 +4,7 @@ use std::fs;
 use std::path::{Path, PathBuf};
 use std::process::Command;
 
-use c::lent::Lent;
+use c::lent::{slot, Lent};
 use plain_executive::numbers::Number;
 use plain_executive::random::Random;
 use view::differences;
@@ -32,7 +32,7 @@ fn wrong_answer(memory: &mut Lent, frame: &[u8]) -> Number {
 /// The exported function, but a slot is written.
 fn wrong_item(memory: &mut Lent, frame: &[u8]) -> Number {
     let number = memory.frame(frame);
-    memory.slots[20] = 1;
+    memory.slots[slot(1) + 4] = 1;
     number
 }
 

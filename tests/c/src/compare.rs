@@ -66,8 +66,8 @@ fn unequal(
     if memory.answered() != answer {
         return Some(format!("the answer: {:02X?}, the other has {answer:02X?}", memory.answered()));
     }
-    if memory.config[..configuration.len()] != *configuration {
-        return Some(format!("the config block: {:02X?}", &memory.config[..configuration.len()]));
+    if memory.kept_frame() != configuration {
+        return Some(format!("the config block: {:02X?}", memory.kept_frame()));
     }
     unequal_items(&memory.items(other.configuration()), &other.items()).or_else(|| {
         let strange = strange(memory, other.configuration());

@@ -8,7 +8,7 @@ use plain_executive::executive::Executive;
 use plain_executive::numbers::{Number, MEMORY};
 use plain_executive::random::Random;
 
-use crate::lent::{Lent, Regions, PLANE, PLANES, SIZES};
+use crate::lent::{ends, parts, timer_row, Lent, Regions, COUNT, FRAME, MARKS, PART, PLANE, PLANES, SIZES, TICKS};
 use crate::rules::{self, Rule};
 use crate::strange::strange;
 
@@ -50,7 +50,7 @@ impl<Call: FnMut(&mut Lent, &[u8]) -> Number> Watch<Call> {
                 return self.refused(rule, &mut memory, frame, &told);
             }
             let other = other.get_or_insert_with(|| {
-                let configuration = rules::configuration(&memory.config).expect("rule 1");
+                let configuration = rules::configuration(&memory.config).expect("a configuration");
                 let items = memory.items(&configuration);
                 Executive::restored(configuration, &items)
             });
@@ -74,8 +74,9 @@ impl<Call: FnMut(&mut Lent, &[u8]) -> Number> Watch<Call> {
         assert_eq!(memory.answered(), answer.bytes(), "the answer; {}", told());
         assert_eq!(memory.items(other.configuration()), other.items(), "the items; {}", told());
         assert_eq!(memory.config, before.config, "the configuration was written; {}", told());
-        for ((after, before), size) in memory.blocks().iter().zip(before.blocks()).zip(SIZES) {
-            assert_eq!(after[size..], before[size..], "behind the size of a block; {}", told());
+        for ((after, before), part) in memory.blocks().iter().zip(before.blocks()).zip(parts(other.configuration())) {
+            assert_eq!(after[..part.start], before[..part.start], "before a part; {}", told());
+            assert_eq!(after[part.end..], before[part.end..], "behind a part; {}", told());
         }
         if number != 0 {
             *self.counts.refused.entry(number).or_default() += 1;
@@ -94,17 +95,10 @@ impl<Call: FnMut(&mut Lent, &[u8]) -> Number> Watch<Call> {
     }
 }
 
-/// The bytes of each block that a configuration needs.
-pub fn needed(configuration: &Configuration) -> [usize; 5] {
-    let (tasks, queues) = (usize::from(configuration.tasks), configuration.queues.len());
-    let timers = 11 + 10 * usize::from(configuration.timers);
-    [8 + tasks + 2 * queues, Regions::of(configuration).end, 16 * tasks, timers, SIZES[4]]
-}
-
-/// Damages memory that frames left: a bit, some bytes, a field, all messages, a whole block, a length. `another` is another
-/// session's.
+/// Damages memory that frames left: a bit, some bytes, a field, all messages, a whole block, a length, a mark. `another` is
+/// another session's.
 pub fn damage(random: &mut Random, memory: &mut Lent, configuration: &Configuration, another: &Lent) {
-    match random.below(22) {
+    match random.below(23) {
         0..=3 => bit(random, memory, configuration),
         4..=6 => bytes(random, memory, configuration),
         7..=15 => {
@@ -116,22 +110,43 @@ pub fn damage(random: &mut Random, memory: &mut Lent, configuration: &Configurat
         17 => block(random, memory),
         18 => tables_alone(random, memory),
         19 | 20 => nearly_full(random, memory, configuration),
+        21 => mark(random, memory),
         _ => exchanged(random, memory, another),
     }
 }
 
 fn bit(random: &mut Random, memory: &mut Lent, configuration: &Configuration) {
     let block = random.below(4);
-    let place = random.below(needed(configuration)[block]);
+    let place = in_part(random, configuration, block);
     memory.blocks_mut()[block][place] ^= 1 << random.below(8);
 }
 
 fn bytes(random: &mut Random, memory: &mut Lent, configuration: &Configuration) {
     for _ in 0..1 + random.below(8) {
         let block = random.pick(&[0, 1, 1, 1, 2, 3]);
-        let place = random.below(needed(configuration)[block]);
+        let place = in_part(random, configuration, block);
         memory.blocks_mut()[block][place] = random.byte();
     }
+}
+
+fn in_part(random: &mut Random, configuration: &Configuration, block: usize) -> usize {
+    let part = &parts(configuration)[block];
+    part.start + random.below(part.len())
+}
+
+/// Bytes of a mark: one, or all up to an end of the block.
+fn mark(random: &mut Random, memory: &mut Lent) {
+    let block = random.below(4);
+    let [first, last] = ends(SIZES[block]);
+    let reach = random.below(4);
+    let bytes = match random.below(4) {
+        0 => first.start + reach..first.start + reach + 1,
+        1 => last.start + reach..last.start + reach + 1,
+        2 => first.start..first.start + reach + 1,
+        _ => last.start + reach..last.end,
+    };
+    let value = random.byte();
+    memory.blocks_mut()[block][bytes].iter_mut().for_each(|byte| *byte = value);
 }
 
 /// One field of one record, with a value about which something is said.
@@ -140,13 +155,13 @@ fn field(random: &mut Random, memory: &mut Lent, configuration: &Configuration) 
     let (tasks, queues) = (usize::from(configuration.tasks), configuration.queues.len());
     let value = a_value(random, configuration);
     let task = random.below(tasks);
-    let lying = usize::from(memory.tables[1].min(configuration.messages)).max(1);
+    let lying = usize::from(memory.tables[COUNT].min(configuration.messages)).max(1);
     let place = match random.below(14) {
-        0 => return memory.config[random.below(8)] = value,
-        1 if queues > 0 => return memory.config[8 + tasks + random.below(2 * queues)] = value,
+        0 => return memory.config[PART + random.below(10)] = value,
+        1 if queues > 0 => return memory.config[FRAME + 8 + tasks + random.below(2 * queues)] = value,
         2 | 3 => return timer_field(random, memory, configuration),
-        4 => 0,
-        5 if configuration.messages > 0 => 1,
+        4 => TICKS,
+        5 if configuration.messages > 0 => COUNT,
         6 if configuration.messages > 0 => regions.messages + 4 * random.below(lying) + random.below(4),
         7 if queues > 0 => regions.rings + random.below(2 * queues),
         8 | 9 => PLANES + PLANE * random.below(4) + task / 8,
@@ -179,10 +194,10 @@ fn open_a_request(random: &mut Random, memory: &mut Lent, place: usize, value: u
 /// The number of timers, a field of a row, or of the clock in row 0. Times are near now too.
 fn timer_field(random: &mut Random, memory: &mut Lent, configuration: &Configuration) {
     if random.percent(20) {
-        memory.timers[0] = random.pick(&[configuration.timers, configuration.timers + 1, 255, 1, 0]);
+        memory.timers[PART] = random.pick(&[configuration.timers, configuration.timers + 1, 255, 1, 0]);
         return;
     }
-    let row = 1 + 10 * random.below(1 + usize::from(configuration.timers));
+    let row = timer_row(random.below(1 + usize::from(configuration.timers)));
     let time = memory.of_timers(0, 2);
     let near = random.pick(&[0, 1, 2, 32_768, u32::MAX]);
     let four = random.pick(&[near, near, time.wrapping_add(near), time.wrapping_sub(near)]).to_le_bytes();
@@ -191,7 +206,7 @@ fn timer_field(random: &mut Random, memory: &mut Lent, configuration: &Configura
         1 => memory.timers[row + 1] = a_value(random, configuration),
         2 => memory.timers[row + 2..row + 6].copy_from_slice(&four),
         3 => memory.timers[row + 6..row + 10].copy_from_slice(&four),
-        _ => memory.timers[3 + 4 * random.below(2)..][..4].copy_from_slice(&four),
+        _ => memory.timers[timer_row(0) + 2 + 4 * random.below(2)..][..4].copy_from_slice(&four),
     }
 }
 
@@ -206,14 +221,24 @@ fn block(random: &mut Random, memory: &mut Lent) {
     let block = random.below(4);
     let value = random.pick(&[None, Some(0), Some(1), Some(255)]);
     memory.blocks_mut()[block].iter_mut().for_each(|byte| *byte = value.unwrap_or_else(|| random.byte()));
+    if random.percent(50) {
+        marked(memory, block);
+    }
 }
 
-/// Any tables, timers and slots at all, but no message lies.
+/// Any tables, timers and slots at all between the marks, but no message lies.
 fn tables_alone(random: &mut Random, memory: &mut Lent) {
     for block in [1, 2, 3] {
         memory.blocks_mut()[block].iter_mut().for_each(|byte| *byte = random.byte());
+        marked(memory, block);
     }
-    memory.tables[1] = 0;
+    memory.tables[COUNT] = 0;
+}
+
+fn marked(memory: &mut Lent, block: usize) {
+    for end in ends(SIZES[block]) {
+        memory.blocks_mut()[block][end].copy_from_slice(&MARKS[block]);
+    }
 }
 
 /// All messages lie, or all but one, and a byte of one of them has a value of its own.
@@ -226,7 +251,7 @@ fn nearly_full(random: &mut Random, memory: &mut Lent, configuration: &Configura
     for (record, number) in memory.tables[first..].chunks_exact_mut(4).zip(1..=messages) {
         record.copy_from_slice(&[random.between(1, tasks), number, random.between(1, tasks), 0]);
     }
-    memory.tables[1] = messages - random.between(0, 1);
+    memory.tables[COUNT] = messages - random.between(0, 1);
     memory.tables[first + 4 * random.below(messages.into()) + random.below(2)] = a_value(random, configuration);
 }
 

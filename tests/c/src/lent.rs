@@ -1,5 +1,7 @@
 //! The executive's C functions over memory of one's own, and the items read out of that memory as docs/MEMORY.md says.
 
+use std::ops::Range;
+
 use plain_executive::configuration::{Configuration, QueueSize};
 use plain_executive::items::{Items, OutcomeItem, RequestItem, TaskItem, TimerItem};
 use plain_executive::numbers::Number;
@@ -38,10 +40,19 @@ extern "C" {
 }
 
 /// The least sizes of the five blocks.
-pub const SIZES: [usize; 5] = [198, 7509, 2016, 651, 21];
+pub const SIZES: [usize; 5] = [208, 7517, 2024, 659, 21];
 
-/// Where the planes of the tasks' blocks begin in the tables, and the bytes of one.
-pub const PLANES: usize = 2;
+/// The marks at both ends of the first four.
+pub const MARKS: [[u8; 4]; 4] = [*b"MCXC", *b"MCXT", *b"MCXS", *b"MCXR"];
+
+/// Where the part of a block begins, behind its mark; in config the frame's length lies there, and then the frame.
+pub const PART: usize = 4;
+pub const FRAME: usize = 6;
+
+/// In the tables: the ticks left, the messages that lie, the planes of the tasks' blocks, and the bytes of one plane.
+pub const TICKS: usize = PART;
+pub const COUNT: usize = PART + 1;
+pub const PLANES: usize = PART + 2;
 pub const PLANE: usize = 16;
 
 /// Five blocks of bytes: config, tables, slots, timers, answer.
@@ -118,9 +129,14 @@ impl Lent {
         &self.answer[1..=usize::from(self.answer[0])]
     }
 
+    /// The frame that the config block keeps, as far as the block has it.
+    pub fn kept_frame(&self) -> &[u8] {
+        kept_frame(&self.config)
+    }
+
     /// Four bytes of a row of the timers' block, low byte first. Row 0 is the clock: at 2 the time, at 6 the floor.
     pub fn of_timers(&self, row: usize, place: usize) -> u32 {
-        let from = 1 + 10 * row + place;
+        let from = timer_row(row) + place;
         u32::from_le_bytes(self.timers[from..from + 4].try_into().expect("4 bytes"))
     }
 
@@ -130,7 +146,42 @@ impl Lent {
     }
 }
 
-/// Where the regions of the tables begin, and where the last of them ends.
+/// The frame in such a block, as far as the block has it.
+pub fn kept_frame(config: &[u8]) -> &[u8] {
+    let [high, low] = [PART, PART + 1].map(|place| config.get(place).copied().unwrap_or(0));
+    let behind = config.get(FRAME..).unwrap_or(&[]);
+    &behind[..behind.len().min(u16::from_be_bytes([high, low]).into())]
+}
+
+/// Where a row of the timers lies.
+pub fn timer_row(row: usize) -> usize {
+    PART + 1 + 10 * row
+}
+
+/// Where a slot lies; the first task has index 0.
+pub fn slot(index: usize) -> usize {
+    PART + 16 * index
+}
+
+/// Both marks of a block of this size.
+pub fn ends(size: usize) -> [Range<usize>; 2] {
+    [0..4, size - 4..size]
+}
+
+/// The bytes of each block that a configuration needs, behind the first mark. All of the answer is one part.
+pub fn parts(configuration: &Configuration) -> [Range<usize>; 5] {
+    let (tasks, queues) = (usize::from(configuration.tasks), configuration.queues.len());
+    let ends = [
+        FRAME + 8 + tasks + 2 * queues,
+        Regions::of(configuration).end,
+        slot(tasks),
+        timer_row(1 + usize::from(configuration.timers)),
+    ];
+    let [config, tables, slots, timers] = ends.map(|end| PART..end);
+    [config, tables, slots, timers, 0..SIZES[4]]
+}
+
+/// Where the regions of the tables begin in their block, and where the last of them ends.
 #[derive(Clone, Copy, Debug)]
 pub struct Regions {
     pub records: usize,
@@ -171,7 +222,7 @@ impl<'lent> Reader<'lent> {
     fn items(&self) -> Items {
         let tasks = usize::from(self.configuration.tasks);
         let ticks = self.configuration.ticks_per_tock;
-        let ticks_left = if (1..=ticks).contains(&self.at(0)) { self.at(0) } else { ticks };
+        let ticks_left = if (1..=ticks).contains(&self.at(TICKS)) { self.at(TICKS) } else { ticks };
         Items {
             ticks: ticks - ticks_left,
             tasks: (0..tasks).map(|index| self.task(index)).collect(),
@@ -196,7 +247,7 @@ impl<'lent> Reader<'lent> {
 
     fn task(&self, index: usize) -> TaskItem {
         let record = self.regions.records + 6 * index;
-        let slot: [u8; 16] = self.lent.slots[16 * index..16 * index + 16].try_into().expect("16 bytes");
+        let slot: [u8; 16] = self.lent.slots[slot(index)..slot(index + 1)].try_into().expect("16 bytes");
         TaskItem {
             blocks: self.blocks(index),
             outcome: self.outcome(record, &slot),
@@ -244,7 +295,7 @@ impl<'lent> Reader<'lent> {
 
     fn mailboxes(&self, tasks: usize) -> Vec<Vec<Letter>> {
         let mut mailboxes = vec![Vec::new(); tasks];
-        for index in 0..usize::from(self.at(1).min(self.configuration.messages)) {
+        for index in 0..usize::from(self.at(COUNT).min(self.configuration.messages)) {
             let record = self.regions.messages + 4 * index;
             let task = if (1..=tasks).contains(&self.at(record).into()) { self.at(record).into() } else { 1 };
             mailboxes[task - 1].push(self.letter(record + 1));
@@ -269,14 +320,14 @@ impl<'lent> Reader<'lent> {
 
     /// A timer is due at the time in its row, but no later than those behind it and not before the floor.
     fn timers(&self) -> Vec<TimerItem> {
-        let number = usize::from(self.lent.timers[0].min(self.configuration.timers));
+        let number = usize::from(self.lent.timers[PART].min(self.configuration.timers));
         let (time, floor) = (self.lent.of_timers(0, 2), self.lent.of_timers(0, 6));
         let mut due = u32::MAX;
         let mut timers = Vec::new();
         for row in (1..=number).rev() {
             due = due.min(self.lent.of_timers(row, 2));
             let tocks_left = u64::from(due.max(floor).saturating_sub(time));
-            let [task, semaphore] = [0, 1].map(|place| self.lent.timers[1 + 10 * row + place]);
+            let [task, semaphore] = [0, 1].map(|place| self.lent.timers[timer_row(row) + place]);
             timers.push(TimerItem { task, semaphore, tocks_left, period: self.lent.of_timers(row, 6) });
         }
         timers.reverse();

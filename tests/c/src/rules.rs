@@ -2,11 +2,12 @@
 
 use plain_executive::configuration::{Configuration, QueueSize};
 
-use crate::lent::{Lent, Regions, SIZES};
+use crate::lent::{ends, kept_frame, Lent, Regions, COUNT, MARKS, SIZES};
 
 #[derive(Clone, Copy, Debug, PartialEq, Eq, PartialOrd, Ord)]
 pub enum Rule {
     Sizes,
+    Marks,
     Configuration,
     Messages,
 }
@@ -16,15 +17,25 @@ pub fn broken(lent: &Lent) -> Option<Rule> {
     if lent.blocks().iter().zip(SIZES).any(|(block, size)| block.len() < size) {
         return Some(Rule::Sizes);
     }
+    if !has_marks(lent) {
+        return Some(Rule::Marks);
+    }
     let Some(configuration) = configuration(&lent.config) else {
         return Some(Rule::Configuration);
     };
     (!good_messages(&lent.tables, &configuration)).then_some(Rule::Messages)
 }
 
-/// What the block says, if it keeps rule 1. The initial states are not read.
+/// Each block has its own at both ends of its size.
+fn has_marks(lent: &Lent) -> bool {
+    let mut marked = lent.blocks().into_iter().zip(SIZES).zip(MARKS);
+    marked.all(|((block, size), mark)| ends(size).into_iter().all(|end| block[end] == mark))
+}
+
+/// What the frame in the block says, if it keeps its rule. The initial states are not read.
 pub fn configuration(config: &[u8]) -> Option<Configuration> {
-    let [tasks, named, queues, timers, messages, ticks, high, low] = *config.first_chunk()?;
+    let frame = kept_frame(config);
+    let [tasks, named, queues, timers, messages, ticks, high, low] = *frame.first_chunk()?;
     let milliseconds = u16::from_be_bytes([high, low]);
     let semaphores = u32::from(named) + u32::from(tasks) + 2 * u32::from(queues);
     let good = (1..=126).contains(&tasks)
@@ -34,10 +45,10 @@ pub fn configuration(config: &[u8]) -> Option<Configuration> {
         && ticks >= 1
         && milliseconds >= 1
         && semaphores <= 255;
-    if !good {
+    if !good || frame.len() != 8 + usize::from(tasks) + 2 * usize::from(queues) {
         return None;
     }
-    let sizes = config.get(8 + usize::from(tasks)..)?.get(..2 * usize::from(queues))?;
+    let sizes = &frame[8 + usize::from(tasks)..];
     let sizes: Vec<QueueSize> = sizes.chunks(2).map(|size| QueueSize { width: size[0], depth: size[1] }).collect();
     let possible = |size: &QueueSize| (1..=16).contains(&size.width) && size.depth >= 1;
     let bytes: u32 = sizes.iter().map(|size| u32::from(size.width) * u32::from(size.depth)).sum();
@@ -53,9 +64,9 @@ pub fn configuration(config: &[u8]) -> Option<Configuration> {
     })
 }
 
-/// Rule 2: where G messages lie, each has a number 1 to G, and no number occurs twice.
+/// Where G messages lie, each has a number 1 to G, and no number occurs twice.
 fn good_messages(tables: &[u8], configuration: &Configuration) -> bool {
-    if tables[1] < configuration.messages {
+    if tables[COUNT] < configuration.messages {
         return true;
     }
     let records = &tables[Regions::of(configuration).messages..][..4 * usize::from(configuration.messages)];

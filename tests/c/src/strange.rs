@@ -9,14 +9,14 @@ use plain_executive::items::{Items, RequestItem};
 use plain_executive::semaphore::Semaphore;
 use plain_executive::tasks::Block;
 
-use crate::lent::{Lent, Regions, PLANE, PLANES};
+use crate::lent::{Lent, Regions, COUNT, PART, PLANE, PLANES, TICKS};
 
 type Situation = (&'static str, fn(&Seen) -> bool);
 
 pub const STRANGE: [Situation; 28] = [
-    ("ticks left: 0", |seen| seen.lent.tables[0] == 0),
-    ("ticks left: above K", |seen| seen.lent.tables[0] > seen.configuration.ticks_per_tock),
-    ("messages: above G", |seen| seen.lent.tables[1] > seen.configuration.messages),
+    ("ticks left: 0", |seen| seen.lent.tables[TICKS] == 0),
+    ("ticks left: above K", |seen| seen.lent.tables[TICKS] > seen.configuration.ticks_per_tock),
+    ("messages: above G", |seen| seen.lent.tables[COUNT] > seen.configuration.messages),
     ("planes: a bit of no task", |seen| {
         let tasks = usize::from(seen.configuration.tasks);
         let bits = |plane: &[u8]| (tasks..8 * PLANE).any(|bit| plane[bit / 8] >> (bit % 8) & 1 == 1);
@@ -32,7 +32,7 @@ pub const STRANGE: [Situation; 28] = [
     }),
     ("ring: a place from the depth on", |seen| seen.rings().any(|(ring, size)| ring[0] >= size.depth)),
     ("ring: a number above the depth", |seen| seen.rings().any(|(ring, size)| ring[1] > size.depth)),
-    ("timers: above R", |seen| seen.lent.timers[0] > seen.configuration.timers),
+    ("timers: above R", |seen| seen.lent.timers[PART] > seen.configuration.timers),
     ("timer: 0 tocks left", |seen| seen.items.timers.iter().any(|timer| timer.tocks_left == 0)),
     ("timer: above 32,768 tocks left", |seen| seen.items.timers.iter().any(|timer| timer.tocks_left > 32_768)),
     ("timer: a semaphore that there is not", |seen| {
@@ -99,7 +99,7 @@ impl Seen<'_> {
 
     /// The records of the messages that lie in mailboxes.
     fn lying(&self) -> impl Iterator<Item = &[u8]> {
-        let lying = usize::from(self.lent.tables[1].min(self.configuration.messages));
+        let lying = usize::from(self.lent.tables[COUNT].min(self.configuration.messages));
         self.lent.tables[self.regions.messages..].chunks_exact(4).take(lying)
     }
 

@@ -4,9 +4,9 @@
 
 use std::process::Command;
 
-use c::damage::{damage, frames, needed, Counts, Watch};
+use c::damage::{damage, frames, Counts, Watch};
 use c::fence::{now, Fences, Side};
-use c::lent::{Blocks, Lent, SIZES};
+use c::lent::{parts, Blocks, Lent, PART, SIZES};
 use c::rules::{self, Rule};
 use c::strange::STRANGE;
 use plain_executive::executive::Executive;
@@ -82,9 +82,11 @@ fn any_damage() {
 /// Each rule was broken, each service accepted, each number given, and each strange memory met by an accepted frame.
 fn all_met(counts: &Counts) {
     let Counts { broken, filled, accepted, refused, strange, reissues, .. } = counts;
-    let all = format!("{broken:?}, {filled} by frames, accepted {accepted:?}, refused {refused:?}, {reissues} reissues, {strange:#?}");
+    let all = format!(
+        "{broken:?}, {filled} by frames, accepted {accepted:?}, refused {refused:?}, {reissues} reissues, {strange:#?}"
+    );
     println!("{} calls: {all}", counts.calls);
-    for rule in [Rule::Sizes, Rule::Configuration, Rule::Messages] {
+    for rule in [Rule::Sizes, Rule::Marks, Rule::Configuration, Rule::Messages] {
         assert!(broken.get(&rule) > Some(&500), "{rule:?}: {all}");
     }
     for code in 0x01..=0x11 {
@@ -100,7 +102,7 @@ fn all_met(counts: &Counts) {
     assert!(*filled > 20, "{all}");
 }
 
-/// A memory that needs few bytes: each of them with each value.
+/// A memory that needs few bytes: each of them, and each of the marks in front, with each value.
 #[test]
 fn every_value_of_every_byte_of_a_small_memory() {
     let mut random = Random::new(22);
@@ -108,14 +110,15 @@ fn every_value_of_every_byte_of_a_small_memory() {
     let scripts = (0..200).map(|seed| Generator::new(seed).script(3..=3, 40));
     let small = |script: &Script| {
         let configuration = rules::configuration(&after(script, 0, &mut Random::new(0)).config).expect("accepted");
-        let all: usize = needed(&configuration)[..4].iter().sum();
+        let all: usize = parts(&configuration)[..4].iter().map(ExactSizeIterator::len).sum();
         all < 270 && configuration.queue_count() > 0 && configuration.timers > 0 && configuration.messages > 1
     };
     for script in scripts.filter(small).take(3) {
         let memory = after(&script, 40, &mut random);
-        let needed = needed(&rules::configuration(&memory.config).expect("accepted"));
+        let parts = parts(&rules::configuration(&memory.config).expect("accepted"));
         for block in 0..4 {
-            for (place, value) in (0..needed[block]).flat_map(|place| (0..=u8::MAX).map(move |value| (place, value))) {
+            for (place, value) in (0..parts[block].end).flat_map(|place| (0..=u8::MAX).map(move |value| (place, value)))
+            {
                 let mut damaged = memory.clone();
                 damaged.blocks_mut()[block][place] = value;
                 now([block as u64, place as u64, value.into()]);
@@ -190,8 +193,8 @@ fn configurations_over_damaged_memory() {
         let mut memory = Lent::new(SIZES.map(|size| size + random.below(3)), || random.byte());
         now([seed, 0, 0]);
         assert_eq!(fences.configure(&mut memory, &script.configuration, Side::Back), 0, "seed {seed}");
-        assert_eq!(memory.config[..script.configuration.len()], script.configuration, "seed {seed}");
-        assert_eq!(memory.timers[..11], [0; 11], "seed {seed}");
+        assert_eq!(memory.kept_frame(), script.configuration, "seed {seed}");
+        assert_eq!(memory.timers[PART..][..11], [0; 11], "seed {seed}");
         let fresh = Executive::configure(&script.configuration).expect("accepted");
         assert_eq!(memory.items(fresh.configuration()), fresh.items(), "seed {seed}");
         assert_eq!(memory.answered(), fresh.answer(0, 0).bytes(), "seed {seed}");

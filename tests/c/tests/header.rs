@@ -4,7 +4,7 @@
 mod tools;
 
 use c::damage::damage;
-use c::lent::{Lent, SIZES};
+use c::lent::{Lent, FRAME, SIZES};
 use c::rules;
 use plain_executive::configuration::Configuration;
 use plain_executive::executive::Executive;
@@ -261,9 +261,10 @@ fn the_readers_stay_inside_whatever_the_memory_holds() {
             }
             _ => bad.extend(memory.blocks().concat()),
         }
+        let mut any = Lent::new(SIZES, || random.byte());
         let counts = [140, 256, 40, 70, 70].map(|most| random.below(most) as u8);
-        bad.extend(counts);
-        bad.extend((counts.len()..SIZES.iter().sum()).map(|_| random.byte()));
+        any.config[FRAME..][..counts.len()].copy_from_slice(&counts);
+        bad.extend(any.blocks().concat());
     }
     let size = SIZES.iter().sum::<usize>();
     assert!(good.len() > 100 * size && bad.len() > 390 * size, "{} good, {} bad", good.len() / size, bad.len() / size);
@@ -277,7 +278,7 @@ fn the_readers_stay_inside_whatever_the_memory_holds() {
 
 /// T, where the counts are a configuration's; else there is nothing to read.
 fn tasks_of(memory: &[u8]) -> u8 {
-    let [tasks, named, queues, timers, messages] = *memory.first_chunk().expect("a memory");
+    let [tasks, named, queues, timers, messages] = *memory[FRAME..].first_chunk().expect("a memory");
     let semaphores = u32::from(named) + u32::from(tasks) + 2 * u32::from(queues);
     let counts = tasks <= 126 && queues <= 32 && timers <= 64 && messages <= 64 && semaphores <= 255;
     tasks * u8::from(counts)

@@ -2,7 +2,7 @@
 //! frame every item of the lent memory. Other seeds, by the variable SEED, give other sessions.
 
 use c::compare::{compare, difference, shortened, Feed};
-use c::lent::{Lent, Regions, PLANES, SIZES};
+use c::lent::{slot, timer_row, Lent, Regions, COUNT, FRAME, PART, PLANES, SIZES, TICKS};
 use plain_executive::configuration::Configuration;
 use plain_executive::coverage::Coverage;
 use plain_executive::executive::Executive;
@@ -86,26 +86,26 @@ fn everything() -> Script {
 type Fault = (&'static str, fn(&mut Lent, &Regions));
 
 const FAULTS: [Fault; 21] = [
-    ("the ticks", |memory, _| memory.tables[0] = memory.tables[0] % 3 + 1),
+    ("the ticks", |memory, _| memory.tables[TICKS] = memory.tables[TICKS] % 3 + 1),
     ("the blocks of task 2", |memory, _| memory.tables[PLANES] ^= 2),
     ("the outcome of task 3", |memory, at| memory.tables[at.records + 12] ^= 1),
-    ("the slot of task 2", |memory, _| memory.slots[16 + 15] ^= 0x80),
+    ("the slot of task 2", |memory, _| memory.slots[slot(1) + 15] ^= 0x80),
     ("the request of task 2", |memory, at| memory.tables[at.records + 6 + 4] ^= 1),
     ("the request of task 1", |memory, at| memory.tables[at.waiting] ^= 1),
     ("semaphore 2", |memory, at| memory.tables[at.semaphores + 1] ^= 255),
     ("the mailbox of task 2", |memory, at| memory.tables[at.messages + 3] ^= 1),
-    ("the mailbox of task 2", |memory, _| memory.tables[1] = 0),
+    ("the mailbox of task 2", |memory, _| memory.tables[COUNT] = 0),
     ("queue 1", |memory, at| memory.tables[at.entries] ^= 1),
     ("queue 1", |memory, at| memory.tables[at.rings + 1] ^= 3),
     ("queue 1", |memory, at| memory.tables[at.rings] ^= 1),
-    ("timer 1", |memory, _| memory.timers[1 + 2] ^= 1),
-    ("timer 1", |memory, _| memory.timers[1 + 6] = 200),
-    ("timer 1", |memory, _| memory.timers[11] ^= 3),
-    ("timer 1", |memory, _| memory.timers[11 + 1] ^= 3),
-    ("timer 1", |memory, _| memory.timers[11 + 2] ^= 1),
-    ("timer 1", |memory, _| memory.timers[11 + 6] ^= 1),
-    ("timers", |memory, _| memory.timers[0] = 0),
-    ("the config block", |memory, _| memory.config[9] ^= 1),
+    ("timer 1", |memory, _| memory.timers[timer_row(0) + 2] ^= 1),
+    ("timer 1", |memory, _| memory.timers[timer_row(0) + 6] = 200),
+    ("timer 1", |memory, _| memory.timers[timer_row(1)] ^= 3),
+    ("timer 1", |memory, _| memory.timers[timer_row(1) + 1] ^= 3),
+    ("timer 1", |memory, _| memory.timers[timer_row(1) + 2] ^= 1),
+    ("timer 1", |memory, _| memory.timers[timer_row(1) + 6] ^= 1),
+    ("timers", |memory, _| memory.timers[PART] = 0),
+    ("the config block", |memory, _| memory.config[FRAME + 9] ^= 1),
     ("the answer", |memory, _| memory.answer[3] ^= 1),
 ];
 
@@ -133,12 +133,12 @@ fn numbers_strange_bytes_and_refused_frames_are_compared() {
         ("the number", &|memory, frame| if memory.frame(frame) == 7 { 6 } else { 0 }),
         ("the memory holds what the program never writes", &|memory, frame| {
             let number = memory.frame(frame);
-            memory.tables[2] |= 0x10;
+            memory.tables[PLANES] |= 0x10;
             number
         }),
         ("a refused frame wrote", &|memory, frame| {
             let number = memory.frame(frame);
-            memory.timers[650] ^= u8::from(number != 0);
+            memory.timers[SIZES[3] - 5] ^= u8::from(number != 0);
             number
         }),
     ];
@@ -154,7 +154,7 @@ fn a_difference_comes_as_a_short_session() {
     let faulty = |memory: &mut Lent, frame: &[u8]| {
         let number = memory.frame(frame);
         if memory.answer[4] == 3 {
-            memory.slots[16 * usize::from(memory.answer[2]) - 16] &= 0x7F;
+            memory.slots[slot(usize::from(memory.answer[2]) - 1)] &= 0x7F;
             memory.answer[5] &= 0x7F;
         }
         number
@@ -173,7 +173,8 @@ fn a_difference_comes_as_a_short_session() {
 
 #[test]
 fn a_short_block_gives_11_before_all_else() {
-    let mut memory = Lent::new([198, 7509, 2016, 640, 21], || 0);
+    let [config, tables, slots, timers, answer] = SIZES;
+    let mut memory = Lent::new([config, tables, slots, timers - 1, answer], || 0);
     assert_eq!((memory.configure(&[]), memory.frame(&[])), (MEMORY, MEMORY));
     let mut memory = Lent::new(SIZES, || 0);
     assert_eq!((memory.configure(&[]), memory.frame(&[])), (2, MEMORY));

@@ -1,6 +1,6 @@
 //! All tock values through the C functions: a timer started with each, against the other implementation.
 
-use c::lent::{Lent, SIZES};
+use c::lent::{Lent, PART, SIZES};
 use plain_executive::executive::Executive;
 use plain_executive::numbers::TOCK_VALUE;
 
@@ -22,7 +22,7 @@ fn all_tock_values() {
             assert_eq!(memory.items(other.configuration()), other.items(), "{value:04X}: {frame:02X?}");
             if frame[0] == 0x0E {
                 assert_eq!(answer.refusal(), if value == 0 { TOCK_VALUE } else { 0 }, "{value:04X}");
-                assert_eq!(memory.timers[0], u8::from(value != 0), "{value:04X}");
+                assert_eq!(memory.timers[PART], u8::from(value != 0), "{value:04X}");
             }
         }
     }
