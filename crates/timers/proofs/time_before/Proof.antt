@@ -4,7 +4,6 @@ use Prim.Native.Nat.{ℕ}
 use native.Mathlib.Omega.{arith}
 use denote.Ref.{now}
 use Rattle.rows.specs.Splice.{splice}
-
 use Rattle.rows.specs.Four.{bytes4}
 use Rattle.timers.specs.Ends.{back-time, back-same}
 use borrow.Author.Needs.{needs}
