@@ -6,6 +6,7 @@ pub mod Carried
 -- settling
 pub mod Turns
 pub mod Meeting
+pub mod Asked
 pub mod Kept
 -- the step
 pub mod Stepped

@@ -8,7 +8,7 @@ ghost use mathlib.Core.Bool.{true};
 ghost use Prim.Native.Nat.{_*_, _≤_};
 ghost use lib.ListN.{length, take};
 ghost use Rattle.tables.specs.Layout.{Fits, OneOf};
-ghost use Rattle.tables.specs.Shows.{waitingIn, Does, Tells};
+ghost use Rattle.tables.specs.Shows.{waitingIn, Does};
 ghost use Rattle.ledger.specs.Config.{configIn};
 ghost use Rattle.command.specs.Configured.{Framed};
 ghost use Rattle.ledger.specs.Ledger as ledger;
@@ -16,6 +16,7 @@ ghost use Rattle.ledger.specs.Services as ledger_services;
 ghost use Rattle.ledger.specs.Session as session;
 ghost use Rattle.executive.specs.Suits.{DoesOf, DoesWithSlotsOf};
 ghost use Rattle.executive.specs.Kept.{Runs, Reissues, Ends};
+ghost use Rattle.executive.specs.Asked.{HasRequest, opened};
 
 // The task that runs when settling ends, and the number of reissues.
 pub struct Settled {
@@ -64,16 +65,21 @@ fn enqueue_again(tables: &mut [u8], config: &[u8], shape: Shape, t: u8, q: u8)
     services::queue::enqueue(tables, shape, r, t, q, &entry[0..width]);
 }
 
-// Whether task t has an open request; the null task has none.
-fn is_open(tables: &[u8], shape: Shape, t: u8) -> bool
+// The request of task t, read in its record; the null task has none.
+fn request_of(tables: &[u8], shape: Shape, t: u8) -> Request
     requires { ⌜ Fits shape (length (now tables)) × (t ≤ shape .tasks) ⌝ }
-    ensures { λ r. ⌜ (r ≡ true → 1 ≤ t) × Tells shape (now (tables .entry)) (λ c L. session.isOpen (ledger.task L t .request)) r ⌝ }
+    ensures { λ r. ⌜ HasRequest shape (now (tables .entry)) t r ⌝ }
 {
     if t == 0 {
-        return false;
+        return Request::None;
     }
     let task = tables::tasks::load(tables, shape, t);
-    let request = task.request;
+    task.request
+}
+
+fn is_open(request: Request) -> bool
+    ensures { λ r. ⌜ r ≡ opened request ⌝ }
+{
     match request {
         Request::None => false,
         Request::Receive(_) => true,
@@ -83,12 +89,18 @@ fn is_open(tables: &[u8], shape: Shape, t: u8) -> bool
 }
 
 // The open request of the running task, closed and issued again.
-fn reissue(tables: &mut [u8], slots: &mut [u8], config: &[u8], shape: Shape, running: u8)
-    requires { ⌜ Fits shape (length (now tables)) × Framed (now config) shape × (16 * shape .tasks ≤ length (now slots)) × OneOf (shape .tasks) running ⌝ }
+fn reissue(
+    tables: &mut [u8],
+    slots: &mut [u8],
+    config: &[u8],
+    shape: Shape,
+    running: u8,
+    request: Request,
+)
+    requires { ⌜ Fits shape (length (now tables)) × Framed (now config) shape × (16 * shape .tasks ≤ length (now slots)) × OneOf (shape .tasks) running
+        × HasRequest shape (now tables) running request ⌝ }
     ensures { λ _. ⌜ Reissues (configIn (now (config .entry))) shape (now (tables .entry)) (now (slots .entry)) (now (tables .exit)) (now (slots .exit)) running ⌝ }
 {
-    let task = tables::tasks::load(tables, shape, running);
-    let request = task.request;
     match request {
         Request::None => {}
         Request::Receive(from) => receive_again(tables, shape, running, from),
@@ -104,19 +116,22 @@ fn settle_open(
     config: &[u8],
     shape: Shape,
     first: u8,
+    its: Request,
 ) -> Settled
     requires { ⌜ Fits shape (length (now tables)) × Framed (now config) shape × (16 * shape .tasks ≤ length (now slots))
-        × OneOf (shape .tasks) first × Runs shape (now tables) first true ⌝ }
+        × OneOf (shape .tasks) first × Runs shape (now tables) first true × HasRequest shape (now tables) first its ⌝ }
     ensures { λ r. ⌜ Ends (configIn (now (config .entry))) shape (now (tables .entry)) (now (slots .entry)) (now (tables .exit)) (now (slots .exit)) r ⌝ }
 {
     let limit = 2 * shape.tasks;
     let mut n: usize = 0;
     let mut running = first;
+    let mut request = its;
     while n < limit {
-        reissue(tables, slots, config, shape, running);
+        reissue(tables, slots, config, shape, running, request);
         n += 1;
         running = tables::tasks::running(tables, shape);
-        if !is_open(tables, shape, running) {
+        request = request_of(tables, shape, running);
+        if !is_open(request) {
             return Settled {
                 running: running,
                 reissues: n,
@@ -134,11 +149,12 @@ pub fn settle(tables: &mut [u8], slots: &mut [u8], config: &[u8], shape: Shape) 
     ensures { λ r. ⌜ Ends (configIn (now (config .entry))) shape (now (tables .entry)) (now (slots .entry)) (now (tables .exit)) (now (slots .exit)) r ⌝ }
 {
     let running = tables::tasks::running(tables, shape);
-    if !is_open(tables, shape, running) {
+    let request = request_of(tables, shape, running);
+    if !is_open(request) {
         return Settled {
             running: running,
             reissues: 0,
         };
     }
-    settle_open(tables, slots, config, shape, running)
+    settle_open(tables, slots, config, shape, running, request)
 }

@@ -1,5 +1,5 @@
--- `reissue` goes by the request in the running task's record, which is the ledger's open request: closed and issued again.
-use mathlib.Core.Path.{refl, ap}
+-- `reissue` goes by the request that was read in the running task's record, which is the ledger's open request: closed and issued again.
+use mathlib.Core.Path.{refl}
 use denote.Ref.{now}
 use Rattle.tables.specs.Decode.{viewRequest}
 use Rattle.ledger.specs.Config.{configIn}
@@ -7,9 +7,6 @@ use Rattle.executive.specs.Meeting.{turn-none, turn-open, asked, asked-p
 use borrow.Author.Needs.{needs}
 use Rattle.executive.proofs.settling.reissue.Statement.{statement}
 use Rattle.executive.proofs.settling.reissue.Tie as tie
-
-load-requires : tie.Need-load-requires
-load-requires c κs = search needs
 
 enum-told : tie.Need-enum-told
 enum-told c = search needs
@@ -25,18 +22,16 @@ enum-known-request-2 c = search needs
 
 dequeue-again-requires : tie.Need-dequeue-again-requires
 dequeue-again-requires c κs =
-    let s = c .before .before .before .before .before .before .before .before .before .before in
-    let v = asked (c .before .before .before .request2 .given .1) (c .before .before .before .before .before .load .ensures .1) in
-    (s .pre .0, s .pre .1, s .pre .2, s .pre .3, v)
+    let s = c .before .before .before .before .before .before .before .before in
+    (s .pre .0, s .pre .1, s .pre .2, s .pre .3, asked (c .before .before .before .request2 .given .1) (s .pre .4 .asks))
 
 enum-known-request-3 : tie.Need-enum-known-request-3
 enum-known-request-3 c = search needs
 
 enqueue-again-requires : tie.Need-enqueue-again-requires
 enqueue-again-requires c κs =
-    let s = c .before .before .before .before .before .before .before .before .before in
-    let v = asked-put (c .before .before .request3 .given .1) (c .before .before .before .before .load .ensures .1) in
-    (s .pre .0, s .pre .1, s .pre .3, v)
+    let s = c .before .before .before .before .before .before .before in
+    (s .pre .0, s .pre .1, s .pre .3, asked-put (c .before .before .request3 .given .1) (s .pre .4 .asks))
 
 same-length : tie.Need-same-length
 same-length c = search needs
@@ -44,10 +39,10 @@ same-length c = search needs
 returns : tie.Need-returns
 unfolding viewRequest
 returns c =
-    let s = c .before .before .before .before .before .before .before in
+    let s = c .before .before .before .before .before in
     let a = s .args in
     λ L w h e o. let g = configIn (now (a .config)) in
-    turn-none g (a .shape) L (now (a .tables)) (now (a .slots)) w h (a .running) _ _ (s .pre .3) (ap (λ k. k .request) (c .before .before .load .ensures .0)) (c .enum-told .given .1) e refl o
+    turn-none g (a .shape) L (now (a .tables)) (now (a .slots)) w h (a .running) _ _ (s .pre .3) (s .pre .4 .some (s .pre .3 .0)) (c .enum-told .given .1) e refl o
 
 same-length-2 : tie.Need-same-length-2
 same-length-2 c = search needs
@@ -55,10 +50,10 @@ same-length-2 c = search needs
 returns-2 : tie.Need-returns-2
 unfolding viewRequest
 returns-2 c =
-    let s = c .before .before .before .before .before .before .before .before .before .before .before .before in
+    let s = c .before .before .before .before .before .before .before .before .before .before in
     let a = s .args in
     λ L w h e o. let g = configIn (now (a .config)) in
-    turn-open g (a .shape) L (now (a .tables)) (now (a .slots)) w h (a .running) _ _ (s .pre .3) (ap (λ k. k .request) (c .before .before .before .before .before .before .before .load .ensures .0)) (c .before .before .before .before .before .request .given .1) e (c .before .before .receive-again .ensures g L (now (a .slots)) w h)
+    turn-open g (a .shape) L (now (a .tables)) (now (a .slots)) w h (a .running) _ _ (s .pre .3) (s .pre .4 .some (s .pre .3 .0)) (c .before .before .before .before .before .request .given .1) e (c .before .before .receive-again .ensures g L (now (a .slots)) w h)
 
 same-length-3 : tie.Need-same-length-3
 same-length-3 c = search needs
@@ -69,27 +64,23 @@ same-length-4 c = search needs
 returns-3 : tie.Need-returns-3
 unfolding viewRequest
 returns-3 c =
-    let s = c .before .before .before .before .before .before .before .before .before .before .before .before .before .before .before in
+    let s = c .before .before .before .before .before .before .before .before .before .before .before .before .before in
     let a = s .args in
     λ L w h e o. let g = configIn (now (a .config)) in
-    turn-open g (a .shape) L (now (a .tables)) (now (a .slots)) w h (a .running) _ _ (s .pre .3) (ap (λ k. k .request) (c .before .before .before .before .before .before .before .before .before .before .load .ensures .0)) (c .before .before .before .before .before .before .before .before .request2 .given .1) e (c .before .before .before .before .dequeue-again .ensures L w h)
-
-same-length-5 : tie.Need-same-length-5
-same-length-5 c = search needs
+    turn-open g (a .shape) L (now (a .tables)) (now (a .slots)) w h (a .running) _ _ (s .pre .3) (s .pre .4 .some (s .pre .3 .0)) (c .before .before .before .before .before .before .before .before .request2 .given .1) e (c .before .before .before .before .dequeue-again .ensures L w h)
 
 returns-4 : tie.Need-returns-4
 unfolding viewRequest
 returns-4 c =
-    let s = c .before .before .before .before .before .before .before .before .before .before .before .before in
+    let s = c .before .before .before .before .before .before .before .before .before .before in
     let a = s .args in
     λ L w h e o. let g = configIn (now (a .config)) in
-    turn-open g (a .shape) L (now (a .tables)) (now (a .slots)) w h (a .running) _ _ (s .pre .3) (ap (λ k. k .request) (c .before .before .before .before .before .before .before .load .ensures .0)) (c .before .before .before .before .before .request3 .given .1) e (c .before .before .enqueue-again .ensures L (now (a .slots)) w h)
+    turn-open g (a .shape) L (now (a .tables)) (now (a .slots)) w h (a .running) _ _ (s .pre .3) (s .pre .4 .some (s .pre .3 .0)) (c .before .before .before .before .before .request3 .given .1) e (c .before .before .enqueue-again .ensures L (now (a .slots)) w h)
 
 pub reissue-spec : {M : Type 1} → statement M
 reissue-spec =
     tie.close
     (tie.spec
-    load-requires
     enum-told
     enum-known-request
     receive-again-requires
@@ -97,12 +88,11 @@ reissue-spec =
     dequeue-again-requires
     enum-known-request-3
     enqueue-again-requires
-    same-length
     returns
-    same-length-2
+    same-length
     returns-2
+    same-length-2
     same-length-3
-    same-length-4
     returns-3
-    same-length-5
+    same-length-4
     returns-4)
