@@ -75,8 +75,7 @@ loop-again c =
     let r = c .before .before .before .before .running in
     let q = c .before .before .request-of .ensures in
     let o = sym (c .before .is-open .ensures) ∙ not-false _ (c .if1 .left) in
-    let k = kept-next (configIn (now (a .config))) (a .shape) (now (a .tables)) (now (a .slots)) (l .tables) (l .slots) (l .n) (l .inv .5) (l .running) (l .inv .4) _ _ (c .before .before .before .before .before .before .before .before .before .before .reissue .ensures) in
-    (
+    let k = kept-next (configIn (now (a .config))) (a .shape) (now (a .tables)) (now (a .slots)) (l .tables) (l .slots) (l .n) (l .inv .5) (l .running) (l .inv .4) _ _ (c .before .before .before .before .before .before .before .before .before .before .reissue .ensures) in (
       omega arith,
       omega (arith, l .inv .1, c .before .before .before .before .before .before .before .before .before .before .reissue .kept),
       omega (arith, l .inv .2, c .before .before .before .before .before .before .before .before .before .before .reissue .kept),
