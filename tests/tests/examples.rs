@@ -111,6 +111,12 @@ fn milliseconds() {
     assert_eq!(tocks_of_milliseconds(50, 100), Ok(1));
     assert_eq!(tocks_of_milliseconds(149, 100), Ok(1));
     assert_eq!(tocks_of_milliseconds(150, 100), Ok(2));
+    assert_eq!(tocks_of_milliseconds(32_767, 1), Ok(32_767));
+    assert_eq!(tocks_of_milliseconds(32_768, 1), Err(MILLISECONDS));
+    assert_eq!(tocks_of_milliseconds(65_534, 2), Ok(32_767));
+    assert_eq!(tocks_of_milliseconds(65_535, 2), Err(MILLISECONDS));
+    assert_eq!(tocks_of_milliseconds(0, 0), Err(CONFIGURATION));
+    assert_eq!(tocks_of_milliseconds(0, 1), Err(MILLISECONDS));
 }
 
 #[test]

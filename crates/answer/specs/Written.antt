@@ -15,6 +15,10 @@ use Rattle.ledger.specs.Ledger.{Outcome, entry}
 use Rattle.ledger.specs.Session.{shown}
 use Rattle.answer.specs.declared.Head.{Head}
 
+-- the bytes of the block: the length, and the longest answer
+abbrev pub answerBytes : ℕ
+answerBytes = 21
+
 unfoldable pub written : (answer old : List ℕ) → List ℕ
 written a old = (length a ∷ a) ++ drop (suc (length a)) old
 

@@ -13,7 +13,7 @@ ghost use Rattle.tables.specs.Decode.{viewOutcome};
 ghost use Rattle.tables.specs.Layout.{Fits};
 ghost use Rattle.ledger.specs.Ledger as ledger;
 ghost use Rattle.ledger.specs.Session as session;
-ghost use Rattle.answer.specs.Written.{written, parts, line, narrow};
+ghost use Rattle.answer.specs.Written.{answerBytes, written, parts, line, narrow};
 ghost use Rattle.answer.specs.Answered.{Answers};
 
 // What stands before the outcome.
@@ -24,7 +24,7 @@ struct Head {
 }
 
 fn put_head(answer: &mut [u8], n: u8, head: Head, kind: u8)
-    requires { ⌜ 21 ≤ length (now answer) ⌝ }
+    requires { ⌜ answerBytes ≤ length (now answer) ⌝ }
     ensures { λ _. ⌜ now (answer .exit) ≡ splice (now (answer .entry)) 0 (n ∷ parts head kind []) ⌝ }
 {
     answer[0] = n;
@@ -36,14 +36,14 @@ fn put_head(answer: &mut [u8], n: u8, head: Head, kind: u8)
 
 // A kind without a value.
 fn put_kind(answer: &mut [u8], head: Head, kind: u8)
-    requires { ⌜ 21 ≤ length (now answer) ⌝ }
+    requires { ⌜ answerBytes ≤ length (now answer) ⌝ }
     ensures { λ _. ⌜ now (answer .exit) ≡ written (parts head kind []) (now (answer .entry)) ⌝ }
 {
     put_head(answer, 4, head, kind);
 }
 
 fn put_message(answer: &mut [u8], head: Head, message: u8, sender: u8, semaphore: u8)
-    requires { ⌜ 21 ≤ length (now answer) ⌝ }
+    requires { ⌜ answerBytes ≤ length (now answer) ⌝ }
     ensures { λ _. ⌜ now (answer .exit) ≡ written (line head (ledger.message message sender semaphore)) (now (answer .entry)) ⌝ }
 {
     put_head(answer, 7, head, 2);
@@ -64,7 +64,7 @@ fn narrowed(width: u8) -> u8
 
 // The entry in the slot of task t.
 fn put_entry(answer: &mut [u8], head: Head, width: u8, slots: &[u8], t: u8)
-    requires { ⌜ (21 ≤ length (now answer)) × (1 ≤ t) × (16 * t ≤ length (now slots)) ⌝ }
+    requires { ⌜ (answerBytes ≤ length (now answer)) × (1 ≤ t) × (16 * t ≤ length (now slots)) ⌝ }
     ensures { λ _. ⌜ now (answer .exit) ≡ written (line head (ledger.entry (take width (rowAt 16 (t - 1) (now (slots .entry)))))) (now (answer .entry)) ⌝ }
 {
     let w = narrowed(width);
@@ -75,7 +75,7 @@ fn put_entry(answer: &mut [u8], head: Head, width: u8, slots: &[u8], t: u8)
 }
 
 fn put_refused(answer: &mut [u8], head: Head, number: u8)
-    requires { ⌜ 21 ≤ length (now answer) ⌝ }
+    requires { ⌜ answerBytes ≤ length (now answer) ⌝ }
     ensures { λ _. ⌜ now (answer .exit) ≡ written (line head (ledger.refused number)) (now (answer .entry)) ⌝ }
 {
     put_head(answer, 5, head, 4);
@@ -83,7 +83,7 @@ fn put_refused(answer: &mut [u8], head: Head, number: u8)
 }
 
 fn put_semaphore(answer: &mut [u8], head: Head, semaphore: u8)
-    requires { ⌜ 21 ≤ length (now answer) ⌝ }
+    requires { ⌜ answerBytes ≤ length (now answer) ⌝ }
     ensures { λ _. ⌜ now (answer .exit) ≡ written (line head (ledger.semaphore semaphore)) (now (answer .entry)) ⌝ }
 {
     put_head(answer, 5, head, 5);
@@ -92,7 +92,7 @@ fn put_semaphore(answer: &mut [u8], head: Head, semaphore: u8)
 
 // An outcome of task t.
 fn put_outcome(answer: &mut [u8], head: Head, o: Outcome, slots: &[u8], t: u8)
-    requires { ⌜ (21 ≤ length (now answer)) × (1 ≤ t) × (16 * t ≤ length (now slots)) ⌝ }
+    requires { ⌜ (answerBytes ≤ length (now answer)) × (1 ≤ t) × (16 * t ≤ length (now slots)) ⌝ }
     ensures { λ _. ⌜ now (answer .exit) ≡ written (line head (viewOutcome o (rowAt 16 (t - 1) (now (slots .entry))))) (now (answer .entry)) ⌝ }
 {
     match o {
@@ -115,7 +115,7 @@ pub fn write(
     reissues: u8,
     answer: &mut [u8],
 )
-    requires { ⌜ Fits shape (length (now tables)) × (16 * shape .tasks ≤ length (now slots)) × (21 ≤ length (now answer)) × (running ≤ shape .tasks) ⌝ }
+    requires { ⌜ Fits shape (length (now tables)) × (16 * shape .tasks ≤ length (now slots)) × (answerBytes ≤ length (now answer)) × (running ≤ shape .tasks) ⌝ }
     ensures { λ _. ⌜ Answers shape (now (tables .entry)) (now (slots .entry)) running number reissues (now (answer .entry)) (now (answer .exit)) ⌝ }
 {
     let head = Head {
@@ -134,7 +134,7 @@ pub fn write(
 
 // The answer to a refused configuration.
 pub fn refuse_configuration(number: u8, answer: &mut [u8])
-    requires { ⌜ 21 ≤ length (now answer) ⌝ }
+    requires { ⌜ answerBytes ≤ length (now answer) ⌝ }
     ensures { λ _. ⌜ now (answer .exit) ≡ written (session.refusedConfiguration number) (now (answer .entry)) ⌝ }
 {
     let head = Head {

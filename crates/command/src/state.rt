@@ -4,7 +4,6 @@ use crate::codes::Fields;
 use crate::codes::Waits;
 use crate::fields::wide;
 use tables::shape::Shape;
-ghost use mathlib.Core.Path.{_≡_};
 ghost use mathlib.Core.Bool.{_&&_};
 ghost use mathlib.Core.List.{[], _∷_};
 ghost use lib.Dec.{leb};

@@ -1,12 +1,12 @@
 -- What an accepted frame says.
 use mathlib.Core.Path.{_≡_, refl, sym, ap, _∙_, subst}
 use mathlib.Core.Bool.{true, not, _&&_}
-use mathlib.Core.List.{List, [], _∷_, _++_, map}
-use Prim.Native.Nat.{ℕ, _+_, _-_, _*_, _<_, _≤_}
+use mathlib.Core.List.{List, [], _∷_, map}
+use Prim.Native.Nat.{ℕ, _+_, _-_, _*_, _≤_}
 use native.Mathlib.Omega.{arith}
 use lib.Dec.{leb, ltb, eqb}
-use lib.ListN.{length, getD, take, drop, length-take, length-drop, List·getD-append}
-use lib.Seq.{take-at, take-all}
+use lib.ListN.{length, drop, length-take, length-drop}
+use lib.Seq.{take-all}
 use borrow.Author.Tests.{eq-eqb, eqb-true, not-false}
 use Rattle.rows.specs.Splice.{cut}
 use Rattle.ledger.specs.Lists.{_⇒_, byte, word, sum, all}

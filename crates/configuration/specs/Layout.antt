@@ -134,7 +134,3 @@ of-one c s o =
       bodyat = f (s .bodyat) (shapeOf c .bodyat) (omega arith) i;
       end = f (s .end) (shapeOf c .end) (omega arith) i;
     }
-
--- the largest tables
-pub end-most : (c : Config) (s : Shape) → Of c s → s .end ≤ 7509
-end-most c s o = let l = o .laid in omega arith

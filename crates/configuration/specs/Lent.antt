@@ -9,7 +9,7 @@ use lib.ListN.{length}
 use borrow.Author.Tests.{eq-eqb, ne-eqb, eqb-true}
 use Rattle.rows.specs.Splice.{cut}
 use Rattle.rows.specs.Laws.{length-cut}
-use Rattle.ledger.specs.Lists.{byte, word, sum}
+use Rattle.ledger.specs.Lists.{byte, sum}
 use Rattle.ledger.specs.Config as config
 use Rattle.ledger.specs.Config.{Config, Limits, shapesIn, configIn, goodHead}
 use Rattle.tables.specs.declared.shape.Shape.{Shape}

@@ -1,12 +1,11 @@
 -- The memory after a start shows the fresh ledger.
 use mathlib.Core.Path.{_≡_, sym, ap, _∙_, subst}
-use mathlib.Core.Bool.{true}
 use mathlib.Core.List.{List}
 use Prim.Native.Nat.{ℕ, _+_, _-_, _*_, _≤_}
 use native.Mathlib.Omega.{arith}
 use lib.ListN.{length, take, drop, replicate}
 use borrow.Rule.Slice.PartMut.{putMid}
-use Rattle.rows.specs.Splice.{cut, splice}
+use Rattle.rows.specs.Splice.{cut}
 use Rattle.ledger.specs.Lists.{byte}
 use Rattle.ledger.specs.Config.{Config, configIn, configRefusal}
 use Rattle.ledger.specs.Ledger.{fresh}

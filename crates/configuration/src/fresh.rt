@@ -88,7 +88,8 @@ fn fresh_tables(states: &[u8], ticks: u8, tables: &mut [u8], shape: Shape)
 
 // The fresh tables, slots and timers of an accepted frame.
 pub fn start(frame: &[u8], tables: &mut [u8], slots: &mut [u8], timers: &mut [u8], shape: Shape)
-    requires { ⌜ (configRefusal (now frame) ≡ 0) × Of (configIn (now frame)) shape × (shape .end ≤ length (now tables)) × (16 * shape .tasks ≤ length (now slots)) × (timersBytes shape ≤ length (now timers)) ⌝ }
+    requires { ⌜ (configRefusal (now frame) ≡ 0) × Of (configIn (now frame)) shape × (shape .end ≤ length (now tables))
+        × (16 * shape .tasks ≤ length (now slots)) × (timersBytes shape ≤ length (now timers)) ⌝ }
     ensures { λ _. ⌜ Started (now (frame .entry)) (now (tables .exit)) (now (slots .exit)) (now (timers .exit)) ⌝ }
 {
     let at = 8 + shape.tasks;

@@ -8,15 +8,15 @@ use lib.Dec.{eqb}
 use lib.ListN.{length, take, drop, length-drop}
 use lib.Seq.{take-all}
 use borrow.Author.Tests.{ne-eqb, ltb-false, not-false}
-use Rattle.ledger.specs.Lists.{at, put, byte, word, first}
+use Rattle.ledger.specs.Lists.{at, put, byte, first}
 use Rattle.ledger.specs.Config.{Config}
 use Rattle.ledger.specs.Ledger.{plain, Ledger, running, semaphoreOf, setSemaphore, setSemaphores, setTask, setOutcome}
 use Rattle.ledger.specs.Services.{shape, signalled, signal, effect}
-use Rattle.ledger.specs.Refusals.{FieldA, noA, aTask, otherTask, selfOrTask, anyOrTask, aQueue, FieldB, noB, ofSelf, ofTask, orNone, FieldX, noX, aMessage, aTockValue, aSwitch, fields, codeAt, Call, call, inAMailbox, haveTimer, fromInput}
+use Rattle.ledger.specs.Refusals.{FieldA, noA, aTask, otherTask, selfOrTask, anyOrTask, aQueue, FieldB, noB, ofSelf, ofTask, orNone, FieldX, noX, aMessage, aTockValue, aSwitch, fields, codeAt, call, inAMailbox, haveTimer, fromInput}
 use Rattle.ledger.specs.Session.{accept}
 use Rattle.ledger.specs.Theorems.Items.{Numbered}
 use Rattle.ledger.specs.Theorems.Checks.{within-numbered, passes}
-use Rattle.ledger.specs.Theorems.Accepted.{GoodA, GoodB, GoodX, GoodNumber, GoodEntry, Good, good, Accepted}
+use Rattle.ledger.specs.Theorems.Accepted.{GoodA, GoodB, GoodX, GoodNumber, GoodEntry, Good, Accepted}
 use Rattle.tables.specs.declared.shape.Shape.{Shape}
 use Rattle.tables.specs.Layout.{OneOf, Fits, fitting}
 use Rattle.tables.specs.Shows.{Of, Shows, moved}

@@ -1,5 +1,5 @@
 -- What the meant fields of an accepted frame are, by the row of its code, and the room in the tables for what it sends: the plain facts that the services require.
-use Prim.Native.Nat.{ℕ, _+_, _≤_}
+use Prim.Native.Nat.{ℕ}
 use mathlib.Core.Path.{_≡_}
 use mathlib.Core.Bool.{true}
 use mathlib.Core.List.{List}

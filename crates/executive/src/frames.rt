@@ -5,6 +5,7 @@ ghost use mathlib.Core.Path.{_≡_};
 ghost use mathlib.Core.Bool.{true};
 ghost use Prim.Native.Nat.{_≤_};
 ghost use lib.ListN.{length};
+ghost use Rattle.answer.specs.Written.{answerBytes};
 ghost use Rattle.ledger.specs.Config.{configIn};
 ghost use Rattle.mailboxes.specs.Room.{soundIn};
 ghost use Rattle.executive.specs.Suits.{Suits};
@@ -39,7 +40,7 @@ pub fn step(
     shape: Shape,
     answer: &mut [u8],
 ) -> u8
-    requires { ⌜ Suits (now config) shape (length (now tables)) (length (now slots)) (length (now timers)) × (21 ≤ length (now answer)) × (soundIn shape (now tables) ≡ true) ⌝ }
+    requires { ⌜ Suits (now config) shape (length (now tables)) (length (now slots)) (length (now timers)) × (answerBytes ≤ length (now answer)) × (soundIn shape (now tables) ≡ true) ⌝ }
     ensures { λ r. ⌜ Steps (configIn (now (config .entry))) shape (now (frame .entry))
         (now (tables .entry)) (now (slots .entry)) (now (timers .entry)) (now (answer .entry))
         (now (tables .exit)) (now (slots .exit)) (now (timers .exit)) (now (answer .exit)) r ⌝ }

@@ -2,16 +2,13 @@
 use queues::Ring;
 use tables::shape::Shape;
 ghost use mathlib.Core.Path.{_≡_};
-ghost use mathlib.Core.Bool.{true};
-ghost use mathlib.Core.List.{List};
-ghost use Prim.Native.Nat.{ℕ, _+_, _*_, _≤_};
+ghost use Prim.Native.Nat.{ℕ, _*_, _≤_};
 ghost use lib.ListN.{length, drop};
 ghost use Rattle.ledger.specs.Services.{effect};
 ghost use Rattle.ledger.specs.Refusals.{codeAt};
 ghost use Rattle.tables.specs.Layout.{Fits, OneOf};
 ghost use Rattle.ledger.specs.Ledger as ledger;
 ghost use Rattle.ledger.specs.Services as ledger_services;
-ghost use Rattle.tables.specs.Shows.{Shows};
 ghost use Rattle.queues.specs.Rings.{ringOf, RingFits};
 ghost use Rattle.ledger.specs.Config.{configIn};
 ghost use Rattle.command.specs.Configured.{Framed};

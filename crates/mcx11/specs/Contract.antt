@@ -17,7 +17,7 @@ use Rattle.configuration.specs.Block.{frameRule}
 use Rattle.configuration.specs.Layout.{shapeOf}
 use Rattle.configuration.specs.Started.{timersBytes}
 use Rattle.parts.specs.Parts.{partAt, frameAt, markedBy, part, keptFrame, Stays, Spares}
-use Rattle.answer.specs.Written.{written}
+use Rattle.answer.specs.Written.{answerBytes, written}
 
 -- all that the host lends
 pub record Memory : Type 0 where
@@ -46,7 +46,7 @@ sizesOf k = record {
   tables = partAt + (recordsAt + 22 * k .tasks + 255 + 2 * k .queues + 4 * k .messages + k .bytes) + 4;
   slots = partAt + 16 * k .tasks + 4;
   timers = partAt + (11 + 10 * k .timers) + 4;
-  answer = 21;
+  answer = answerBytes;
 }
 
 -- every block has its size

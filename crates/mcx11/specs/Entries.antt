@@ -1,7 +1,7 @@
 -- From the steps inside to what the exported functions promise.
 use Prim.Native.Nat.{ℕ, _+_, _-_, _*_, _≤_, min}
 use mathlib.Core.Path.{_≡_, refl, sym, ap, _∙_, subst}
-use mathlib.Core.Bool.{true, false, _&&_}
+use mathlib.Core.Bool.{true, false}
 use mathlib.Core.List.{List}
 use native.Mathlib.Omega.{arith}
 use lib.ListN.{length, getD, length-take, length-drop}
@@ -10,28 +10,27 @@ use Rattle.ledger.specs.Lists.{word}
 use Rattle.ledger.specs.Config.{Config, controller, configIn, configRefusal}
 use Rattle.ledger.specs.Ledger.{Ledger, fresh}
 use Rattle.ledger.specs.Session as session
-use Rattle.ledger.specs.Theorems.Checks.{and-left, and-right}
 use Rattle.ledger.specs.Theorems.Once.{Once, once-fresh}
 use Rattle.rows.specs.Splice.{cut, splice}
 use Rattle.rows.specs.Laws.{length-cut}
 use Rattle.tables.specs.declared.shape.Shape.{Shape}
-use Rattle.tables.specs.Layout.{Fits, fitting}
+use Rattle.tables.specs.Layout.{fitting}
 use Rattle.tables.specs.Shows.{Of, Shows}
 use Rattle.mailboxes.specs.Room.{soundIn}
 use Rattle.clock.specs.Held.{holding}
 use Rattle.configuration.specs.Limits.{controller-made}
 use Rattle.configuration.specs.Block.{rule, frameRule}
 use Rattle.configuration.specs.Layout.{frameBytes, shapeOf, of-one}
-use Rattle.configuration.specs.Accepted.{accepted, accepted-of, accepted-rule}
+use Rattle.configuration.specs.Accepted.{accepted, accepted-rule}
 use Rattle.configuration.specs.Started.{timersBytes, Started}
 use Rattle.command.specs.Configured.{framed}
 use Rattle.executive.specs.Suits.{Suits, suits}
 use Rattle.executive.specs.Meeting.{never}
 use Rattle.executive.specs.Stepped.{Steps}
 use Rattle.answer.specs.Written.{written}
-use Rattle.parts.specs.Parts.{partAt, frameAt, markedBy, ends, part, keptFrame, kept, Stays, Spares}
+use Rattle.parts.specs.Parts.{partAt, frameAt, ends, part, keptFrame, kept, Stays, Spares}
 use Rattle.parts.specs.Laws.{length-ends, marks-after, spares-after, part-stays, back-part, back-stays, back-same, kept-frame}
-use Rattle.mcx11.specs.Contract.{Memory, memory, Sizes, sizesOf, fullSize, configMark, tablesMark, slotsMark, timersMark, isMarked, configOf, tablesPart, slotsPart, timersPart, messagesSound, lentWell, Displays, SameSizes, OutsideStays, OutsideSpared, answering, Begins, Configures, Goes, Frames}
+use Rattle.mcx11.specs.Contract.{Memory, memory, Sizes, sizesOf, fullSize, configMark, tablesMark, slotsMark, timersMark, isMarked, configOf, tablesPart, slotsPart, timersPart, messagesSound, lentWell, Displays, SameSizes, answering, Begins, Configures, Frames}
 use Rattle.mcx11.specs.Sizes.{RoomForMarks, room-for-marks, full-sizes, full-kept, well-full, well-frame, well-messages}
 use Rattle.mcx11.specs.Tested.{frame-is, sound-is, frame-rule, frame-whole, frame-short, tables-within, slots-within, timers-within}
 use Rattle.mcx11.specs.Displayed.{displays-well}

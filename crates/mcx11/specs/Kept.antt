@@ -1,7 +1,7 @@
 -- What a call keeps: the configuration, the marks, and that the memory is lent well.
 use Prim.Native.Nat.{ℕ, _+_, _*_, _≤_}
-use mathlib.Core.Path.{_≡_, refl, ap, sym, _∙_, subst}
-use mathlib.Core.Bool.{Bool, true, _&&_}
+use mathlib.Core.Path.{_≡_, ap, sym, _∙_, subst}
+use mathlib.Core.Bool.{true, _&&_}
 use mathlib.Core.List.{List}
 use native.Mathlib.Omega.{arith}
 use lib.ListN.{length}
@@ -17,7 +17,7 @@ use Rattle.configuration.specs.Layout.{shapeOf}
 use Rattle.configuration.specs.Started.{timersBytes}
 use Rattle.parts.specs.Parts.{partAt, markedBy, part, keptFrame}
 use Rattle.parts.specs.Laws.{marks-kept}
-use Rattle.mcx11.specs.Contract.{Memory, sizesOf, fullSize, configMark, tablesMark, slotsMark, timersMark, isMarked, configOf, tablesPart, slotsPart, timersPart, lentWell, Displays, SameSizes, OutsideStays, Begins, Goes, Frames}
+use Rattle.mcx11.specs.Contract.{Memory, sizesOf, fullSize, configMark, tablesMark, slotsMark, timersMark, isMarked, configOf, tablesPart, slotsPart, timersPart, lentWell, Displays, OutsideStays, Begins, Frames}
 use Rattle.mcx11.specs.Sizes.{full-sizes, full-kept, well-full, well-marked, well-frame}
 use Rattle.mcx11.specs.Tested.{frame-rule, frame-shape, tables-within, slots-within, timers-within}
 use Rattle.mcx11.specs.Displayed.{displays-well}

@@ -8,7 +8,7 @@ use lib.Dec.{eqb, leb}
 use borrow.Author.Tests.{leb-true, eqb-true}
 use lib.ListN.{length, drop, length-take, length-drop}
 use Rattle.ledger.specs.Lists.{byte, word}
-use Rattle.ledger.specs.Config.{Config, Limits, controller, configIn, goodHead}
+use Rattle.ledger.specs.Config.{Config, Limits, controller, configIn}
 use Rattle.ledger.specs.Theorems.Checks.{and-left, and-right}
 use Rattle.tables.specs.declared.shape.Shape.{Shape}
 use Rattle.tables.specs.Layout.{Fits, fitting}

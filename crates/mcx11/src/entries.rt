@@ -14,6 +14,7 @@ ghost use mathlib.Core.Path.{_≡_};
 ghost use mathlib.Core.Bool.{true};
 ghost use Prim.Native.Nat.{_+_, _*_, _≤_};
 ghost use lib.ListN.{length};
+ghost use Rattle.answer.specs.Written.{answerBytes};
 ghost use Rattle.ledger.specs.Config as limits;
 ghost use Rattle.ledger.specs.Config.{configIn, configRefusal};
 ghost use Rattle.tables.specs.Layout.{Fits};
@@ -35,7 +36,7 @@ fn feed(
     shape: Shape,
     answer: &mut [u8],
 ) -> u8
-    requires { ⌜ Room shape (now config) (now tables) (now slots) (now timers) × (21 ≤ length (now answer)) ⌝ }
+    requires { ⌜ Room shape (now config) (now tables) (now slots) (now timers) × (answerBytes ≤ length (now answer)) ⌝ }
     ensures { λ r. ⌜ StepsInside shape (now (frame .entry)) (now (config .entry)) (now (tables .entry)) (now (slots .entry)) (now (timers .entry)) (now (answer .entry))
         (now (tables .exit)) (now (slots .exit)) (now (timers .exit)) (now (answer .exit)) r ⌝ }
 {
@@ -64,7 +65,8 @@ pub extern "C" fn mcx11_frame_blocks(
     timers: &mut [u8],
     answer: &mut [u8],
 ) -> u8
-    ensures { λ r. ⌜ Frames (now (frame .entry)) (memory (now (config .entry)) (now (tables .entry)) (now (slots .entry)) (now (timers .entry)) (now (answer .entry))) (memory (now (config .entry)) (now (tables .exit)) (now (slots .exit)) (now (timers .exit)) (now (answer .exit))) r ⌝ }
+    ensures { λ r. ⌜ Frames (now (frame .entry)) (memory (now (config .entry)) (now (tables .entry)) (now (slots .entry)) (now (timers .entry)) (now (answer .entry)))
+        (memory (now (config .entry)) (now (tables .exit)) (now (slots .exit)) (now (timers .exit)) (now (answer .exit))) r ⌝ }
 {
     let limits = controller();
     let l = crate::lent::test(limits, config, tables, slots, timers, answer.len());
@@ -106,7 +108,7 @@ fn place(frame: &[u8], tables: &mut [u8], slots: &mut [u8], timers: &mut [u8], s
 
 // The answer that shows the running task, with a number and no reissues.
 pub fn tell(tables: &[u8], slots: &[u8], shape: Shape, number: u8, answer: &mut [u8])
-    requires { ⌜ Fits shape (shape .end) × (partAt + shape .end ≤ length (now tables)) × (partAt + 16 * shape .tasks ≤ length (now slots)) × (21 ≤ length (now answer)) ⌝ }
+    requires { ⌜ Fits shape (shape .end) × (partAt + shape .end ≤ length (now tables)) × (partAt + 16 * shape .tasks ≤ length (now slots)) × (answerBytes ≤ length (now answer)) ⌝ }
     ensures { λ _. ⌜ TellsNow shape (now (tables .entry)) (now (slots .entry)) number (now (answer .entry)) (now (answer .exit)) ⌝ }
 {
     let tables_end = PART_AT + shape.end;
@@ -155,7 +157,8 @@ pub extern "C" fn mcx11_configure_blocks(
     timers: &mut [u8],
     answer: &mut [u8],
 ) -> u8
-    ensures { λ r. ⌜ Configures (now (frame .entry)) (memory (now (config .entry)) (now (tables .entry)) (now (slots .entry)) (now (timers .entry)) (now (answer .entry))) (memory (now (config .exit)) (now (tables .exit)) (now (slots .exit)) (now (timers .exit)) (now (answer .exit))) r ⌝ }
+    ensures { λ r. ⌜ Configures (now (frame .entry)) (memory (now (config .entry)) (now (tables .entry)) (now (slots .entry)) (now (timers .entry)) (now (answer .entry)))
+        (memory (now (config .exit)) (now (tables .exit)) (now (slots .exit)) (now (timers .exit)) (now (answer .exit))) r ⌝ }
 {
     let limits = controller();
     let n = crate::lent::sizes_of(limits);

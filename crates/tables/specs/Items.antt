@@ -11,7 +11,7 @@ use Rattle.ledger.specs.Config.{Config}
 use Rattle.ledger.specs.Ledger as ledger
 use Rattle.ledger.specs.Ledger.{Ledger, Task, Semaphore, Message, Queue, Timer, task, semaphoreOf, mailbox, queue, held, setTask, setSemaphores, setSemaphore, setMailbox, setQueue, setTimers, setClock}
 use Rattle.ledger.specs.Session.{timerLeft}
-use Rattle.tables.specs.Layout.{OneOf, ticksAt, countAt, Regions}
+use Rattle.tables.specs.Layout.{OneOf, Regions}
 use Rattle.tables.specs.Decode.{countOf, leftOf}
 use Rattle.tables.specs.Shows.{taskAt, tasksIn, semaphoreCount, semaphoreAt, semaphoresIn, heldAt, queuesIn, pendingOf, mailboxesIn, timersOf, ticksIn, Shown}
 

@@ -3,8 +3,8 @@ use mathlib.Core.Path.{_≡_, refl, sym, ap, _∙_, subst}
 use mathlib.Core.List.{List}
 use Prim.Native.Nat.{ℕ, _+_, _-_, _*_, _<_, _≤_}
 use native.Mathlib.Omega.{arith}
-use lib.ListN.{length, getD, set, length-set}
-use lib.Seq.{getD-take, getD-set-same, getD-set-other}
+use lib.ListN.{length, getD}
+use lib.Seq.{getD-take}
 use borrow.Rule.Slice.PartMut.{putMid, take-put}
 use Rattle.rows.specs.Splice.{cut, splice}
 use Rattle.rows.specs.Laws.{length-splice, lent-back}
@@ -12,19 +12,19 @@ use Rattle.rows.specs.Rows.{rowAt, elems, drop-elems, length-row, row-fits, row
 use Rattle.rows.specs.Tab.{tab-length}
 use Rattle.ledger.specs.Config.{Config}
 use Rattle.ledger.specs.Ledger as ledger
-use Rattle.ledger.specs.Ledger.{Ledger, task, setTask, setSemaphore, setOutcome, setRequest}
+use Rattle.ledger.specs.Ledger.{Ledger, task, setTask, setOutcome, setRequest}
 use Rattle.tables.specs.declared.shape.Shape.{Shape}
 use Rattle.tables.specs.declared.blocks.Blocks.{Blocks}
 use Rattle.tables.specs.declared.tasks.Outcome.{Outcome}
 use Rattle.tables.specs.declared.tasks.Request.{Request}
 use Rattle.tables.specs.declared.tasks.Task.{Task}
 use Rattle.tables.specs.declared.semaphores.Semaphore as state
-use Rattle.tables.specs.Layout.{OneOf, fitting, record-in, bound, Regions, named, regions, but, written, byte-written, region-length}
+use Rattle.tables.specs.Layout.{OneOf, fitting, record-in, bound, Regions, named, regions, but, written, region-length}
 use Rattle.tables.specs.Planes.{blocksAt}
-use Rattle.tables.specs.Decode.{outcomeOf, requestOf, outcomeBytes, requestBytes, stateOf, stateByte, viewOutcome, viewRequest, viewSemaphore, viewTask, recordOf}
-use Rattle.tables.specs.Encoded.{Waiter, AsksFor, outcome-back, request-back, state-back}
-use Rattle.tables.specs.Shows.{waitingIn, taskAt, tasksIn, semaphoreAt, Shown, Shows}
-use Rattle.tables.specs.Items.{withTasks, withSemaphores, task-is, task-shown, semaphore-shown}
+use Rattle.tables.specs.Decode.{outcomeOf, requestOf, outcomeBytes, requestBytes, viewOutcome, viewRequest, viewTask, recordOf}
+use Rattle.tables.specs.Encoded.{AsksFor, outcome-back, request-back}
+use Rattle.tables.specs.Shows.{waitingIn, taskAt, tasksIn, Shown, Shows}
+use Rattle.tables.specs.Items.{withTasks, task-is, task-shown}
 
 -- what is shown in the regions of other bytes
 pub shows-as : (c : Config) (s : Shape) (L : Ledger) (d z w d' z' : List ℕ) (p : Regions) → Shows c s L d z w → length d' ≡ length d → length z' ≡ length z

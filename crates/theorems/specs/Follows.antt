@@ -1,10 +1,10 @@
 -- A list of calls goes as the ledger goes, from any ledger that the memory shows and that has no message twice: each call finds the
 -- memory lent well and showing the ledger, and leaves it so.
 use Prim.Native.Nat.{ℕ}
-use mathlib.Core.Path.{_≡_, refl, ap, ap₂, sym, _∙_, subst}
+use mathlib.Core.Path.{_≡_, refl, ap₂, sym, _∙_, subst}
 use mathlib.Core.Bool.{true}
 use mathlib.Core.List.{List, _∷_}
-use Rattle.ledger.specs.Config.{Config, controller}
+use Rattle.ledger.specs.Config.{Config}
 use Rattle.ledger.specs.Ledger.{Ledger}
 use Rattle.ledger.specs.Session.{step, runFrom}
 use Rattle.ledger.specs.Theorems.Once.{Once, once-step}

@@ -8,7 +8,6 @@ ghost use mathlib.Core.List.{map};
 ghost use Prim.Native.Nat.{_+_, _-_, _*_, _^_, _<_, _≤_, min};
 ghost use lib.ListN.{length};
 ghost use Rattle.ledger.specs.Lists.{any, keep, insertBy};
-ghost use Rattle.rows.specs.Splice.{splice};
 ghost use Rattle.rows.specs.Four.{le4};
 ghost use Rattle.rows.specs.Rows.{insertAt, removeAt};
 ghost use Rattle.timers.specs.Timers.{rowOf, timer, entry, leftAt, recordAt, recordsIn, timersIn, untilDue};

@@ -8,36 +8,35 @@ use plain_executive::numbers::Number;
 use plain_executive::semaphore::Semaphore;
 use plain_executive::tasks::{self, Block, Letter};
 
-extern "C" {
-    fn mcx11_configure_blocks(
-        frame: *const u8,
-        bytes: usize,
-        config: *mut u8,
-        config_bytes: usize,
-        tables: *mut u8,
-        tables_bytes: usize,
-        slots: *mut u8,
-        slots_bytes: usize,
-        timers: *mut u8,
-        timers_bytes: usize,
-        answer: *mut u8,
-        answer_bytes: usize,
-    ) -> u8;
-    fn mcx11_frame_blocks(
-        frame: *const u8,
-        bytes: usize,
-        config: *const u8,
-        config_bytes: usize,
-        tables: *mut u8,
-        tables_bytes: usize,
-        slots: *mut u8,
-        slots_bytes: usize,
-        timers: *mut u8,
-        timers_bytes: usize,
-        answer: *mut u8,
-        answer_bytes: usize,
-    ) -> u8;
+/// Declares functions of the header that take the frame and the five blocks, each as its address and its length.
+macro_rules! exported {
+    ($($function:ident),*) => {
+        extern "C" {
+            $(pub fn $function(
+                frame: *const u8,
+                bytes: usize,
+                config: *mut u8,
+                config_bytes: usize,
+                tables: *mut u8,
+                tables_bytes: usize,
+                slots: *mut u8,
+                slots_bytes: usize,
+                timers: *mut u8,
+                timers_bytes: usize,
+                answer: *mut u8,
+                answer_bytes: usize,
+            ) -> u8;)*
+        }
+    };
 }
+
+exported!(mcx11_configure_blocks, mcx11_frame_blocks);
+
+/// Such a function.
+#[rustfmt::skip]
+pub type Exported = unsafe extern "C" fn(
+    *const u8, usize, *mut u8, usize, *mut u8, usize, *mut u8, usize, *mut u8, usize, *mut u8, usize,
+) -> u8;
 
 /// The least sizes of the five blocks.
 pub const SIZES: [usize; 5] = [208, 7517, 2024, 659, 21];
@@ -58,37 +57,36 @@ pub const PLANE: usize = 16;
 /// Five blocks of bytes: config, tables, slots, timers, answer.
 pub type Blocks<'a> = [&'a mut [u8]; 5];
 
-/// Calls an exported function with a frame and these blocks, each as its address and its length.
-macro_rules! call {
-    ($function:ident, $frame:expr, $blocks:expr) => {{
-        let [config, tables, slots, timers, answer] = $blocks;
-        unsafe {
-            $function(
-                $frame.as_ptr(),
-                $frame.len(),
-                config.as_mut_ptr(),
-                config.len(),
-                tables.as_mut_ptr(),
-                tables.len(),
-                slots.as_mut_ptr(),
-                slots.len(),
-                timers.as_mut_ptr(),
-                timers.len(),
-                answer.as_mut_ptr(),
-                answer.len(),
-            )
-        }
-    }};
+/// Calls such a function with a frame and these blocks.
+///
+/// # Safety
+///
+/// The function keeps to the lengths.
+pub unsafe fn call(function: Exported, frame: &[u8], [config, tables, slots, timers, answer]: Blocks) -> Number {
+    function(
+        frame.as_ptr(),
+        frame.len(),
+        config.as_mut_ptr(),
+        config.len(),
+        tables.as_mut_ptr(),
+        tables.len(),
+        slots.as_mut_ptr(),
+        slots.len(),
+        timers.as_mut_ptr(),
+        timers.len(),
+        answer.as_mut_ptr(),
+        answer.len(),
+    )
 }
 
 /// Configures over these blocks.
 pub fn configure(frame: &[u8], blocks: Blocks) -> Number {
-    call!(mcx11_configure_blocks, frame, blocks)
+    unsafe { call(mcx11_configure_blocks, frame, blocks) }
 }
 
 /// Feeds a frame to these blocks.
 pub fn feed(frame: &[u8], blocks: Blocks) -> Number {
-    call!(mcx11_frame_blocks, frame, blocks)
+    unsafe { call(mcx11_frame_blocks, frame, blocks) }
 }
 
 /// The five blocks that a host lends.
@@ -116,12 +114,17 @@ impl Lent {
         [&mut self.config, &mut self.tables, &mut self.slots, &mut self.timers, &mut self.answer]
     }
 
+    /// As the C functions take them.
+    pub fn lend(&mut self) -> Blocks {
+        self.blocks_mut().map(Vec::as_mut_slice)
+    }
+
     pub fn configure(&mut self, frame: &[u8]) -> Number {
-        configure(frame, self.blocks_mut().map(Vec::as_mut_slice))
+        configure(frame, self.lend())
     }
 
     pub fn frame(&mut self, frame: &[u8]) -> Number {
-        feed(frame, self.blocks_mut().map(Vec::as_mut_slice))
+        feed(frame, self.lend())
     }
 
     /// The answer to the last call.

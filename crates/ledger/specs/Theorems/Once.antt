@@ -10,7 +10,7 @@ use borrow.Author.Tests.{eqb-true, not-false}
 use lib.Dec.{ltb, eqb}
 use Rattle.ledger.specs.Lists.{at, put, any, insertBy}
 use Rattle.ledger.specs.Config.{Config}
-use Rattle.ledger.specs.Ledger.{Semaphore, PENDING, DONE, WAITING, plain, refused, Request, none, receive, dequeue, enqueue, Message, Timer, Ledger, semaphoreOf, mailbox, running, setOutcome, setRequest, setSuspended, setMessageWait, fresh}
+use Rattle.ledger.specs.Ledger.{Semaphore, PENDING, DONE, WAITING, plain, refused, Request, none, receive, dequeue, enqueue, Message, Timer, Ledger, semaphoreOf, running, setOutcome, setRequest, setSuspended, setMessageWait, fresh}
 use Rattle.ledger.specs.Services.{signalled, signal, woken, wakeWaiter, waited, wait, send, wanted, notEmpty, notFull, takeEntry, putEntry, received, dequeued, enqueued, issue, terminate, execute, purge, insertAgain, expire, expireAll, tock, tick, Code, WAIT, SIGNAL, PEND, SEND, SENDW, RECEIVE, DEQUEUE, ENQUEUE, RESUME, SUSPEND, TERMINATE, EXECUTE, DELAY, TIMER, PURGE, TICK, EXIT, effect}
 use Rattle.ledger.specs.Refusals.{fields, call, isMessage, inAMailbox, fromInput, fromState, refusal}
 use Rattle.ledger.specs.Session.{openRequest, isOpen, refused21, issueAgain, reissue, settle, accept, step}

@@ -1,7 +1,7 @@
 -- Where the head is good and the frame as long as it says, its queues lie within it, and their room says the rest.
 use native.Mathlib.Omega.{arith}
 use denote.Ref.{now}
-use mathlib.Core.Path.{_≡_, sym, _∙_}
+use mathlib.Core.Path.{sym, _∙_}
 use borrow.Author.Tests.{not-true, not-false}
 use Rattle.configuration.specs.Limits.{limitsOf}
 use Rattle.configuration.specs.Lent.{lent-short, lent-head, lent-room, lent-good}

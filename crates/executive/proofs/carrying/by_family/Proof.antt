@@ -1,6 +1,6 @@
 -- `by_family`: each family does what the ledger does with its codes; the tick and the interrupt exit are no services.
-use mathlib.Core.Path.{_≡_, subst, sym, ap, _∙_}
-use Prim.Native.Nat.{ℕ, _+_, _*_, _%_}
+use mathlib.Core.Path.{_≡_}
+use Prim.Native.Nat.{_+_, _*_}
 use native.Mathlib.Omega.{arith}
 use denote.Ref.{now}
 use lib.ListN.{drop}

@@ -1,9 +1,9 @@
 -- `carried`: the meant fields by the code's row, the plain outcome, and the code's effect: together the ledger's `accept`.
-use mathlib.Core.Path.{_≡_, refl, sym, ap, _∙_}
+use mathlib.Core.Path.{refl, sym, ap, _∙_}
 use native.Mathlib.Omega.{arith}
 use denote.Ref.{now}
-use mathlib.Core.Bool.{Bool, true, cond}
-use Rattle.ledger.specs.Ledger.{Ledger, plain, setOutcome}
+use mathlib.Core.Bool.{Bool, cond}
+use Rattle.ledger.specs.Ledger.{plain, setOutcome}
 use Rattle.ledger.specs.Refusals.{fields, codeAt}
 use Rattle.ledger.specs.Theorems.Accepted.{good}
 use Rattle.tables.specs.Shows.{moved}

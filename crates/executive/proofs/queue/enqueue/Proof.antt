@@ -1,5 +1,5 @@
 -- `enqueue`: the entry is the part of the frame behind its fifth byte, as wide as the ring's entries.
-use mathlib.Core.Path.{_≡_, subst, sym, ap, _∙_}
+use mathlib.Core.Path.{sym, ap, _∙_}
 use mathlib.Core.List.{List}
 use Prim.Native.Nat.{ℕ}
 use native.Mathlib.Omega.{arith}

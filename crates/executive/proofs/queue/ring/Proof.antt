@@ -1,5 +1,5 @@
 -- `ring`: the ring of the block lies within the tables.
-use mathlib.Core.Path.{_≡_, subst, sym, ap, _∙_}
+use mathlib.Core.Path.{subst, sym}
 use native.Mathlib.Omega.{arith}
 use Rattle.queues.specs.Rings.{RingFits, ring-fits}
 use denote.Ref.{now}
