@@ -6,7 +6,7 @@ use native.Mathlib.Omega.{arith}
 use lib.Dec.{eqb, leb, ltb}
 use borrow.Author.Tests.{ne-eqb, eqb-false, le-leb, lt-leb, leb-true, ltb-true}
 use Rattle.tables.specs.declared.tasks.Outcome.{Outcome}
-use Rattle.tables.specs.declared.tasks.Outcome.the-variants.{Plain, Begin, Message, Entry, Refused, Semaphore}
+use Rattle.tables.specs.declared.tasks.Outcome.the-variants.{Plain, Begin, Message, Entry, Refused, Semaphore, Woke}
 use Rattle.tables.specs.declared.tasks.Request.{Request}
 use Rattle.tables.specs.declared.tasks.Request.the-variants.{None, Receive, Dequeue, Enqueue}
 use Rattle.tables.specs.declared.semaphores.Semaphore as state
@@ -38,6 +38,7 @@ outcome-back (Message a b c) = refl
 outcome-back (Entry a) = refl
 outcome-back (Refused a) = refl
 outcome-back (Semaphore a) = refl
+outcome-back (Woke a) = refl
 
 pub request-back : (Q : ℕ) (q : Request) → AsksFor Q q → requestOf Q (requestKind q) (requestArgument q) ≡ q
 request-back Q None w = refl
