@@ -16,7 +16,7 @@ use Rattle.tables.specs.Semaphores.{known}
 use Rattle.ledger.specs.Lists.{at, put}
 use Rattle.ledger.specs.Config.{Config}
 use Rattle.ledger.specs.Ledger as ledger
-use Rattle.ledger.specs.Ledger.{Ledger, Semaphore, PENDING, DONE, WAITING, setSemaphore, setSemaphores}
+use Rattle.ledger.specs.Ledger.{Ledger, Semaphore, setSemaphore, setSemaphores}
 use Rattle.ledger.specs.Services.{signalled, signal, woken, wakeWaiter, waited}
 
 -- ---- by what a semaphore is: v is the case that the match found

@@ -26,8 +26,8 @@ returns c =
     let a = c .before .before .before .before .before .before .before .before .before .args in
     let s = c .before .before .before .before .before .before .signal in
     λ g L z w h.
-        moved (ap (λ (t : ℕ). setOutcome (a .t) (woke t) (ledger.signal (a .b) L .ledger)) (s .ensures .1 g L z w h))
-        (c .before .before .store-outcome .ensures .0 g (ledger.signal (a .b) L .ledger) z w (s .ensures .0 g L z w h))
+    moved (ap (λ (t : ℕ). setOutcome (a .t) (woke t) (ledger.signal (a .b) L .ledger)) (s .ensures .1 g L z w h))
+    (c .before .before .store-outcome .ensures .0 g (ledger.signal (a .b) L .ledger) z w (s .ensures .0 g L z w h))
 
 pub signal-by-spec : {M : Type 1} → statement M
 signal-by-spec = tie.close (tie.spec signal-requires store-outcome-requires same-length returns)
