@@ -115,7 +115,7 @@ impl Lent {
     }
 
     /// As the C functions take them.
-    pub fn lend(&mut self) -> Blocks {
+    pub fn lend(&mut self) -> Blocks<'_> {
         self.blocks_mut().map(Vec::as_mut_slice)
     }
 
