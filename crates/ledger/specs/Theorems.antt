@@ -1,6 +1,6 @@
 -- What is proved of the definitions alone.
 -- The sheet's theorems:
---   Settling: settles, one-end, at-most-2T, loop-at-most-2T. Lowest: lowest-runs. Shown: lowest-shown, reissues-shown. Refused: refused-changes-nothing. HandedOut: handed-out. Sound: sound.
+--   Settling: settles, one-end, at-most-2T, loop-at-most-2T. Lowest: lowest-runs. Shown: lowest-shown, reissues-shown. Refused: refused-changes-nothing. HandedOut: handed-out. HandedOver: handed-over. Sound: sound.
 
 -- laws of lists and of checks
 pub mod Items
@@ -24,6 +24,11 @@ pub mod Steps
 pub mod Kept
 pub mod HandedOut
 pub mod Sound
+-- what the queues hand out lies in slots (HandsOver): slots change by a dequeue alone, and one issue takes at most one entry
+pub mod Untaken
+pub mod Issued
+pub mod HandsOver
+pub mod HandedOver
 -- messages 1 to G, none twice: every step of every ledger keeps it (once-step)
 pub mod Once
 -- lines and frames are inverse to each other (written-reads-back, read-is-the-line); a tock value at every width (negative, lowest); milliseconds as the nearest tocks (nearest-is, only-nearest)
