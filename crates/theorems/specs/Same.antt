@@ -66,9 +66,11 @@ unfolding items
 last-handed g m fs h d before f e =
     let c = configIn g in
     let k = handed-over g h before f in
-    let tasks : run c (before ++ (f ∷ [])) .0 .tasks ≡ itemsIn c m .tasks = ap (λ (gs : List (List ℕ)). run c gs .0 .tasks) (sym e) ∙ ap (λ (i : Items). i .tasks) (items-shown c (run c fs .0) m d) in
-    (k .0, subst (λ (ts : List Task). HandsOver c (run c before .0) (run c fs .0 .queues) ts (k .0)) tasks
-    (subst (λ (gs : List (List ℕ)). HandsOver c (run c before .0) (run c gs .0 .queues) (run c (before ++ (f ∷ [])) .0 .tasks) (k .0)) (sym e) (k .1)))
+    let tasks : run c (before ++ (f ∷ [])) .0 .tasks ≡ itemsIn c m .tasks = ap (λ (gs : List (List ℕ)). run c gs .0 .tasks) (sym e) ∙ ap (λ (i : Items). i .tasks) (items-shown c (run c fs .0) m d) in (
+      k .0,
+      subst (λ (ts : List Task). HandsOver c (run c before .0) (run c fs .0 .queues) ts (k .0)) tasks
+          (subst (λ (gs : List (List ℕ)). HandsOver c (run c before .0) (run c gs .0 .queues) (run c (before ++ (f ∷ [])) .0 .tasks) (k .0)) (sym e) (k .1)),
+    )
 
 whole : (g : List ℕ) (m₀ : Memory) (fs answered : List (List ℕ)) (returned : List ℕ) (m : Memory) → configRefusal g ≡ 0
     → answered ≡ run (configIn g) fs .1 → returned ≡ numbers (configIn g) fs → Displays (configIn g) (run (configIn g) fs .0) m → lentWell m ≡ true
