@@ -5,6 +5,7 @@ use plain_executive::command::SIGNAL;
 use plain_executive::coverage::causes::causes;
 use plain_executive::executive::Executive;
 use plain_executive::generator::{cascade, Generator};
+use plain_executive::items::{OutcomeItem, TaskItem};
 use plain_executive::semaphore::Semaphore;
 use plain_executive::tasks::{Block, Outcome};
 
@@ -87,6 +88,26 @@ fn copied_and_held_is_what_was_put() {
             let seen = [history.copied.clone(), step.after.held(queue)].concat();
             assert_eq!(seen, history.put);
         }
+    });
+}
+
+/// What a frame adds to what was copied stands in slots when the frame ends, each entry in that of another task, whose
+/// outcome it is; no other slot changes.
+#[test]
+fn what_was_copied_stands_in_slots() {
+    each_step(|step| {
+        let (before, after) = (step.before.items(), step.after.items());
+        let histories = step.before.history().expect("kept").iter().zip(step.after.history().expect("kept"));
+        let mut takers: Vec<usize> = Vec::new();
+        for entry in histories.flat_map(|(old, new)| &new.copied[old.copied.len()..]) {
+            let took =
+                |task: &TaskItem| task.slot.starts_with(entry) && task.outcome == OutcomeItem::Entry(entry.clone());
+            let mut places =
+                (0..after.tasks.len()).filter(|place| took(&after.tasks[*place]) && !takers.contains(place));
+            takers.push(places.next().expect("a task that took the entry"));
+        }
+        let changed = before.tasks.iter().zip(&after.tasks).filter(|(old, new)| old.slot != new.slot).count();
+        assert!(changed <= takers.len(), "{changed} slots changed for {} entries", takers.len());
     });
 }
 

@@ -2,6 +2,8 @@
 //!
 //! In a paragraph or an item of a list, what is in backquotes is one of four: a name; the file of all names before it; a
 //! must-fail edit; a command. `Record.field` is a field of that record. Files and edits are below crates/.
+//!
+//! docs/sheet.html, the sheet for printing, is what docs/print-sheet makes of it: with every word, and on two pages.
 
 use std::fs;
 use std::path::{Path, PathBuf};
@@ -174,4 +176,64 @@ fn a_wrong_page_is_found_out() {
             Some(complaint) => assert!(wrong.iter().any(|found| found.contains(complaint)), "{page}: {wrong:?}"),
         }
     }
+}
+
+// ---- the sheet for printing
+
+/// The words of the sheet without its marks: headings, lists, tables, names, bold, slanted, links.
+fn words_of_sheet(sheet: &str) -> Vec<String> {
+    let mut words = Vec::new();
+    for line in sheet.lines().filter(|line| !line.starts_with("|---")) {
+        let rest = line.trim_start_matches(|c: char| c.is_ascii_digit());
+        let line = if rest.len() < line.len() { rest.strip_prefix(". ").unwrap_or(line) } else { line };
+        let line = ["# ", "## ", "- "].iter().find_map(|mark| line.strip_prefix(mark)).unwrap_or(line);
+        let line = line.replace(['`', '*', '|'], if line.starts_with('|') { " " } else { "" });
+        let mut plain = String::new();
+        for part in line.split("](") {
+            // behind a link's text comes where it leads
+            plain.push_str(if plain.is_empty() { part } else { part.split_once(')').map_or(part, |(_, rest)| rest) });
+        }
+        words.extend(plain.replace('[', "").split_whitespace().map(String::from));
+    }
+    words
+}
+
+/// The words between the tags of a page's body.
+fn words_of_page(page: &str) -> Vec<String> {
+    let body = page.split_once("<body>").expect("a body").1;
+    let mut plain = String::new();
+    for part in body.replace("</td><td>", " ").replace("</th><th>", " ").split('<') {
+        plain.push_str(part.split_once('>').map_or(part, |(_, text)| text));
+    }
+    let plain = plain.replace("&lt;", "<").replace("&gt;", ">").replace("&amp;", "&");
+    plain.split_whitespace().map(String::from).collect()
+}
+
+#[test]
+fn the_sheet_for_printing_is_made_of_the_sheet() {
+    let made = Command::new(repository().join("docs/print-sheet")).output().expect("docs/print-sheet");
+    assert!(made.status.success(), "{}", String::from_utf8_lossy(&made.stderr));
+    let page = text("docs/sheet.html").expect("docs/sheet.html");
+    assert!(made.stdout == page.as_bytes(), "docs/sheet.html is old: docs/print-sheet > docs/sheet.html");
+    let sheet = words_of_sheet(&text("docs/SHEET.md").expect("docs/SHEET.md"));
+    assert_eq!(words_of_page(&page), sheet);
+}
+
+/// Only where chromium is installed.
+#[test]
+fn it_prints_on_two_pages() {
+    let folder = Path::new(env!("CARGO_TARGET_TMPDIR"));
+    let (pdf, profile) = (folder.join("sheet.pdf"), folder.join("sheet-profile"));
+    let page = repository().join("docs/sheet.html").canonicalize().expect("docs/sheet.html");
+    let mut chromium = Command::new("chromium");
+    chromium.args(["--headless", "--no-sandbox", "--disable-gpu", "--disable-dev-shm-usage", "--no-pdf-header-footer"]);
+    chromium.arg(format!("--user-data-dir={}", profile.display())).arg(format!("--print-to-pdf={}", pdf.display()));
+    let Ok(printed) = chromium.arg(format!("file://{}", page.display())).output() else {
+        eprintln!("chromium is missing: not printed");
+        return;
+    };
+    assert!(printed.status.success(), "{}", String::from_utf8_lossy(&printed.stderr));
+    let pdf = fs::read(pdf).expect("a PDF");
+    let pages = String::from_utf8_lossy(&pdf).matches("/Type /Page\n").count();
+    assert_eq!(pages, 2, "docs/sheet.html takes {pages} pages");
 }

@@ -78,7 +78,9 @@ fn answer_line(
     printed: usize,
 ) -> Answered
     requires { ⌜ Full (memory (now config) (now tables) (now slots) (now timers) (now answer)) × (printed + 41 ≤ length (now out)) ⌝ }
-    ensures { λ r. ⌜ (r .printed ≤ printed + 41) × Says (now (line .entry)) stage (memory (now (config .entry)) (now (tables .entry)) (now (slots .entry)) (now (timers .entry)) (now (answer .entry))) (now (out .entry)) printed (memory (now (config .exit)) (now (tables .exit)) (now (slots .exit)) (now (timers .exit)) (now (answer .exit))) (now (out .exit)) r ⌝ }
+    ensures { λ r. let m = memory (now (config .entry)) (now (tables .entry)) (now (slots .entry)) (now (timers .entry)) (now (answer .entry)) in
+        let m' = memory (now (config .exit)) (now (tables .exit)) (now (slots .exit)) (now (timers .exit)) (now (answer .exit)) in
+        ⌜ (r .printed ≤ printed + 41) × Says (now (line .entry)) stage m (now (out .entry)) printed m' (now (out .exit)) r ⌝ }
 {
     match stage {
         Stage::First => {
@@ -114,8 +116,12 @@ fn turn(
     answer: &mut [u8],
     out: &mut [u8],
 ) -> Reached
-    requires { ⌜ (reached .next < length (now input)) × (reached .held ≤ most) × (reached .printed + 41 ≤ length (now out)) × (most ≤ length (now line)) × Full (memory (now config) (now tables) (now slots) (now timers) (now answer)) ⌝ }
-    ensures { λ r. ⌜ (reached .next < r .next) × (r .next ≤ length (now (input .entry))) × (r .held ≤ most) × (r .printed ≤ reached .printed + 41) × Feeds (cut (now (input .entry)) (reached .next) (r .next)) reached (lent (now (line .entry)) (memory (now (config .entry)) (now (tables .entry)) (now (slots .entry)) (now (timers .entry)) (now (answer .entry))) (now (out .entry))) r (lent (now (line .exit)) (memory (now (config .exit)) (now (tables .exit)) (now (slots .exit)) (now (timers .exit)) (now (answer .exit))) (now (out .exit))) ⌝ }
+    requires { ⌜ (reached .next < length (now input)) × (reached .held ≤ most) × (reached .printed + 41 ≤ length (now out))
+        × (most ≤ length (now line)) × Full (memory (now config) (now tables) (now slots) (now timers) (now answer)) ⌝ }
+    ensures { λ r. let x = lent (now (line .entry)) (memory (now (config .entry)) (now (tables .entry)) (now (slots .entry)) (now (timers .entry)) (now (answer .entry))) (now (out .entry)) in
+        let x' = lent (now (line .exit)) (memory (now (config .exit)) (now (tables .exit)) (now (slots .exit)) (now (timers .exit)) (now (answer .exit))) (now (out .exit)) in
+        ⌜ (reached .next < r .next) × (r .next ≤ length (now (input .entry))) × (r .held ≤ most) × (r .printed ≤ reached .printed + 41)
+        × Feeds (cut (now (input .entry)) (reached .next) (r .next)) reached x r x' ⌝ }
 {
     let g = gather(input, reached.next, line, reached.held);
     let stage = reached.stage;
@@ -160,8 +166,12 @@ pub fn feed(
     answer: &mut [u8],
     out: &mut [u8],
 ) -> Reached
-    requires { ⌜ (reached .next ≤ length (now input)) × (reached .held ≤ most) × (reached .printed ≤ 41 * reached .next) × (41 * length (now input) ≤ length (now out)) × (most ≤ length (now line)) × Full (memory (now config) (now tables) (now slots) (now timers) (now answer)) ⌝ }
-    ensures { λ r. ⌜ (r .next ≡ length (now (input .entry))) × (r .held ≤ most) × (r .printed ≤ length (now (out .entry))) × Feeds (drop (reached .next) (now (input .entry))) reached (lent (now (line .entry)) (memory (now (config .entry)) (now (tables .entry)) (now (slots .entry)) (now (timers .entry)) (now (answer .entry))) (now (out .entry))) r (lent (now (line .exit)) (memory (now (config .exit)) (now (tables .exit)) (now (slots .exit)) (now (timers .exit)) (now (answer .exit))) (now (out .exit))) ⌝ }
+    requires { ⌜ (reached .next ≤ length (now input)) × (reached .held ≤ most) × (reached .printed ≤ 41 * reached .next) × (41 * length (now input) ≤ length (now out))
+        × (most ≤ length (now line)) × Full (memory (now config) (now tables) (now slots) (now timers) (now answer)) ⌝ }
+    ensures { λ r. let x = lent (now (line .entry)) (memory (now (config .entry)) (now (tables .entry)) (now (slots .entry)) (now (timers .entry)) (now (answer .entry))) (now (out .entry)) in
+        let x' = lent (now (line .exit)) (memory (now (config .exit)) (now (tables .exit)) (now (slots .exit)) (now (timers .exit)) (now (answer .exit))) (now (out .exit)) in
+        ⌜ (r .next ≡ length (now (input .entry))) × (r .held ≤ most) × (r .printed ≤ length (now (out .entry)))
+        × Feeds (drop (reached .next) (now (input .entry))) reached x r x' ⌝ }
 {
     let mut r = reached;
     while r.next < input.len() {
@@ -182,7 +192,8 @@ pub fn finish(
     out: &mut [u8],
 ) -> usize
     requires { ⌜ (reached .held ≤ most) × (reached .printed + 41 ≤ length (now out)) × (most ≤ length (now line)) × Full (memory (now config) (now tables) (now slots) (now timers) (now answer)) ⌝ }
-    ensures { λ r. ⌜ (r ≤ reached .printed + 41) × Ends reached (lent (now (line .entry)) (memory (now (config .entry)) (now (tables .entry)) (now (slots .entry)) (now (timers .entry)) (now (answer .entry))) (now (out .entry))) (now (out .exit)) r ⌝ }
+    ensures { λ r. let x = lent (now (line .entry)) (memory (now (config .entry)) (now (tables .entry)) (now (slots .entry)) (now (timers .entry)) (now (answer .entry))) (now (out .entry)) in
+        ⌜ (r ≤ reached .printed + 41) × Ends reached x (now (out .exit)) r ⌝ }
 {
     let end = reached.held;
     if end == 0 {

@@ -21,7 +21,8 @@ fn length_of(answer: &[u8]) -> usize
 // Prints the answer of the answer block behind what is printed. Gives how many bytes are printed then.
 pub fn print(answer: &[u8], out: &mut [u8], printed: usize) -> usize
     requires { ⌜ (21 ≤ length (now answer)) × (printed + 41 ≤ length (now out)) ⌝ }
-    ensures { λ r. ⌜ (r ≤ printed + 41) × (getD (now (answer .entry)) 0 0 ≤ 20 → take r (now (out .exit)) ≡ take printed (now (out .entry)) ++ input.print (cut (now (answer .entry)) 1 (1 + getD (now (answer .entry)) 0 0))) ⌝ }
+    ensures { λ r. ⌜ (r ≤ printed + 41)
+        × (getD (now (answer .entry)) 0 0 ≤ 20 → take r (now (out .exit)) ≡ take printed (now (out .entry)) ++ input.print (cut (now (answer .entry)) 1 (1 + getD (now (answer .entry)) 0 0))) ⌝ }
 {
     let n = length_of(answer);
     let end = 1 + n;

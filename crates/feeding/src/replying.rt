@@ -69,7 +69,8 @@ pub fn reply_next(
     answer: &mut [u8],
 )
     requires { ⌜ Full (memory (now config) (now tables) (now slots) (now timers) (now answer)) ⌝ }
-    ensures { λ _. ⌜ GoesOn (frameOf (now (line .entry))) (memory (now (config .entry)) (now (tables .entry)) (now (slots .entry)) (now (timers .entry)) (now (answer .entry))) (memory (now (config .entry)) (now (tables .exit)) (now (slots .exit)) (now (timers .exit)) (now (answer .exit))) ⌝ }
+    ensures { λ _. ⌜ GoesOn (frameOf (now (line .entry))) (memory (now (config .entry)) (now (tables .entry)) (now (slots .entry)) (now (timers .entry)) (now (answer .entry)))
+        (memory (now (config .entry)) (now (tables .exit)) (now (slots .exit)) (now (timers .exit)) (now (answer .exit))) ⌝ }
 {
     let mut frame = [0u8; 200];
     let w = line::read(line, &mut frame);

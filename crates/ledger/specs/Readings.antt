@@ -7,7 +7,7 @@ use mathlib.Core.List.{List, [], _∷_, map}
 use mathlib.Core.Option.{none as nothing, some}
 use lib.ListN.{replicate, take}
 use Rattle.ledger.specs.Config.{configIn, configRefusal}
-use Rattle.ledger.specs.Ledger.{PENDING, WAITING, begin, dequeue, Timer, Ledger, task, semaphoreOf, mailbox, queue, held, fresh}
+use Rattle.ledger.specs.Ledger.{PENDING, WAITING, begin, dequeue, Timer, Ledger, emptySlot, task, semaphoreOf, mailbox, queue, held, fresh}
 use Rattle.ledger.specs.Session.{runFrom}
 use Rattle.ledger.specs.Lines.{number, result, frameOf, lineOf, readLine, writeLine, output}
 use Rattle.ledger.specs.Computing.Hex.{hex, letters, text}
@@ -125,6 +125,9 @@ pub record Table : Type 0 where
   two-reissues-in-one-frame : Talk room ("0100010000" ▸ "00020001" ∷ "0701000000" ▸ "00030001" ∷ "0600000000" ▸ "00000000" ∷ "1100010000" ▸ "0001000501"
       ∷ "080100000041" ▸ "00010000" ∷ "0403000001" ▸ "0001000503" ∷ "0701000000" ▸ "0001000341" ∷ "0100010000" ▸ "00030202010103" ∷ [])
   the-slots-other-bytes-stay : take 3 (task (after bare ("08010000004142" ∷ "0701000000" ∷ "080200000043" ∷ "0702000000" ∷ [])) 1 .slot) ≡ 0x43 ∷ 0x42 ∷ 0 ∷ []
+  -- task 1 waits at the empty queue; task 2 puts, and within that frame task 1 takes
+  an-entry-that-was-handed-out-stands-in-the-slot : let l = after two ("0701000000" ∷ "080100000041" ∷ []) in queue l 1 .handedOut ≡ take 1 (task l 1 .slot) ∷ []
+  and-the-other-slots-stay : task (after two ("0701000000" ∷ "080100000041" ∷ [])) 2 .slot ≡ emptySlot
   handed-out-is-what-was-copied-into-slots : queue (after bare ("08010000004142" ∷ "08010000004344" ∷ "0701000000" ∷ [])) 1 .handedOut ≡ (0x41 ∷ 0x42 ∷ []) ∷ []
   -- ---- timers
 
@@ -225,6 +228,8 @@ the-table = record {
   an-enqueue-that-completes-in-settling-leaves-the-outcome = refl;
   two-reissues-in-one-frame = refl;
   the-slots-other-bytes-stay = refl;
+  an-entry-that-was-handed-out-stands-in-the-slot = refl;
+  and-the-other-slots-stay = refl;
   handed-out-is-what-was-copied-into-slots = refl;
   purge-with-B-0-removes-the-timer-on-the-tasks-own = refl;
   purge-ignores-the-high-byte-of-X = refl;

@@ -1,6 +1,6 @@
 -- What is proved of the definitions alone.
 -- The sheet's theorems:
---   Settling: settles, one-end, at-most-2T, loop-at-most-2T. Lowest: lowest-runs. Shown: lowest-shown, reissues-shown. Refused: refused-changes-nothing. HandedOut: handed-out. Sound: sound.
+--   Settling: settles, one-end, at-most-2T, loop-at-most-2T. Lowest: lowest-runs. Shown: lowest-shown, reissues-shown. Refused: refused-changes-nothing. HandedOut: handed-out. HandedOver: handed-over. Sound: sound.
 
 -- laws of lists and of checks
 pub mod Items
@@ -24,6 +24,11 @@ pub mod Steps
 pub mod Kept
 pub mod HandedOut
 pub mod Sound
+-- what the queues hand out lies in slots (HandsOver): slots change by a dequeue alone, and one issue takes at most one entry
+pub mod Untaken
+pub mod Issued
+pub mod HandsOver
+pub mod HandedOver
 -- whom a signal request tells (request-tells), and that nobody else is told (told-by-own-signal)
 pub mod Told
 pub mod Callers

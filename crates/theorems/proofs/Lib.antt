@@ -1,7 +1,16 @@
 pub mod Demand3
+-- the runs of a session
 pub mod OneCall
 pub mod Runs
+pub mod SessionStart
+pub mod SessionOneRun
 pub mod EveryRun
+-- of lines and milliseconds
 pub mod LineRuns
+-- of the session program's functions
 pub mod OneFeed
+pub mod InputRuns
+pub mod InputCalls
+pub mod InputHasRuns
+pub mod InputOneRun
 pub mod ProgramRuns

@@ -33,7 +33,7 @@ use Rattle.ledger.specs.Lines as lines
 use Rattle.ledger.specs.Time as time
 use Rattle.line.specs.Answers.{leftIn}
 use Rattle.mcx11.specs.Results.{returnedLength, returnedTocks, Returns}
-use Rattle.theorems.proofs.EveryRun.{Lendable, room}
+use Rattle.theorems.proofs.SessionStart.{Lendable, room}
 use Rattle.mcx11.proofs.mcx11_read_line as read
 use Rattle.mcx11.proofs.mcx11_read_line.Symbol as read-symbol
 use Rattle.mcx11.proofs.mcx11_read_line.Met as read-met

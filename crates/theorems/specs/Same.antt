@@ -9,12 +9,14 @@ use borrow.Author.Tests.{ne-eqb}
 use lib.ListN.{length, getD, take}
 use Rattle.ledger.specs.Lists.{byte}
 use Rattle.ledger.specs.Config.{Config, configIn, configRefusal}
-use Rattle.ledger.specs.Ledger.{fresh, queue, held}
-use Rattle.ledger.specs.Session.{answer, run, session, refusedConfiguration, items}
+use Rattle.ledger.specs.Ledger.{Task, fresh, queue, held}
+use Rattle.ledger.specs.Session.{answer, run, session, refusedConfiguration, Items, items}
 use Rattle.ledger.specs.Theorems.Parts.{Every}
 use Rattle.ledger.specs.Theorems.Lowest.{TaskRuns, NullRuns}
 use Rattle.ledger.specs.Theorems.Shown.{lowest-shown, reissues-shown}
 use Rattle.ledger.specs.Theorems.HandedOut.{handed-out}
+use Rattle.ledger.specs.Theorems.HandsOver.{Copy, HandsOver}
+use Rattle.ledger.specs.Theorems.HandedOver.{handed-over}
 use Rattle.ledger.specs.Theorems.Once.{Once, once-fresh}
 use Rattle.parts.specs.Parts.{keptFrame}
 use Rattle.mcx11.specs.Contract.{Memory, fullSize, configOf, lentWell, Displays, OutsideStays, OutsideSpared, answering, Configures}
@@ -49,10 +51,26 @@ pub record Same (g : List ℕ) (m₀ : Memory) (fs answered : List (List ℕ)) (
   pub bound : (i : ℕ) → i ≤ length fs → byte 2 (getD answered i []) ≤ 2 * configIn g .T
   -- what a queue handed out, followed by what it holds, is all that was put into it, in order
   pub fifo : (q : ℕ) → let k = queue (run (configIn g) fs .0) q in k .handedOut ++ held k ≡ k .put
+  -- what the last frame f added to what the queues handed out lies in the memory: each entry is the front of the slot of the task that took
+  -- it and is its outcome, no task took two, and all else in the slots is as before f. The list may end after any frame
+  pub handed : (before : List (List ℕ)) (f : List ℕ) → fs ≡ before ++ (f ∷ [])
+      → let c = configIn g in (copies : List Copy) × HandsOver c (run c before .0) (run c fs .0 .queues) (itemsIn c m .tasks) copies
 
 session-is : (g : List ℕ) (fs : List (List ℕ)) → configRefusal g ≡ 0 → run (configIn g) fs .1 ≡ session g fs
 unfolding session
 session-is g fs h = rw h
+
+last-handed : (g : List ℕ) (m : Memory) (fs : List (List ℕ)) → configRefusal g ≡ 0 → Displays (configIn g) (run (configIn g) fs .0) m → (before : List (List ℕ)) (f : List ℕ)
+    → fs ≡ before ++ (f ∷ []) → let c = configIn g in (copies : List Copy) × HandsOver c (run c before .0) (run c fs .0 .queues) (itemsIn c m .tasks) copies
+unfolding items
+last-handed g m fs h d before f e =
+    let c = configIn g in
+    let k = handed-over g h before f in
+    let tasks : run c (before ++ (f ∷ [])) .0 .tasks ≡ itemsIn c m .tasks = ap (λ (gs : List (List ℕ)). run c gs .0 .tasks) (sym e) ∙ ap (λ (i : Items). i .tasks) (items-shown c (run c fs .0) m d) in (
+      k .0,
+      subst (λ (ts : List Task). HandsOver c (run c before .0) (run c fs .0 .queues) ts (k .0)) tasks
+          (subst (λ (gs : List (List ℕ)). HandsOver c (run c before .0) (run c gs .0 .queues) (run c (before ++ (f ∷ [])) .0 .tasks) (k .0)) (sym e) (k .1)),
+    )
 
 whole : (g : List ℕ) (m₀ : Memory) (fs answered : List (List ℕ)) (returned : List ℕ) (m : Memory) → configRefusal g ≡ 0
     → answered ≡ run (configIn g) fs .1 → returned ≡ numbers (configIn g) fs → Displays (configIn g) (run (configIn g) fs .0) m → lentWell m ≡ true
@@ -70,6 +88,7 @@ whole g m₀ fs answered returned m h a n d w k o =
       lowest = rw a (lowest-shown g h fs);
       bound = rw a (reissues-shown (configIn g) fs);
       fifo = handed-out g h fs;
+      handed = last-handed g m fs h d;
     }
 
 -- what a configuration spares, and then every frame

@@ -26,11 +26,11 @@ fresh-named c h = record {
   timers = nil;
 }
 
-through : {c : Config} {X : ℕ → Type 0} (P : Ledger → Type 0) → ((l l′ : Ledger) → Change c X l l′ → P l → P l′) → {l l′ : Ledger} → Changes c X l l′ → P l → P l′
+pub through : {c : Config} {X : ℕ → Type 0} (P : Ledger → Type 0) → ((l l′ : Ledger) → Change c X l l′ → P l → P l′) → {l l′ : Ledger} → Changes c X l l′ → P l → P l′
 through P change start p = p
 through P change (k ⨾ s) p = change _ _ s (through P change k p)
 
-named-through : {c : Config} {X : ℕ → Type 0} {l l′ : Ledger} → Changes c X l l′ → sizes l′ ≡ sizes l → Named c l → Named c l′
+pub named-through : {c : Config} {X : ℕ → Type 0} {l l′ : Ledger} → Changes c X l l′ → sizes l′ ≡ sizes l → Named c l → Named c l′
 unfolding sizes
 named-through {c} k e n = record {
   tasks = ap (λ s. s .tasks) e ∙ n .tasks;

@@ -258,3 +258,8 @@ at-most (suc k) c l = go (isOpen (openRequest l)) refl (at-most k c (reissue c l
 
 pub at-most-2T : (c : Config) (l : Ledger) → settle (2 * c .T) c l .reissues ≤ 2 * c .T
 at-most-2T c l = at-most (2 * c .T) c l
+
+-- where it ends, the running task has no open request
+pub ends-closed : {c : Config} {l l′ : Ledger} {n : ℕ} → Settles c l n l′ → isOpen (openRequest l′) ≡ false
+ends-closed (stops e) = e
+ends-closed (goesOn e s) = ends-closed s
