@@ -22,7 +22,7 @@ use Rattle.timers.specs.Shown.{shown-length, shown-have, shown-start}
 use Rattle.timers.specs.Drained.{nextDue, takeDue, one-fewer, shown-next, shown-take}
 use Rattle.tables.specs.declared.shape.Shape.{Shape}
 use Rattle.tables.specs.Decode.{countOf}
-use Rattle.tables.specs.Shows.{Shows}
+use Rattle.tables.specs.Shows.{ShowsAs}
 use Rattle.clock.specs.Held.{Holds, heldIn, lent, held-same, held-counted}
 use Rattle.clock.specs.Does.{DoesTimers, TellsTimers, purged, held-shown, timers-stored}
 use Rattle.clock.specs.Tocks.{tock-does}
@@ -62,7 +62,7 @@ module _ (s : Shape) (w : List ℕ) (h : Holds s (length w)) (n : ℕ) (counts :
       after-held = rw byte (held-counted s w h n counts ys m f)
 
       pub start-does : (a b left p : ℕ) → timersIn m ys ≡ insertBy tocksLeft (timer a b left p) (timersIn n (cut w 1 (length w)))
-          → (c : Config) (L : Ledger) (d z : List ℕ) (v : TockValue) → tocks v ≡ left → period v ≡ p → Shows c s L d z w → Shows c s (startTimer a b v L) d z after
+          → (tidy : Bool) (c : Config) (L : Ledger) (d z : List ℕ) (v : TockValue) → tocks v ≡ left → period v ≡ p → ShowsAs tidy c s L d z w → ShowsAs tidy c s (startTimer a b v L) d z after
       unfolding startTimer insertTimer setTimers timerLeft
       start-does a b left p e c L d z v el ep g =
           timers-stored c s L d z w g after _ after-length

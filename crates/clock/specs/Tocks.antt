@@ -17,7 +17,7 @@ use Rattle.timers.specs.Shown.{shown-tock, shown-signal}
 use Rattle.timers.specs.Drained.{drained, tock-is, nextDue, takeDue, one-fewer, shown-due, shown-take, drained-next, drain-ends}
 use Rattle.tables.specs.declared.shape.Shape.{Shape}
 use Rattle.tables.specs.Layout.{Regions, regions}
-use Rattle.tables.specs.Shows.{Shows, Does, Tells}
+use Rattle.tables.specs.Shows.{ShowsAs, Does, Tells}
 use Rattle.tables.specs.Items.{withMessages, clock-shown}
 use Rattle.clock.specs.Held.{heldIn}
 use Rattle.clock.specs.Does.{DoesTimers, TellsTimers, held-of, held-shown}
@@ -35,8 +35,8 @@ drainedTimes (suc n) M = drainedTimes n (signal (nextDue M .semaphore) (takeDue 
 pub record Advanced (s : Shape) (d w d' w' : List ℕ) (n : ℕ) : Type 0 where
   pub few : n ≤ s .timers
   pub enough : n ≤ dueIn (heldIn s w')
-  pub clock : (c : Config) (L : Ledger) (z : List ℕ) → Shows c s L d z w → Shows c s (clocked c L) d' z w'
-  pub whole : (c : Config) (L : Ledger) (z : List ℕ) → Shows c s L d z w → tick c L ≡ drainedTimes n (clocked c L)
+  pub clock : {tidy : Bool} (c : Config) (L : Ledger) (z : List ℕ) → ShowsAs tidy c s L d z w → ShowsAs tidy c s (clocked c L) d' z w'
+  pub whole : {tidy : Bool} (c : Config) (L : Ledger) (z : List ℕ) → ShowsAs tidy c s L d z w → tick c L ≡ drainedTimes n (clocked c L)
 
 -- ---- as often as timers are due, it is the ledger's tock
 drained-times : (n : ℕ) (M : Ledger) (l : List TimerLeft) → map (timerLeft M) (M .timers) ≡ l → dueIn l ≡ n → drained M ≡ drainedTimes n M
@@ -47,8 +47,8 @@ drained-times (suc n) M l shown e =
     ∙ drained-times n (signal (nextDue M .semaphore) (takeDue M)) (takenDue l) (shown-signal (takeDue M) (shown-take M shown) (nextDue M .semaphore)) (omega (arith, one-fewer l (omega arith)))
 
 -- ---- a tock has passed for the timers of the block
-pub tock-does : (c : Config) (s : Shape) (L : Ledger) (d z w w' : List ℕ) → Shows c s L d z w → length w' ≡ length w → heldIn s w' ≡ map tocked (heldIn s w)
-    → Shows c s (setClock (suc (L .N)) (L .ticks) L) d z w'
+pub tock-does : {tidy : Bool} (c : Config) (s : Shape) (L : Ledger) (d z w w' : List ℕ) → ShowsAs tidy c s L d z w → length w' ≡ length w → heldIn s w' ≡ map tocked (heldIn s w)
+    → ShowsAs tidy c s (setClock (suc (L .N)) (L .ticks) L) d z w'
 unfolding setClock timerLeft withMessages
 tock-does c s L d z w w' h e new =
     let p : Regions = regions s d in
@@ -67,7 +67,7 @@ module _ (s : Shape) (d w d' : List ℕ) where
       → Advanced s d w d' w 0
   unfolding clocked tick drainedTimes
   no-tock b e tells does =
-      let test : (c : Config) (L : Ledger) (z : List ℕ) → Shows c s L d z w → ltb (suc (L .ticks)) (c .K) ≡ true = λ c L z h. not-false _ (sym (tells c L z w h) ∙ e) in
+      let test : (tidy : Bool) (c : Config) (L : Ledger) (z : List ℕ) → ShowsAs tidy c s L d z w → ltb (suc (L .ticks)) (c .K) ≡ true = λ c L z h. not-false _ (sym (tells c L z w h) ∙ e) in
       record {
         few = omega arith;
         enough = omega arith;
@@ -79,8 +79,8 @@ module _ (s : Shape) (d w d' : List ℕ) where
       → (w' : List ℕ) (n : ℕ) → n ≤ s .timers → n ≡ dueIn (heldIn s w') → DoesTimers s w w' (λ c L. setClock (suc (L .N)) (L .ticks) L) → Advanced s d w d' w' n
   unfolding clocked tick setClock
   a-tock b e tells does w' n f due passes =
-      let test : (c : Config) (L : Ledger) (z : List ℕ) → Shows c s L d z w → ltb (suc (L .ticks)) (c .K) ≡ false = λ c L z h. not-true _ (sym (tells c L z w h) ∙ e) in
-      let shows : (c : Config) (L : Ledger) (z : List ℕ) → Shows c s L d z w → Shows c s (setClock (suc (L .N)) 0 L) d' z w' = λ c L z h. passes c (setClock (L .N) 0 L) d' z (rw e at (does c L z w h)) in
+      let test : (tidy : Bool) (c : Config) (L : Ledger) (z : List ℕ) → ShowsAs tidy c s L d z w → ltb (suc (L .ticks)) (c .K) ≡ false = λ c L z h. not-true _ (sym (tells c L z w h) ∙ e) in
+      let shows : (tidy : Bool) (c : Config) (L : Ledger) (z : List ℕ) → ShowsAs tidy c s L d z w → ShowsAs tidy c s (setClock (suc (L .N)) 0 L) d' z w' = λ c L z h. passes c (setClock (L .N) 0 L) d' z (rw e at (does c L z w h)) in
       record {
         few = f;
         enough = omega arith;
@@ -100,7 +100,7 @@ drained-last (suc n) M = drained-last n (signal (nextDue M .semaphore) (takeDue 
 
 -- k turns lead from the memory d₀, w₀ where the loop begins to d, w
 abbrev pub Turned : Shape → (d₀ w₀ d w : List ℕ) → ℕ → Type 0
-Turned s d₀ w₀ d w k = (c : Config) (M : Ledger) (z : List ℕ) → Shows c s M d₀ z w₀ → Shows c s (drainedTimes k M) d z w
+Turned s d₀ w₀ d w k = (tidy : Bool) (c : Config) (M : Ledger) (z : List ℕ) → ShowsAs tidy c s M d₀ z w₀ → ShowsAs tidy c s (drainedTimes k M) d z w
 
 pub no-turn : (s : Shape) (d w : List ℕ) → Turned s d w d w 0
 unfolding drainedTimes
@@ -111,12 +111,12 @@ module _ (s : Shape) (d₀ w₀ d w : List ℕ) where
       → Does s d d' (λ c L. signal b L) → Turned s d₀ w₀ d' w' (k + 1)
   turn-done d' w' k b t tells takes signals c L z h =
       let M : Ledger = drainedTimes k L in
-      let g : Shows c s M d z w = t c L z h in
-      subst (λ (x : Ledger). Shows c s x d' z w')
+      let g : ShowsAs tidy c s M d z w = t c L z h in
+      subst (λ (x : Ledger). ShowsAs tidy c s x d' z w')
       (ap (λ (x : ℕ). signal x (takeDue M)) (tells c M d z g) ∙ sym (drained-last k L) ∙ ap (λ (x : ℕ). drainedTimes x L) (sym (add-one k)))
       (signals c (takeDue M) z w' (takes c M d z g))
 
   -- as many turns as the tick asks for
   pub ticked : (d' w' : List ℕ) (n k : ℕ) → Advanced s d₀ w₀ d w n → Turned s d w d' w' k → k ≡ n
-      → (c : Config) (L : Ledger) (z : List ℕ) → Shows c s L d₀ z w₀ → Shows c s (tick c L) d' z w'
+      → (tidy : Bool) (c : Config) (L : Ledger) (z : List ℕ) → ShowsAs tidy c s L d₀ z w₀ → ShowsAs tidy c s (tick c L) d' z w'
   ticked d' w' n k a t e c L z h = rw (a .whole c L z h, ← e) (t c (clocked c L) z (a .clock c L z h))

@@ -26,7 +26,7 @@ use Rattle.tables.specs.declared.blocks.Blocks.{Blocks}
 use Rattle.tables.specs.Layout.{ticksAt, countAt, planesAt, recordsAt, Fits, fitting, Regions, regions, region, named, bound, region-at, planes-are}
 use Rattle.tables.specs.Planes.{blocksAt}
 use Rattle.tables.specs.Decode.{stateOf, viewBlocks, viewOutcome, viewRequest, viewSemaphore, viewTask, recordOf}
-use Rattle.tables.specs.Shows.{taskAt, tasksIn, semaphoreCount, semaphoreAt, semaphoresIn, heldAt, queuesIn, pendingOf, mailboxesIn, timersOf, ticksIn, Shown, Of, Shows}
+use Rattle.tables.specs.Shows.{taskAt, tasksIn, semaphoreCount, semaphoreAt, semaphoresIn, heldAt, queuesIn, pendingOf, mailboxesIn, timersOf, ticksIn, Shown, Of, ShowsAs}
 
 -- the kind of the outcome: begin for a runnable task, plain for an idle one
 abbrev pub kindOf : ℕ → ℕ
@@ -169,7 +169,7 @@ module _ (c : Config) (s : Shape) (o : Of c s) (d z w : List ℕ)
   unfolding timersOf
   timers-fresh = sym (rw (none, le-leb 0 (c .R) (omega arith)) (none-in (drop 1 w)))
 
-  fresh-shown : Shown c (fresh c) p z w
+  fresh-shown : Shown tidy c (fresh c) p z w
   unfolding fresh
   fresh-shown =
       record {
@@ -182,5 +182,5 @@ module _ (c : Config) (s : Shape) (o : Of c s) (d z w : List ℕ)
         timers = timers-fresh;
       }
 
-  pub fresh-shows : s .end ≤ length d → 11 + 10 * c .R ≤ length w → Shows c s (fresh c) d z w
+  pub fresh-shows : s .end ≤ length d → 11 + 10 * c .R ≤ length w → ShowsAs tidy c s (fresh c) d z w
   fresh-shows room counted = record { of = o; room = room; slots = omega (arith, o .tasks); counted = omega (arith, o .timers); shown = fresh-shown }

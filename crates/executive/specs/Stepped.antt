@@ -1,6 +1,6 @@
 -- A frame's step over the memory: what it promises, and how its calls come to it.
 use mathlib.Core.Path.{_≡_, refl, sym, ap, _∙_, subst}
-use mathlib.Core.Bool.{true}
+use mathlib.Core.Bool.{Bool, true}
 use mathlib.Core.List.{List}
 use Prim.Native.Nat.{ℕ, _*_, _≤_}
 use native.Mathlib.Omega.{arith}
@@ -9,7 +9,7 @@ use borrow.Author.Tests.{eq-eqb, ne-eqb}
 use Rattle.tables.specs.declared.shape.Shape.{Shape}
 use Rattle.rows.specs.Tab.{tab-length}
 use Rattle.tables.specs.Layout.{Fits, fitting}
-use Rattle.tables.specs.Shows.{tasksIn, Of, Shows, Tells, moved}
+use Rattle.tables.specs.Shows.{tasksIn, Of, ShowsAs, Tells, moved}
 use Rattle.tables.specs.AnyMemory.{some, shows-some}
 use Rattle.mailboxes.specs.Room.{Roomy, soundIn}
 use Rattle.mailboxes.specs.Whole.{room-shown}
@@ -32,11 +32,11 @@ use Rattle.executive.specs.Kept.{Ended}
 pub record Acts (c : Config) (s : Shape) (self : ℕ) (f d z w d' z' w' : List ℕ) (r : Settled) : Type 0 where
   pub low : r .running ≤ s .tasks
   pub few : r .reissues ≤ 2 * s .tasks
-  pub ends : (L : Ledger) → self ≡ running L → Accepted c L (call c self f) → Shows c s L d z w → Ended c s (accept c f L) d' z' w' r
+  pub ends : {tidy : Bool} (L : Ledger) → self ≡ running L → Accepted c L (call c self f) → ShowsAs tidy c s L d z w → Ended c s (accept c f L) d' z' w' r
 
 -- the number, the memory and the answer are the ledger's; a refused frame changes the answer alone
 pub record Steps (c : Config) (s : Shape) (f d z w a d' z' w' a' : List ℕ) (r : ℕ) : Type 0 where
-  pub tells : (L : Ledger) → Shows c s L d z w → (r ≡ refusal c L f) × Shows c s (session.step c f L .ledger) d' z' w' × (a' ≡ written (session.step c f L .answered) a)
+  pub tells : {tidy : Bool} (L : Ledger) → ShowsAs tidy c s L d z w → (r ≡ refusal c L f) × ShowsAs tidy c s (session.step c f L .ledger) d' z' w' × (a' ≡ written (session.step c f L .answered) a)
   pub unchanged : (r ≡ 0 → ⊥) → (d' ≡ d) × (z' ≡ z) × (w' ≡ w)
 
 -- the two ways of a step
@@ -49,11 +49,11 @@ accepted-step : (c : Config) (f : List ℕ) (L : Ledger) → refusal c L f ≡ 0
 unfolding session.step
 accepted-step c f L e = rw (eq-eqb (refusal c L f) 0 e)
 
-tasks-length : (c : Config) (s : Shape) (L : Ledger) (d z w : List ℕ) → Shows c s L d z w → length (L .tasks) ≡ c .T
+tasks-length : {tidy : Bool} (c : Config) (s : Shape) (L : Ledger) (d z w : List ℕ) → ShowsAs tidy c s L d z w → length (L .tasks) ≡ c .T
 unfolding tasksIn
 tasks-length c s L d z w h = ap length (h .shown .tasks) ∙ tab-length (c .T) _
 
-room-of : {c : Config} {s : Shape} {L : Ledger} {d z w : List ℕ} → Shows c s L d z w → (X : FieldX) (a b x : ℕ) → GoodX c L X a b x → soundIn s d ≡ true → isMessage X ≡ true → Roomy s d
+room-of : {c : Config} {s : Shape} {L : Ledger} {d z w : List ℕ} → ShowsAs tidy c s L d z w → (X : FieldX) (a b x : ℕ) → GoodX c L X a b x → soundIn s d ≡ true → isMessage X ≡ true → Roomy s d
 unfolding isMessage
 room-of h noX a b x g e m = never m
 room-of {c} {s} {L} {d} {z} {w} h aMessage a b x g e m =
@@ -62,10 +62,10 @@ room-of h aTockValue a b x g e m = never m
 room-of h aSwitch a b x g e m = never m
 
 module _ (c : Config) (s : Shape) (f d z w a : List ℕ) (self n : ℕ) (runs : Tells s d (λ c L. running L) self) (r : Refuses c s f self d w n) where
-  number-is : (L : Ledger) → Shows c s L d z w → n ≡ refusal c L f
+  number-is : {tidy : Bool} (L : Ledger) → ShowsAs tidy c s L d z w → n ≡ refusal c L f
   number-is L h = r .tells L z h (runs c L z w h)
 
-  pub step-refused : (a' : List ℕ) → (n ≡ 0 → ⊥) → ((L : Ledger) → Shows c s L d z w → self ≡ running L → a' ≡ written (session.answer n 0 L) a) → Steps c s f d z w a d z w a' n
+  pub step-refused : (a' : List ℕ) → (n ≡ 0 → ⊥) → ((tidy : Bool) (L : Ledger) → ShowsAs tidy c s L d z w → self ≡ running L → a' ≡ written (session.answer n 0 L) a) → Steps c s f d z w a d z w a' n
   step-refused a' ne e =
       record {
         tells = λ L h.
@@ -75,7 +75,7 @@ module _ (c : Config) (s : Shape) (f d z w a : List ℕ) (self n : ℕ) (runs : 
         unchanged = λ k. (refl, refl, refl);
       }
 
-  accepted-call : (L : Ledger) → Shows c s L d z w → n ≡ 0 → Accepted c L (call c self f)
+  accepted-call : {tidy : Bool} (L : Ledger) → ShowsAs tidy c s L d z w → n ≡ 0 → Accepted c L (call c self f)
   accepted-call L h e =
       subst (λ (i : ℕ). Accepted c L (call c i f)) (sym (runs c L z w h)) (accepted c L f (tasks-length c s L d z w h) (sym (number-is L h) ∙ e))
 
@@ -84,11 +84,11 @@ module _ (c : Config) (s : Shape) (f d z w a : List ℕ) (self n : ℕ) (runs : 
   unfolding call
   room-found e o (fitting l r) long held sound m =
       let L : Ledger = some c s d z w in
-      let h : Shows c s L d z w = shows-some c s d z w o r long (space held) in
+      let h : ShowsAs tidy c s L d z w = shows-some c s d z w o r long (space held) in
       room-of h (fields (codeAt (byte 0 f)) .X) _ _ _ (accepted-call L h e .X) sound m
 
   pub step-accepted : (d' z' w' a' : List ℕ) (k : Settled) → n ≡ 0 → Acts c s self f d z w d' z' w' k
-      → ((M : Ledger) → Shows c s M d' z' w' → k .running ≡ running M → a' ≡ written (session.answer 0 (k .reissues) M) a) → Steps c s f d z w a d' z' w' a' 0
+      → ((tidy : Bool) (M : Ledger) → ShowsAs tidy c s M d' z' w' → k .running ≡ running M → a' ≡ written (session.answer 0 (k .reissues) M) a) → Steps c s f d z w a d' z' w' a' 0
   step-accepted d' z' w' a' k e acts told =
       record {
         tells = λ L h.

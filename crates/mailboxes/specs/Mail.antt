@@ -1,4 +1,5 @@
 -- Where the messages lie in the tables, and what the tables show once their region and their number are new.
+use mathlib.Core.Bool.{Bool}
 use mathlib.Core.Path.{_≡_, refl, sym, ap, ap₂, _∙_}
 use mathlib.Core.List.{List}
 use Prim.Native.Nat.{ℕ, _+_, _-_, _*_, _<_, _≤_}
@@ -13,7 +14,7 @@ use Rattle.messages.specs.Pending.{Pending, pendingIn, mailboxOf}
 use Rattle.tables.specs.declared.shape.Shape.{Shape}
 use Rattle.tables.specs.Layout.{OneOf, countAt, Laid, Fits, fitting, bound, region, Regions, named, regions, but, written, byte-written, region-at, region-length}
 use Rattle.tables.specs.Decode.{countOf}
-use Rattle.tables.specs.Shows.{Shows, pendingOf}
+use Rattle.tables.specs.Shows.{ShowsAs, pendingOf}
 use Rattle.tables.specs.Items.{withMessages, mailbox-is, mailbox-shown}
 use Rattle.tables.specs.Stored.{shows-as}
 use Rattle.ledger.specs.Config.{Config}
@@ -44,7 +45,7 @@ bytes-are s d = refl
 pub bytes-length : {s : Shape} (d : List ℕ) → Fits s (length d) → length (bytes s d) ≡ s .messages * 4
 bytes-length {s} d f = let l = lies f in length-cut d (s .messageat) (s .bodyat) (l .within) ∙ l .room
 
-module _ (c : Config) (s : Shape) (L : Ledger) (d z w : List ℕ) (h : Shows c s L d z w) where
+module _ {tidy : Bool} (c : Config) (s : Shape) (L : Ledger) (d z w : List ℕ) (h : ShowsAs tidy c s L d z w) where
   pub counter : getD (regions s d .clock) countAt 0 ≡ getD d countAt 0
   unfolding regions named bound
   counter = region-at s d 0 1 (omega arith)
@@ -90,7 +91,7 @@ module _ (s : Shape) (l : Laid s) (d : List ℕ) (space : s .end ≤ length d) (
         ∙ ap (λ (p : Regions). withMessages (set (p .clock) countAt v) (p .messages) p) back-regions
 
 -- what is then shown: one mailbox is new, the others are as they were
-module _ (c : Config) (s : Shape) (L : Ledger) (d z w : List ℕ) (h : Shows c s L d z w) (t : ℕ) (to : OneOf (s .tasks) t) where
+module _ {tidy : Bool} (c : Config) (s : Shape) (L : Ledger) (d z w : List ℕ) (h : ShowsAs tidy c s L d z w) (t : ℕ) (to : OneOf (s .tasks) t) where
   pub mailbox-in : mailbox L t ≡ mailboxOf t (mail s d)
   mailbox-in = mailbox-is c L (regions s d) z w (h .shown) t (to .0, omega (arith, h .of .tasks)) ∙ ap (mailboxOf t) (sym (mail-is c s L d z w h))
 
@@ -110,7 +111,7 @@ module _ (c : Config) (s : Shape) (L : Ledger) (d z w : List ℕ) (h : Shows c s
         ap₂ (λ (t x : ℕ). pendingIn t (countOf (c .G) x) ys) (sym (h .of .tasks)) e ∙ rw (le-leb v (c .G) m)
 
     pub mail-renewed : (x : List Message) → mailboxOf t (pendingIn (s .tasks) v ys) ≡ x → ((u : ℕ) → (t ≡ u → ⊥) → mailboxOf u (pendingIn (s .tasks) v ys) ≡ mailboxOf u (mail s d))
-        → Shows c s (setMailbox t x L) (renewed s d ys v) z w
+        → ShowsAs tidy c s (setMailbox t x L) (renewed s d ys v) z w
     mail-renewed x new others =
         let p : Regions = regions s d in
         shows-as c s L d z w (renewed s d ys v) z (withMessages clock ys p) h (renewed-length s (h .of .laid) d (h .room) ys n v) refl

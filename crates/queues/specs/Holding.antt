@@ -26,7 +26,7 @@ use Rattle.tables.specs.Shows.{begins, heldAt, Of, Shown}
 use Rattle.tables.specs.Items.{withQueues, queue-is, queue-shown}
 use Rattle.queues.specs.Rings.{apart-rings, inside}
 
-module _ (c : Config) (s : Shape) (o : Of c s) (L : Ledger) (p : Regions) (z w : List ℕ) (h : Shown c L p z w)
+module _ {tidy : Bool} (c : Config) (s : Shape) (o : Of c s) (L : Ledger) (p : Regions) (z w : List ℕ) (h : Shown tidy c L p z w)
     (rl : length (p .rings) ≡ 2 * c .Q) (bl : length (p .bodies) ≡ s .end - s .bodyat) (i : ℕ) (hi : i < c .Q) where
   abbrev wide : ℕ
   wide = shape c (suc i) .width
@@ -82,7 +82,7 @@ module _ (c : Config) (s : Shape) (o : Of c s) (L : Ledger) (p : Regions) (z w :
 
   -- the queue in other bytes: it holds what they hold, and the others what they held
   queue-as : (r b : List ℕ) (v : Queue) → held v ≡ heldAt c (withQueues r b p) i → v .taken ≤ length (v .put)
-      → ((j : ℕ) → j < c .Q → (j ≡ i → ⊥) → heldAt c p j ≡ heldAt c (withQueues r b p) j) → Shown c (setQueue (suc i) v L) (withQueues r b p) z w
+      → ((j : ℕ) → j < c .Q → (j ≡ i → ⊥) → heldAt c p j ≡ heldAt c (withQueues r b p) j) → Shown tidy c (setQueue (suc i) v L) (withQueues r b p) z w
   queue-as r b v new few other =
       queue-shown c L p z w h r b (suc i) v (omega arith) (new ∙ ap (heldAt c (withQueues r b p)) (sym last)) few (λ j l ne. other j l (λ e. ne (e ∙ sym last)))
 
@@ -95,7 +95,7 @@ module _ (c : Config) (s : Shape) (o : Of c s) (L : Ledger) (p : Regions) (z w :
   -- ---- put
 
   pub put-shown : (e : List ℕ) → length e ≡ wide → many < deep
-      → Shown c (putEntry (suc i) e L) (withQueues (set (p .rings) (i * 2 + 1) (many + 1)) (splice (p .bodies) (begins c i + wrapOf deep (first + many) * wide) e) p) z w
+      → Shown tidy c (putEntry (suc i) e L) (withQueues (set (p .rings) (i * 2 + 1) (many + 1)) (splice (p .bodies) (begins c i + wrapOf deep (first + many) * wide) e) p) z w
   unfolding putEntry held
   put-shown e el room =
       let r : List ℕ = set (p .rings) (i * 2 + 1) (many + 1) in
@@ -122,7 +122,7 @@ module _ (c : Config) (s : Shape) (o : Of c s) (L : Ledger) (p : Regions) (z w :
 
   pub take-shown : (next : ℕ) (e : List ℕ) (es out : List (List ℕ)) → held (queue L (suc i)) ≡ e ∷ es → next < deep
       → holds wide deep next (many - 1) body ≡ es
-      → Shown c (setQueue (suc i) (record { put = queue L (suc i) .put; taken = suc (queue L (suc i) .taken); handedOut = out }) L)
+      → Shown tidy c (setQueue (suc i) (record { put = queue L (suc i) .put; taken = suc (queue L (suc i) .taken); handedOut = out }) L)
       (withQueues (set (set (p .rings) (i * 2) next) (i * 2 + 1) (many - 1)) (p .bodies) p) z w
   unfolding held
   take-shown next e es out eh ln rest =

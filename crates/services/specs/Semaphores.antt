@@ -1,4 +1,5 @@
 -- Signal, wake and wait, by what the semaphore is: each law takes what the calls of one case ensure.
+use mathlib.Core.Bool.{Bool}
 use mathlib.Core.Path.{_≡_, refl, sym, ap, ap₂, _∙_, subst}
 use mathlib.Core.List.{List, [], _∷_}
 use Prim.Native.Nat.{ℕ, zero, suc, _<_, _≤_}
@@ -11,7 +12,7 @@ use Rattle.tables.specs.declared.semaphores.Semaphore.the-variants.{Waiting}
 use Rattle.tables.specs.Layout.{OneOf, regions}
 use Rattle.tables.specs.Decode.{viewSemaphore}
 use Rattle.tables.specs.Encoded.{Waiter}
-use Rattle.tables.specs.Shows.{semaphoreCount, semaphoreAt, semaphoresIn, Shows, Does, Tells, moved}
+use Rattle.tables.specs.Shows.{semaphoreCount, semaphoreAt, semaphoresIn, ShowsAs, Does, Tells, moved}
 use Rattle.tables.specs.Semaphores.{known}
 use Rattle.ledger.specs.Lists.{at, put}
 use Rattle.ledger.specs.Config.{Config}
@@ -61,7 +62,7 @@ module _ (s : Shape) (d : List ℕ) where
   unfolding signal signalled setSemaphore setSemaphores ledger.semaphoreOf at put waiterOf
   none-signalled b e = subst (λ (n : ℕ). Does s d d (λ c L. signal n L) × Tells s d (λ c L. waiterOf (ledger.semaphoreOf L n)) 0) (sym e) ((λ c L z w h. h), (λ c L z w h. refl))
 
-  beyond : (c : Config) (L : Ledger) (z w : List ℕ) → Shows c s L d z w → (b : ℕ) → s .semaphores < suc b → length (L .semaphores) ≤ b
+  beyond : {tidy : Bool} (c : Config) (L : Ledger) (z w : List ℕ) → ShowsAs tidy c s L d z w → (b : ℕ) → s .semaphores < suc b → length (L .semaphores) ≤ b
   unfolding semaphoresIn semaphoreCount
   beyond c L z w h b g = let l = h .of .laid in omega (arith, ap length (h .shown .semaphores), tab-length (semaphoreCount c) (semaphoreAt c (regions s d)), h .of .tasks, h .of .named, h .of .queues, l .semaphores)
 

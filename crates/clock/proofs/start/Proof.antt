@@ -17,7 +17,7 @@ same-length c = search needs
 returns : tie.Need-returns
 returns c =
     let n = c .before .before .count in
-    λ v el ep g L d z room h. absurd (omega (arith, c .if1 .taken, n .ensures .2 g L d z h, h .of .timers))
+    λ v el ep g L d z room h. absurd (omega (arith, c .if1 .taken, n .ensures .2 tidy g L d z h, h .of .timers))
 
 sub-insert : tie.Need-sub-insert
 sub-insert c = some-byte (c .before .before .before .before .before .pre)

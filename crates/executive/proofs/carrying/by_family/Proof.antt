@@ -56,7 +56,7 @@ same-length-2 c = search needs
 
 returns : tie.Need-returns
 unfolding effect codeAt at
-returns c = let s = c .before .before .before .before .before .before .before .before .before .before .before .before .before in let g = configIn (now (s .args .config)) in let f = now (s .args .frame) in let l = s .pre .2 in let m = s .pre .3 in λ L fr h. by-code g (s .args .shape) (s .args .me) (s .args .a) (s .args .b) (256 * byte 3 f + byte 4 f) (drop 5 f) L (s .args .code) 16 (c .before .before .before .before .before .before .before .match .keys1) (c .before .before .before .before .tick .ensures g L _ h)
+returns c = let s = c .before .before .before .before .before .before .before .before .before .before .before .before .before in let g = configIn (now (s .args .config)) in let f = now (s .args .frame) in let l = s .pre .2 in let m = s .pre .3 in λ L fr h. by-code g (s .args .shape) (s .args .me) (s .args .a) (s .args .b) (256 * byte 3 f + byte 4 f) (drop 5 f) L (s .args .code) 16 (c .before .before .before .before .before .before .before .match .keys1) (c .before .before .before .before .tick .ensures tidy g L _ h)
 
 same-length-3 : tie.Need-same-length-3
 same-length-3 c = search needs
@@ -102,7 +102,7 @@ same-length-11 c = search needs
 
 returns-7 : tie.Need-returns-7
 unfolding effect codeAt at
-returns-7 c = let s = c .before .before .before .before .before .before .before .before .before .before .before .before .before .before .before in let g = configIn (now (s .args .config)) in let f = now (s .args .frame) in let l = s .pre .2 in let m = s .pre .3 in let n : s .args .code ≡ 16 → ⊥ = c .before .before .before .before .before .before .before .before .before .match .rest .1 in let k : s .args .code ≡ 17 = omega (arith, c .before .before .before .before .if5 .left, s .pre .1, n) in λ L fr h. by-code g (s .args .shape) (s .args .me) (s .args .a) (s .args .b) (256 * byte 3 f + byte 4 f) (drop 5 f) L (s .args .code) 17 k (moved (exit-is (s .args .b) L) (c .before .before .signal .ensures .0 g L _ _ h))
+returns-7 c = let s = c .before .before .before .before .before .before .before .before .before .before .before .before .before .before .before in let g = configIn (now (s .args .config)) in let f = now (s .args .frame) in let l = s .pre .2 in let m = s .pre .3 in let n : s .args .code ≡ 16 → ⊥ = c .before .before .before .before .before .before .before .before .before .match .rest .1 in let k : s .args .code ≡ 17 = omega (arith, c .before .before .before .before .if5 .left, s .pre .1, n) in λ L fr h. by-code g (s .args .shape) (s .args .me) (s .args .a) (s .args .b) (256 * byte 3 f + byte 4 f) (drop 5 f) L (s .args .code) 17 k (moved (exit-is (s .args .b) L) (c .before .before .signal .ensures .0 tidy g L _ _ h))
 
 pub by-family-spec : {M : Type 1} → statement M
 by-family-spec =

@@ -34,7 +34,7 @@ returns c =
     λ L w h.
     let g = configIn (now (a .config)) in
     let M = setRequest (a .t) none L in
-    let k = c .before .before .before .before .before .before .before .before .before .store-request .ensures g L (now (a .slots)) w h in
+    let k = c .before .before .before .before .before .before .before .before .before .store-request .ensures tidy g L (now (a .slots)) w h in
     moved (again-yes g (a .t) _ M _ (c .before .before .before .before .before .take-waits .ensures g M (now (a .slots)) w (c .before .before .before .before .before .before .before .before .before .before .before .ring .ensures .0) k) (c .before .before .before .before .if1 .taken)) (c .before .before .store-outcome .ensures .0 g M (now (a .slots)) w k)
 
 dequeue-requires : tie.Need-dequeue-requires
@@ -53,7 +53,7 @@ returns-2 c =
     λ L w h.
     let g = configIn (now (a .config)) in
     let M = setRequest (a .t) none L in
-    let k = c .before .before .before .before .before .before .before .before .before .before .before .before .store-request .ensures g L (now (a .slots)) w h in
+    let k = c .before .before .before .before .before .before .before .before .before .before .before .before .store-request .ensures tidy g L (now (a .slots)) w h in
     moved (again-no g (a .t) _ M _ (c .before .before .before .before .before .before .before .before .take-waits .ensures g M (now (a .slots)) w (c .before .before .before .before .before .before .before .before .before .before .before .before .before .before .ring .ensures .0) k) (c .before .before .before .before .before .before .before .if1 .left)) (c .before .before .before .before .dequeue .ensures g M w (c .before .before .before .before .before .before .before .before .before .before .before .before .before .before .ring .ensures .0) k)
 
 pub dequeue-again-spec : {M : Type 1} → statement M

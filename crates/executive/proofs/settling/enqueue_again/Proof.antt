@@ -47,7 +47,7 @@ returns c =
     λ L z w h.
     let g = configIn (now (a .config)) in
     let M = setRequest (a .t) none L in
-    let k = c .before .before .before .before .before .before .before .before .before .store-request .ensures g L z w h in
+    let k = c .before .before .before .before .before .before .before .before .before .store-request .ensures tidy g L z w h in
     moved (again-yes g (a .t) _ M _ (c .before .before .before .before .before .put-waits .ensures g M z w (c .before .before .before .before .before .before .before .before .before .before .before .before .before .before .before .ring .ensures .0) k) (c .before .before .before .before .if1 .taken)) (c .before .before .store-outcome .ensures .0 g M z w k)
 
 sub-enqueue : tie.Need-sub-enqueue
@@ -74,7 +74,7 @@ returns-2 c =
     λ L z w h.
     let g = configIn (now (a .config)) in
     let M = setRequest (a .t) none L in
-    let k = c .before .before .before .before .before .before .before .before .before .before .before .store-request .ensures g L z w h in
+    let k = c .before .before .before .before .before .before .before .before .before .before .before .store-request .ensures tidy g L z w h in
     let x = entry-is _ _ _ _ (c .before .before .before .before .before .before .before .before .before .before .before .before .before .before .load-waiting .ensures) (ap (λ y. y .width) (r .ensures .0) ∙ width-is g (a .shape) (a .q) (s .pre .3 .0)) in
     moved (ap (λ (y : List ℕ). services.issue g (a .t) (ledger.enqueue (a .q) y) M) x ∙ again-no g (a .t) _ M _ (c .before .before .before .before .before .before .before .put-waits .ensures g M z w (r .ensures .0) k) (c .before .before .before .before .before .before .if1 .left))
     (c .before .before .enqueue .ensures g M z w (r .ensures .0) k)

@@ -58,7 +58,7 @@ returns-2 c =
     let s = c .before .before .before .before .before .before .before .before .before .before .before .before in
     let a = s .args in
     λ L w h e o. let g = configIn (now (a .config)) in
-    turn-open g (a .shape) L (now (a .tables)) (now (a .slots)) w h (a .running) _ _ (s .pre .3) (ap (λ k. k .request) (c .before .before .before .before .before .before .before .load .ensures .0)) (c .before .before .before .before .before .request .given .1) e (c .before .before .receive-again .ensures g L (now (a .slots)) w h)
+    turn-open g (a .shape) L (now (a .tables)) (now (a .slots)) w h (a .running) _ _ (s .pre .3) (ap (λ k. k .request) (c .before .before .before .before .before .before .before .load .ensures .0)) (c .before .before .before .before .before .request .given .1) e (c .before .before .receive-again .ensures tidy g L (now (a .slots)) w h)
 
 same-length-3 : tie.Need-same-length-3
 same-length-3 c = search needs

@@ -58,7 +58,7 @@ same-length-4 c = search needs
 
 returns-3 : tie.Need-returns-3
 unfolding effect fields codeAt at
-returns-3 c = let s = c .before .before .before .before .before .before .before .before .before .before in let r = c .before .before .before .before .match .rest in let n1 : s .args .code ≡ 13 → ⊥ = r .0 .1 in let n2 : s .args .code ≡ 14 → ⊥ = r .1 in let k : s .args .code ≡ 15 = omega (arith, s .pre .2, s .pre .3, n1, n2) in let m : s .args .low ≡ (256 * s .args .high + s .args .low) % 256 = omega (arith, s .fits) in λ self e g L z fr h. by-code g (s .args .shape) self (s .args .a) (s .args .b) (256 * s .args .high + s .args .low) e L (s .args .code) 15 k (moved (ap (λ (n : ℕ). purged (s .args .a) (eqb n 0) (s .args .b) L) m ∙ sym (purge-is (s .args .a) (s .args .b) (256 * s .args .high + s .args .low) L)) (c .before .before .purge .ensures g L _ z h))
+returns-3 c = let s = c .before .before .before .before .before .before .before .before .before .before in let r = c .before .before .before .before .match .rest in let n1 : s .args .code ≡ 13 → ⊥ = r .0 .1 in let n2 : s .args .code ≡ 14 → ⊥ = r .1 in let k : s .args .code ≡ 15 = omega (arith, s .pre .2, s .pre .3, n1, n2) in let m : s .args .low ≡ (256 * s .args .high + s .args .low) % 256 = omega (arith, s .fits) in λ self e g L z fr h. by-code g (s .args .shape) self (s .args .a) (s .args .b) (256 * s .args .high + s .args .low) e L (s .args .code) 15 k (moved (ap (λ (n : ℕ). purged (s .args .a) (eqb n 0) (s .args .b) L) m ∙ sym (purge-is (s .args .a) (s .args .b) (256 * s .args .high + s .args .low) L)) (c .before .before .purge .ensures tidy g L _ z h))
 
 pub serve-spec : {M : Type 1} → statement M
 serve-spec =
