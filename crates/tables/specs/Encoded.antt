@@ -1,11 +1,11 @@
 -- What is stored decodes to what it was, and what is decoded is in range.
-use mathlib.Core.Path.{_≡_, refl, sym, ap}
+use mathlib.Core.Path.{_≡_, refl, sym, ap, _∙_}
 use mathlib.Core.Bool.{Bool, true, false}
 use mathlib.Core.List.{List, [], _∷_, _++_}
-use Prim.Native.Nat.{ℕ, _<_, _≤_}
+use Prim.Native.Nat.{ℕ, _<_, _≤_, min}
 use native.Mathlib.Omega.{arith}
 use lib.Dec.{eqb, leb, ltb}
-use lib.ListN.{length, take}
+use lib.ListN.{length, take, length-take}
 use lib.Seq.{length-take-le}
 use borrow.Author.Tests.{ne-eqb, eqb-false, le-leb, lt-leb, leb-true, ltb-true}
 use Rattle.tables.specs.declared.tasks.Outcome.{Outcome}
@@ -95,6 +95,16 @@ outcome-as (Message a b c) z n h = refl
 outcome-as (Entry a) z n h = let e : a ≡ length (take a z) = sym (length-take-le a z (omega arith)) in ap (λ (x : ℕ). 3 ∷ x ∷ 0 ∷ 0 ∷ []) e
 outcome-as (Refused a) z n h = refl
 outcome-as (Semaphore a) z n h = refl
+
+-- a slot as long as another makes the same bytes of an outcome
+pub outcome-long : (o : Outcome) (x y : List ℕ) → length x ≡ length y → outcomeAs (viewOutcome o x) ≡ outcomeAs (viewOutcome o y)
+unfolding outcomeAs viewOutcome
+outcome-long Plain x y h = refl
+outcome-long Begin x y h = refl
+outcome-long (Message a b c) x y h = refl
+outcome-long (Entry a) x y h = let e : length (take a x) ≡ length (take a y) = length-take a x ∙ ap (min a) h ∙ sym (length-take a y) in ap (λ (n : ℕ). 3 ∷ n ∷ 0 ∷ 0 ∷ []) e
+outcome-long (Refused a) x y h = refl
+outcome-long (Semaphore a) x y h = refl
 
 -- whatever waits beside it
 pub request-as : (c : Config) (q : Request) (e : List ℕ) → requestBytes q ≡ requestAs (viewRequest c q e)
