@@ -2,7 +2,7 @@
 use mathlib.Core.Path.{_≡_, refl, sym, ap, _∙_}
 use mathlib.Core.Bool.{Bool, true, false, not, _&&_, _||_}
 use mathlib.Core.List.{List, map}
-use Prim.Native.Nat.{ℕ, _%_, _<_}
+use Prim.Native.Nat.{ℕ, _%_, _<_, _≤_}
 use native.Mathlib.Omega.{arith}
 use lib.Dec.{eqb}
 use lib.ListN.{length, getD, drop}
@@ -16,7 +16,7 @@ use Rattle.timers.specs.Timers.{timersIn}
 use Rattle.tables.specs.declared.shape.Shape.{Shape}
 use Rattle.tables.specs.Decode.{countOf}
 use Rattle.tables.specs.Layout.{regions}
-use Rattle.tables.specs.Shows.{timersOf, Of, ShowsAs}
+use Rattle.tables.specs.Shows.{timersOf, Of, ShowsAs, Shows}
 use Rattle.tables.specs.Items.{timers-shown}
 use Rattle.clock.specs.Held.{heldIn}
 
@@ -61,12 +61,12 @@ module _ {tidy : Bool} (c : Config) (s : Shape) (L : Ledger) (d z w : List ℕ) 
   held-shown = h .shown .timers ∙ sym (held-of (h .of) w)
 
   -- other bytes, which hold the timers v
-  pub timers-stored : (w' : List ℕ) (v : List Timer) → length w' ≡ length w → map (timerLeft L) v ≡ heldIn s w' → ShowsAs tidy c s (setTimers v L) d z w'
-  timers-stored w' v e new =
+  pub timers-stored : (w' : List ℕ) (v : List Timer) → length w' ≡ length w → map (timerLeft L) v ≡ heldIn s w' → getD w' 0 0 ≤ s .timers → ShowsAs tidy c s (setTimers v L) d z w'
+  timers-stored w' v e new few =
       record {
         of = h .of;
         room = h .room;
         slots = h .slots;
         counted = omega (arith, h .counted);
-        shown = timers-shown c L (regions s d) z w (h .shown) w' v (new ∙ held-of (h .of) w');
+        shown = timers-shown c L (regions s d) z w (h .shown) w' v (new ∙ held-of (h .of) w') (λ q. omega (arith, h .of .timers));
       }

@@ -62,7 +62,7 @@ module _ {tidy : Bool} (c : Config) (s : Shape) (L : Ledger) (d z w : List ℕ) 
       (setClock (L .N) k L)
       (clock-shown c L p z w (h .shown) v w (L .N) k (getD-set-other (p .clock) 0 1 x 0 (λ q. omega arith))
       (e ∙ ap (λ (y : ℕ). c .K - y) (sym (ap (leftOf (c .K)) (getD-set-same (p .clock) 0 x 0 (omega arith)) ∙ left-back (c .K) x lo hi)))
-      (h .shown .timers))
+      (h .shown .timers) (λ q. let y : getD v 0 0 ≡ x = getD-set-same (p .clock) 0 x 0 (omega arith) in (omega arith, omega arith)) (λ q. h .shown .tidily q .timers))
 
   module _ (left after : ℕ) (tocked : Bool) (is : left ≡ leftOf (s .ticks) (getD d 0 0)) (t : AfterTick (s .ticks) left after tocked) where
     passed : L .ticks ≡ s .ticks - left

@@ -29,7 +29,7 @@ returns : tie.Need-returns
 returns c =
     let a = c .before .before .before .before .before .args in
     let n = c .before .before .count in
-    λ tidy g L z w h. holds-told g (a .shape) L (now (a .tables)) z w h (n .result) (n .ensures .0) (a .number) (c .holds .result) (c .holds .ensures)
+    λ g L z w h. holds-told g (a .shape) L (now (a .tables)) z w h (n .result) (n .ensures .0) (a .number) (c .holds .result) (c .holds .ensures)
 
 pub holds-spec : {M : Type 1} → statement M
 holds-spec =
