@@ -31,7 +31,7 @@ module _ {tidy : Bool} (c : Config) (s : Shape) (L : Ledger) (d z w : List ℕ) 
   dequeue-empty e f g =
       let n : held (queue L q) ≡ [] = no-entry (held (queue L q)) (holding c s L d z w h q one r er b many eb em ∙ e) in
       moved (ap (λ (k : ℕ). setRequest t (ledger.dequeue q) (waitFor t k L)) (empty-is c s L d z w h q one r er b many eb em) ∙ ap (λ (y : List (List ℕ)). dequeued c t q y L) (sym n))
-      (g c (waitFor t (b - 1) L) z w (f c L z w h))
+      (g tidy c (waitFor t (b - 1) L) z w (f tidy c L z w h))
 
   pub dequeue-taken : {d₁ d' z' : List ℕ} → (many ≡ 0 → ⊥)
       → ((e : List ℕ) (es : List (List ℕ)) → held (queue L q) ≡ e ∷ es → ShowsAs tidy c s (takeEntry c t q e L) d₁ z' w)
@@ -43,7 +43,7 @@ module _ {tidy : Bool} (c : Config) (s : Shape) (L : Ledger) (d z w : List ℕ) 
       let es : List (List ℕ) = p .1 .0 in
       let n : held (queue L q) ≡ e ∷ es = p .1 .1 in
       moved (ap (λ (k : ℕ). wakeWaiter k (takeEntry c t q e L)) (full-is c s L d z w h q one r er b many eb em) ∙ ap (λ (y : List (List ℕ)). dequeued c t q y L) (sym n))
-      (g c (takeEntry c t q e L) z' w (f e es n))
+      (g tidy c (takeEntry c t q e L) z' w (f e es n))
 
   pub enqueue-full : {d₁ d' : List ℕ} (e : List ℕ) → r .depth ≤ many → Does s d d₁ (λ c L. waitFor t b L)
       → ((tidy : Bool) (L : Ledger) → ShowsAs tidy c s L d₁ z w → ShowsAs tidy c s (setRequest t (ledger.enqueue q e) L) d' z w) → ShowsAs tidy c s (issue c t (ledger.enqueue q e) L) d' z w
@@ -51,7 +51,7 @@ module _ {tidy : Bool} (c : Config) (s : Shape) (L : Ledger) (d z w : List ℕ) 
   enqueue-full e l f g =
       let n : true ≡ full c L q = sym (is-full c s L d z w h q one r er b many eb em l) in
       moved (ap (λ (k : ℕ). setRequest t (ledger.enqueue q e) (waitFor t k L)) (full-is c s L d z w h q one r er b many eb em) ∙ ap (λ (y : Bool). enqueued c t q e y L) n)
-      (g (waitFor t b L) (f c L z w h))
+      (g tidy (waitFor t b L) (f tidy c L z w h))
 
   pub enqueue-put : {d₁ d' : List ℕ} (e : List ℕ) → many < r .depth → (length (held (queue L q)) < r .depth → ShowsAs tidy c s (putEntry q e L) d₁ z w)
       → Does s d₁ d' (λ c L. wakeWaiter (b - 1) L) → ShowsAs tidy c s (issue c t (ledger.enqueue q e) L) d' z w
@@ -59,4 +59,4 @@ module _ {tidy : Bool} (c : Config) (s : Shape) (L : Ledger) (d z w : List ℕ) 
   enqueue-put e l f g =
       let n : false ≡ full c L q = sym (has-room c s L d z w h q one r er b many eb em l) in
       moved (ap (λ (k : ℕ). wakeWaiter k (putEntry q e L)) (empty-is c s L d z w h q one r er b many eb em) ∙ ap (λ (y : Bool). enqueued c t q e y L) n)
-      (g c (putEntry q e L) z w (f (omega (arith, holding c s L d z w h q one r er b many eb em))))
+      (g tidy c (putEntry q e L) z w (f (omega (arith, holding c s L d z w h q one r er b many eb em))))

@@ -12,7 +12,7 @@ use Rattle.tables.specs.declared.semaphores.Semaphore.the-variants.{Waiting}
 use Rattle.tables.specs.Layout.{OneOf, regions}
 use Rattle.tables.specs.Decode.{viewSemaphore}
 use Rattle.tables.specs.Encoded.{Waiter}
-use Rattle.tables.specs.Shows.{semaphoreCount, semaphoreAt, semaphoresIn, ShowsAs, Does, Tells, moved}
+use Rattle.tables.specs.Shows.{semaphoreCount, semaphoreAt, semaphoresIn, ShowsAs, loosely, Does, Tells, moved}
 use Rattle.tables.specs.Semaphores.{known}
 use Rattle.ledger.specs.Lists.{at, put}
 use Rattle.ledger.specs.Config.{Config}
@@ -30,17 +30,17 @@ waiterOf (WAITING t) = t
 module _ (s : Shape) (d : List ℕ) (b : ℕ) (x v : state.Semaphore) (p : Tells s d (λ c L. ledger.semaphoreOf L b) (viewSemaphore x)) (q : x ≡ v) where
   pub signal-arm : {d' : List ℕ} → Does s d d' (λ c L. signalled (viewSemaphore v) b L) → Does s d d' (λ c L. signal b L)
   unfolding signal
-  signal-arm f c L z w h = moved (ap (λ (y : Semaphore). signalled y b L) (known b p q c L z w h)) (f c L z w h)
+  signal-arm f tidy c L z w h = moved (ap (λ (y : Semaphore). signalled y b L) (known b p q c L z w (loosely h))) (f tidy c L z w h)
 
   pub signal-told : Tells s d (λ c L. waiterOf (ledger.semaphoreOf L b)) (waiterOf (viewSemaphore v))
   signal-told c L z w h = ap waiterOf (known b p q c L z w h)
 
   pub wake-arm : {d' : List ℕ} → Does s d d' (λ c L. woken (viewSemaphore v) b L) → Does s d d' (λ c L. wakeWaiter b L)
   unfolding wakeWaiter
-  wake-arm f c L z w h = moved (ap (λ (y : Semaphore). woken y b L) (known b p q c L z w h)) (f c L z w h)
+  wake-arm f tidy c L z w h = moved (ap (λ (y : Semaphore). woken y b L) (known b p q c L z w (loosely h))) (f tidy c L z w h)
 
   pub waited-arm : (t : ℕ) {d' : List ℕ} → Does s d d' (λ c L. waited (viewSemaphore v) t b L) → Does s d d' (λ c L. waited (ledger.semaphoreOf L b) t b L)
-  waited-arm t f c L z w h = moved (ap (λ (y : Semaphore). waited y t b L) (known b p q c L z w h)) (f c L z w h)
+  waited-arm t f tidy c L z w h = moved (ap (λ (y : Semaphore). waited y t b L) (known b p q c L z w (loosely h))) (f tidy c L z w h)
 
 pub waiter : {T t : ℕ} {s : state.Semaphore} → s ≡ Waiting t → Waiter T s → OneOf T t
 waiter {T} e w = subst (Waiter T) e w
@@ -60,7 +60,7 @@ get-none (x ∷ xs) (suc n) v h = get-none xs n v (omega arith)
 module _ (s : Shape) (d : List ℕ) where
   pub none-signalled : (b : ℕ) → b ≡ 0 → Does s d d (λ c L. signal b L) × Tells s d (λ c L. waiterOf (ledger.semaphoreOf L b)) 0
   unfolding signal signalled setSemaphore setSemaphores ledger.semaphoreOf at put waiterOf
-  none-signalled b e = subst (λ (n : ℕ). Does s d d (λ c L. signal n L) × Tells s d (λ c L. waiterOf (ledger.semaphoreOf L n)) 0) (sym e) ((λ c L z w h. h), (λ c L z w h. refl))
+  none-signalled b e = subst (λ (n : ℕ). Does s d d (λ c L. signal n L) × Tells s d (λ c L. waiterOf (ledger.semaphoreOf L n)) 0) (sym e) ((λ tidy c L z w h. h), (λ c L z w h. refl))
 
   beyond : {tidy : Bool} (c : Config) (L : Ledger) (z w : List ℕ) → ShowsAs tidy c s L d z w → (b : ℕ) → s .semaphores < suc b → length (L .semaphores) ≤ b
   unfolding semaphoresIn semaphoreCount
@@ -70,7 +70,7 @@ module _ (s : Shape) (d : List ℕ) where
   unfolding signal signalled setSemaphore setSemaphores ledger.semaphoreOf at put waiterOf
   past-signalled zero g = absurd (omega arith)
   past-signalled (suc b) g = (
-    (λ c L z w h.
+    (λ tidy c L z w h.
         let n : length (L .semaphores) ≤ b = beyond c L z w h b g in
         let e : getD (L .semaphores) b ledger.PENDING ≡ ledger.PENDING = get-none (L .semaphores) b ledger.PENDING n in
         let x : signal (suc b) L ≡ L =

@@ -38,7 +38,7 @@ pub record-set : {tidy : Bool} (c : Config) (s : Shape) (L : Ledger) (d z w : Li
 record-set c s L d z w h t i b o d' g = moved (merged t b o L (task-in c s L d z w h t i)) g
 
 -- an idle task's record, over the wait withdrawn, the timers taken out and the mailbox emptied
-pub terminated : (c : Config) (s : Shape) (L : Ledger) (d z w : List ℕ) (a : ℕ)
+pub terminated : {tidy : Bool} (c : Config) (s : Shape) (L : Ledger) (d z w : List ℕ) (a : ℕ)
     → (let M : Ledger = setMailbox a [] (purged a true 0 (withdrawWait a L)) in
     ShowsAs tidy c s (setTask a (record { blocks = onlyIdle; outcome = plain; slot = task M a .slot; request = none }) M) d z w)
     → ShowsAs tidy c s (terminate a L) d z w

@@ -12,7 +12,7 @@ waited-requires : tie.Need-waited-requires
 waited-requires c κs = search needs
 
 store-outcome-requires : tie.Need-store-outcome-requires
-store-outcome-requires c κs = let s = c .before .before .before .before .before .before in (still-fits (s .pre .0) (omega arith), s .pre .2)
+store-outcome-requires c κs = let s = c .before .before .before .before .before .before in (still-fits (s .pre .0) (omega arith), s .pre .2, tt)
 
 same-length : tie.Need-same-length
 same-length c = search needs

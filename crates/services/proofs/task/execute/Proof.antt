@@ -12,7 +12,7 @@ withdraw-requires : tie.Need-withdraw-requires
 withdraw-requires c κs = search needs
 
 set-record-requires : tie.Need-set-record-requires
-set-record-requires c κs = let s = c .before .before .before .before .before .before in (still-fits (s .pre .0) (omega arith), s .pre .1)
+set-record-requires c κs = let s = c .before .before .before .before .before .before in (still-fits (s .pre .0) (omega arith), s .pre .1, tt)
 
 same-length : tie.Need-same-length
 same-length c = search needs

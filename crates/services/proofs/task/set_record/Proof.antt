@@ -13,7 +13,7 @@ store-requires : tie.Need-store-requires
 store-requires c κs = search needs
 
 store-outcome-requires : tie.Need-store-outcome-requires
-store-outcome-requires c κs = let s = c .before .before .before .before .before .before in (still-fits (s .pre .0) (omega arith), s .pre .1)
+store-outcome-requires c κs = let s = c .before .before .before .before .before .before in (still-fits (s .pre .0) (omega arith), s .pre .1, s .pre .2)
 
 store-request-requires : tie.Need-store-request-requires
 store-request-requires c κs = let s = c .before .before .before .before .before .before .before .before .before .before in (still-fits (s .pre .0) (omega arith), s .pre .1, tt)

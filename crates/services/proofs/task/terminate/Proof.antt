@@ -22,7 +22,7 @@ clear-requires : tie.Need-clear-requires
 clear-requires c κs = let s = c .before .before .before .before .before .before .before .before .before .before .before in (still-fits (s .pre .0) (omega arith), s .pre .2)
 
 set-record-requires : tie.Need-set-record-requires
-set-record-requires c κs = let s = c .before .before .before .before .before .before .before .before .before .before .before .before .before .before .before in (still-fits (s .pre .0) (omega arith), s .pre .2)
+set-record-requires c κs = let s = c .before .before .before .before .before .before .before .before .before .before .before .before .before .before .before in (still-fits (s .pre .0) (omega arith), s .pre .2, tt)
 
 same-length : tie.Need-same-length
 same-length c = search needs
