@@ -69,6 +69,12 @@ static void print_outcome(void)
         print_refusal(value[0]);
         break;
     case MCX11_OUTCOME_SEMAPHORE: printf("has seen semaphore %u", value[0]); break;
+    case MCX11_OUTCOME_WOKE:
+        if (value[0] == 0)
+            printf("woke nobody");
+        else
+            printf("woke task %u", value[0]);
+        break;
     default: printf("has an outcome that is new: see docs/HOST.md"); break;
     }
 }
@@ -100,6 +106,15 @@ static void tell(const char *asked, uint8_t number)
     if (mcx11_reissues(&ride) > 0)
         printf(", %u reissued", mcx11_reissues(&ride));
     printf("\n");
+}
+
+/* A station, task 1, signals the gate, task 2, and sees whether it was waiting. If not, the signal is taken back: the gate is
+   not to open unasked later. The outcome in the answer is task 1's, for task 1 has the lower number and goes on. */
+static void open_the_gate(void)
+{
+    tell("task 1: signal semaphore 1, for the gate", mcx11_signal(&ride, 1));
+    if (mcx11_outcome(&ride) == MCX11_OUTCOME_WOKE && mcx11_woke(&ride) == 0)
+        tell("task 1: the gate was not waiting, so pend semaphore 1", mcx11_pend(&ride, 1));
 }
 
 /* A tock value for milliseconds. */
@@ -146,5 +161,11 @@ int main(void)
     tell("task 2: wait for semaphore 1", mcx11_wait(&ride, 1));
     tell("task 2: suspend itself", mcx11_suspend(&ride, MCX11_SELF));
     tell("device: interrupt exit with semaphore 1", mcx11_interrupt_exit(&ride, 1));
+    open_the_gate();
+    tell("task 1: resume task 2", mcx11_resume(&ride, 2));
+    tell("task 1: delay of 125 ms", mcx11_delay(&ride, MCX11_SELF, MCX11_OWN, once(125)));
+    tell("task 2: wait for semaphore 1", mcx11_wait(&ride, 1));
+    tell("clock: tick", mcx11_tick(&ride));
+    open_the_gate();
     return EXIT_SUCCESS;
 }

@@ -19,10 +19,10 @@ extern "C" {
 
 /** @name The version: docs/CHANGES.md says what each changed for hosts
  * @{ */
-#define MCX11_VERSION_MAJOR 2 /**< a host has to be changed */
+#define MCX11_VERSION_MAJOR 3 /**< a host has to be changed */
 #define MCX11_VERSION_MINOR 0 /**< something is new, or the lent memory has another layout */
 #define MCX11_VERSION_PATCH 0 /**< something is mended */
-#define MCX11_VERSION "2.0.0" /**< the three as a text */
+#define MCX11_VERSION "3.0.0" /**< the three as a text */
 /** @} */
 
 /** @name The sizes of the lent blocks
@@ -80,11 +80,12 @@ enum mcx11_code {
 /** What the running task's last request ended with. */
 enum mcx11_outcome_kind {
     MCX11_OUTCOME_PLAIN = 0,
-    MCX11_OUTCOME_BEGIN = 1,    /**< the task was started and has not called since */
-    MCX11_OUTCOME_MESSAGE = 2,  /**< value: message, sender, semaphore */
-    MCX11_OUTCOME_ENTRY = 3,    /**< value: the entry */
-    MCX11_OUTCOME_REFUSED = 4,  /**< value: the number that a reissue met */
-    MCX11_OUTCOME_SEMAPHORE = 5 /**< value: the semaphore */
+    MCX11_OUTCOME_BEGIN = 1,     /**< the task was started and has not called since */
+    MCX11_OUTCOME_MESSAGE = 2,   /**< value: message, sender, semaphore */
+    MCX11_OUTCOME_ENTRY = 3,     /**< value: the entry */
+    MCX11_OUTCOME_REFUSED = 4,   /**< value: the number that a reissue met */
+    MCX11_OUTCOME_SEMAPHORE = 5, /**< value: the semaphore */
+    MCX11_OUTCOME_WOKE = 6       /**< value: the task that the signal woke, 0 if none; see mcx11_woke */
 };
 
 /** The numbers that calls are refused with; behind the $ as an answer shows them. */
@@ -263,7 +264,7 @@ static inline uint16_t mcx11_every(int32_t n) { return n >= 1 && n <= 32768 ? (u
 /** The running task waits until the semaphore is signalled; if it is DONE, not at all. */
 static inline uint8_t mcx11_wait(mcx11_t *m, uint8_t semaphore) { return mcx11_call(m, MCX11_WAIT, 0, semaphore, 0); }
 
-/** Wakes the task that waits on the semaphore; if none does, the semaphore is DONE. */
+/** Wakes the task that waits on the semaphore; if none does, the semaphore is DONE. The outcome tells whom: mcx11_woke. */
 static inline uint8_t mcx11_signal(mcx11_t *m, uint8_t semaphore) { return mcx11_call(m, MCX11_SIGNAL, 0, semaphore, 0); }
 
 /** Makes the semaphore PENDING. */
@@ -367,6 +368,15 @@ static inline size_t mcx11_value_length(const mcx11_t *m)
     return mcx11_answer_length(m) < 4 ? 0 : mcx11_answer_length(m) - 4;
 }
 
+/**
+ * Whom the running task's signal woke: the task that lost its event wait, also if it is suspended besides; 0 if none waited, and
+ * where the outcome is not MCX11_OUTCOME_WOKE. Where the woken task runs first, its waker is told when it runs again.
+ */
+static inline uint8_t mcx11_woke(const mcx11_t *m)
+{
+    return mcx11_outcome(m) == MCX11_OUTCOME_WOKE ? mcx11_value(m)[0] : (uint8_t)0;
+}
+
 /* ---- Names as texts; what has none is "unknown" */
 
 /** Of an enum mcx11_code: "wait", "interrupt exit". */
@@ -381,8 +391,8 @@ static inline const char *mcx11_code_name(uint8_t code)
 /** Of an enum mcx11_outcome_kind: "plain", "entry". */
 static inline const char *mcx11_outcome_name(uint8_t kind)
 {
-    static const char *const names[] = {"plain", "begin", "message", "entry", "refused", "semaphore", "unknown"};
-    return kind <= MCX11_OUTCOME_SEMAPHORE ? names[kind] : names[6];
+    static const char *const names[] = {"plain", "begin", "message", "entry", "refused", "semaphore", "woke", "unknown"};
+    return kind <= MCX11_OUTCOME_WOKE ? names[kind] : names[7];
 }
 
 /** Of an enum mcx11_number: "accepted", "semaphore waiting". */

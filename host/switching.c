@@ -75,7 +75,8 @@ static void gate(void)
     printf("gate: begins\n");
     told = service(MCX11_RECEIVE, MCX11_ANY, 0, 0);
     printf("gate: message %u of task %u, semaphore %u\n", told.value[0], told.value[1], told.value[2]);
-    service(MCX11_SIGNAL, 0, told.value[2], 0);
+    told = service(MCX11_SIGNAL, 0, told.value[2], 0);
+    printf("gate: its signal woke task %u\n", told.value[0]);
     told = service(MCX11_WAIT, 0, BUTTON, 0);
     printf("gate: semaphore %u\n", told.value[0]);
     told = service(MCX11_WAIT, 0, BUTTON, 0);
@@ -119,8 +120,8 @@ static void display(void)
     printf("display: begins\n");
     told = service(MCX11_DEQUEUE, EFFECTS, 0, 0);
     printf("display: effect $%02X\n", told.value[0]);
-    service(MCX11_SIGNAL, 0, 3, 0); /* 3 is the lap task's own semaphore */
-    printf("display: ends\n");
+    told = service(MCX11_SIGNAL, 0, 3, 0); /* 3 is the lap task's own semaphore */
+    printf("display: ends, %s\n", told.value[0] == 0 ? "its signal woke nobody" : "the lap task was waiting");
     service(MCX11_TERMINATE, MCX11_SELF, 0, 0);
 }
 

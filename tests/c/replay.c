@@ -27,7 +27,8 @@ static int is_its_parts(uint8_t number)
     const uint8_t *answer = mcx11_answer(&ride);
     return answer[0] == number && answer[1] == mcx11_running(&ride) && answer[2] == mcx11_reissues(&ride) &&
            answer[3] == mcx11_outcome(&ride) && answer + 4 == mcx11_value(&ride) &&
-           mcx11_answer_length(&ride) == 4 + mcx11_value_length(&ride);
+           mcx11_answer_length(&ride) == 4 + mcx11_value_length(&ride) &&
+           mcx11_woke(&ride) == (answer[3] == MCX11_OUTCOME_WOKE ? answer[4] : 0);
 }
 
 int main(void)

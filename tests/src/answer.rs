@@ -9,6 +9,7 @@ pub const MESSAGE: u8 = 2;
 pub const ENTRY: u8 = 3;
 pub const REFUSED: u8 = 4;
 pub const SEMAPHORE: u8 = 5;
+pub const WOKE: u8 = 6;
 
 const FIXED_BYTES: usize = 4;
 pub const LONGEST_ANSWER: usize = FIXED_BYTES + SLOT_BYTES;
@@ -30,6 +31,7 @@ impl Answer {
             Outcome::Entry(width) => answer.outcome(ENTRY, &slot[..usize::from(width)]),
             Outcome::Refused(number) => answer.outcome(REFUSED, &[number]),
             Outcome::Semaphore(number) => answer.outcome(SEMAPHORE, &[number]),
+            Outcome::Woke(task) => answer.outcome(WOKE, &[task]),
         }
         answer
     }

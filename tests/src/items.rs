@@ -35,6 +35,7 @@ pub enum OutcomeItem {
     Entry(Vec<u8>),
     Refused(u8),
     Semaphore(u8),
+    Woke(u8),
 }
 
 /// An open request with enqueue's bytes.
@@ -112,5 +113,6 @@ fn outcome_item(task: &Task) -> OutcomeItem {
         Outcome::Entry(width) => OutcomeItem::Entry(task.slot[..usize::from(width)].to_vec()),
         Outcome::Refused(number) => OutcomeItem::Refused(number),
         Outcome::Semaphore(number) => OutcomeItem::Semaphore(number),
+        Outcome::Woke(task) => OutcomeItem::Woke(task),
     }
 }

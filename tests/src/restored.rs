@@ -52,6 +52,7 @@ fn restored_task(item: &TaskItem, waits_on: u8) -> Task {
         OutcomeItem::Entry(bytes) => Outcome::Entry(bytes.len() as u8),
         OutcomeItem::Refused(number) => Outcome::Refused(*number),
         OutcomeItem::Semaphore(number) => Outcome::Semaphore(*number),
+        OutcomeItem::Woke(task) => Outcome::Woke(*task),
     };
     let request = match &item.request {
         RequestItem::None => Request::None,

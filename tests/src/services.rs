@@ -26,7 +26,8 @@ impl Executive {
         match command {
             Command::Wait(semaphore) => self.wait(own, semaphore),
             Command::Signal(semaphore) => {
-                self.signal(semaphore, notes);
+                let woken = self.signal(semaphore, notes);
+                self.set_outcome(own, Outcome::Woke(woken));
             }
             Command::Pend(semaphore) => self.set_semaphore(semaphore, Semaphore::Pending),
             Command::Send(to, letter) => self.send(own, to, letter, notes),

@@ -44,6 +44,8 @@ pub enum Outcome {
     Entry(u8),
     Refused(u8),
     Semaphore(u8),
+    /// Of a signal: the task that lost its event wait, or 0.
+    Woke(u8),
 }
 
 /// A message on its way.

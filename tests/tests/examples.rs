@@ -5,7 +5,7 @@ use plain_executive::line;
 use plain_executive::numbers::{CONFIGURATION, MILLISECONDS, TOCK_VALUE};
 use plain_executive::semaphore::Semaphore;
 use plain_executive::session;
-use plain_executive::tasks::Letter;
+use plain_executive::tasks::{Block, Letter};
 use plain_executive::tocks::{tock_value, tocks_of_milliseconds, Tocks};
 
 fn frame(digits: &str) -> Vec<u8> {
@@ -38,9 +38,9 @@ fn the_listed_session() {
 fn signal_on_pending_and_on_done() {
     let mut executive = configured("010100000001000100");
     assert_eq!(executive.semaphore(1), Semaphore::Pending);
-    assert_eq!(after(&mut executive, &["0200010000"]), "00010000");
+    assert_eq!(after(&mut executive, &["0200010000"]), "0001000600");
     assert_eq!(executive.semaphore(1), Semaphore::Done);
-    assert_eq!(after(&mut executive, &["0200010000"]), "00010000");
+    assert_eq!(after(&mut executive, &["0200010000"]), "0001000600");
     assert_eq!(executive.semaphore(1), Semaphore::Done);
 }
 
@@ -131,4 +131,49 @@ fn a_reissue_that_meets_21() {
         "0701000000",   // and takes again
     ];
     assert_eq!(after(&mut executive, &frames), "0002010415");
+}
+
+// ---- document 02, W2: a signal tells whom it woke
+
+/// Three tasks, one named semaphore, a queue of width and depth 1, a timer.
+const THREE: &str = "03010101000100010000000101";
+
+#[test]
+fn a_signal_tells_whom_it_woke() {
+    let mut executive = configured(THREE);
+    assert_eq!(after(&mut executive, &["0200010000"]), "0001000600");
+    assert_eq!(after(&mut executive, &["0300010000", "0100020000", "0100010000"]), "00030001");
+    // Task 3 wakes task 2, which runs first; task 3 is told once it runs again.
+    assert_eq!(after(&mut executive, &["0200010000"]), "0002000501");
+    assert_eq!(after(&mut executive, &["0100010000"]), "0003000602");
+    // An interrupt exit wakes too, and tells nobody: task 2 waits again, and task 3 shows what it was told before.
+    assert_eq!(after(&mut executive, &["1100010000"]), "0002000501");
+    assert_eq!(after(&mut executive, &["0100010000"]), "0003000602");
+}
+
+#[test]
+fn a_woken_task_that_is_suspended_is_told() {
+    let mut executive = configured(THREE);
+    let frames = ["0100020000", "0100010000", "0A02000000", "0200010000"];
+    assert_eq!(after(&mut executive, &frames), "0003000602");
+    assert!(executive.tasks().get(2).blocks().has(Block::Suspended));
+    assert!(!executive.tasks().get(2).blocks().has(Block::EventWait));
+}
+
+#[test]
+fn a_woken_task_that_waits_again_in_the_same_frame_is_told() {
+    let mut executive = configured(THREE);
+    let frames = [
+        "0100010000",   // task 1 waits on semaphore 1
+        "0701000000",   // task 2 waits on the empty queue
+        "1100010000",   // the interrupt exit wakes task 1
+        "080100000041", // task 1 puts, which wakes task 2
+        "0D02000005",   // delays task 2, whose request is open, on its own semaphore, 3
+        "0701000000",   // takes the entry itself
+        "0100010000",   // and waits: task 3 begins
+    ];
+    assert_eq!(after(&mut executive, &frames), "00030001");
+    // Task 3 signals semaphore 3: task 2 runs, finds the queue empty, and has event wait again.
+    assert_eq!(after(&mut executive, &["0200030000"]), "0003010602");
+    assert!(executive.tasks().get(2).blocks().has(Block::EventWait));
 }

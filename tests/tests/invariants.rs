@@ -1,11 +1,12 @@
 //! What holds after every frame of every random session.
 
 use plain_executive::answer::Answer;
+use plain_executive::command::SIGNAL;
 use plain_executive::coverage::causes::causes;
 use plain_executive::executive::Executive;
 use plain_executive::generator::{cascade, Generator};
 use plain_executive::semaphore::Semaphore;
-use plain_executive::tasks::Block;
+use plain_executive::tasks::{Block, Outcome};
 
 const SESSIONS: u64 = 600;
 const FRAMES: usize = 200;
@@ -100,6 +101,43 @@ fn waits_and_semaphores_agree() {
             let waits = after.tasks().get(task).blocks().has(Block::EventWait);
             assert_eq!(waited_on.len(), usize::from(waits));
             assert_eq!(waited_on.first().copied().unwrap_or(0), after.tasks().get(task).waits_on);
+        }
+    });
+}
+
+/// By the blocks and the semaphores before the frame alone.
+#[test]
+fn a_signal_tells_the_task_that_lost_its_event_wait() {
+    each_step(|step| {
+        if step.answer.refusal() != 0 || step.frame[0] != SIGNAL {
+            return;
+        }
+        let (before, caller) = (&step.before, step.before.running());
+        let named = if step.frame[2] == 0 { before.configuration().semaphore_of_task(caller) } else { step.frame[2] };
+        let lost = |&task: &u8| {
+            let waited = before.tasks().get(task).blocks().has(Block::EventWait);
+            waited && before.semaphore(named) == Semaphore::Waiting(task)
+        };
+        let woken = (1..=before.configuration().tasks).find(lost).unwrap_or(0);
+        assert_eq!(step.after.tasks().get(caller).outcome, Outcome::Woke(woken), "{:02X?}", step.frame);
+        if step.answer.running() == caller {
+            assert_eq!(step.answer.bytes()[3..], [6, woken], "{:02X?}", step.frame);
+        }
+    });
+}
+
+/// Ticks, interrupt exits and queues wake too, and tell nobody.
+#[test]
+fn only_the_caller_of_a_signal_is_told() {
+    each_step(|step| {
+        let told = |executive: &Executive, task: u8| match executive.tasks().get(task).outcome {
+            Outcome::Woke(woken) => Some(woken),
+            _ => None,
+        };
+        for task in 1..=step.after.configuration().tasks {
+            let asked = step.frame.first() == Some(&SIGNAL) && task == step.before.running();
+            let (was, is) = (told(&step.before, task), told(&step.after, task));
+            assert!(asked || is.is_none() || is == was, "task {task}: {was:?}, {is:?}, {:02X?}", step.frame);
         }
     });
 }

@@ -396,6 +396,7 @@ fn assert_shown(memory: &HashMap<&str, Bytes>, configuration: &Configuration, it
             3 => OutcomeItem::Entry(slot[..limited(tables.number(record + 1), 16)].to_vec()),
             4 => OutcomeItem::Refused(tables.at(record + 1)),
             5 => OutcomeItem::Semaphore(tables.at(record + 1)),
+            6 => OutcomeItem::Woke(tables.at(record + 1)),
             _ => OutcomeItem::Plain,
         };
         assert_eq!(outcome, task.outcome, "task {}", index + 1);

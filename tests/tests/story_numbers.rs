@@ -37,7 +37,7 @@ fn every_number_that_a_session_can_meet() {
 
 #[test]
 fn every_kind_of_outcome_and_many_reissues() {
-    assert_eq!(of_answers(3), (0..=5).collect());
+    assert_eq!(of_answers(3), (0..=6).collect());
     assert!(of_answers(2).contains(&3), "three reissues in one frame");
 }
 

@@ -45,6 +45,7 @@ class Speech {
     if (kind === 3) return `entry ${hexOf(value)}`;
     if (kind === 4) return `refused ${value[0]}`;
     if (kind === 5) return this.semaphore(value[0]);
+    if (kind === 6) return value[0] ? `woke ${this.task(value[0])}` : "woke nobody";
     return "plain";
   }
 

@@ -217,6 +217,7 @@ fn outcome(outcome: &OutcomeItem, bytes: &mut Vec<u8>) {
         }
         OutcomeItem::Refused(number) => bytes.extend([4, 1, *number]),
         OutcomeItem::Semaphore(number) => bytes.extend([5, 1, *number]),
+        OutcomeItem::Woke(task) => bytes.extend([6, 1, *task]),
     }
 }
 

@@ -145,6 +145,8 @@ impl Words<'_> {
                 format!(", its request met {number}: {}", refusals::SHORT[usize::from(*number)])
             }
             [answer::SEMAPHORE, number] => format!(", has {}", self.semaphore_of(task, *number)),
+            [answer::WOKE, 0] => ", woke nobody".to_string(),
+            [answer::WOKE, woken] => format!(", woke {}", self.task(*woken)),
             _ => String::new(),
         }
     }

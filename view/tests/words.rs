@@ -121,6 +121,26 @@ fn a_send_that_ends_a_wait() {
     assert_eq!(said.lines().last(), Some(due));
 }
 
+#[test]
+fn a_signal_says_whom_it_woke() {
+    let frames = [
+        ("0200010000", "task 1 runs, woke nobody"),
+        ("0200010000", "task 1 runs, woke nobody; semaphore 1 was DONE, a signal is lost"),
+        ("0300010000", "task 1 runs"),
+        ("0100000000", "task 2 runs, begins"),
+        ("0100010000", "the null task runs"),
+        ("1100020000", "task 1 runs, has semaphore 2"),
+        ("0200010000", "task 1 runs, woke task 2"),
+        ("0100000000", "task 2 runs, has semaphore 1"),
+        ("0200020000", "task 1 runs, has semaphore 2"),
+        ("0100000000", "task 2 runs, woke task 1"),
+    ];
+    let lines: String = frames.iter().map(|(frame, _)| format!("{frame}\n")).collect();
+    let said = words(format!("02010000000100640000\n{lines}").as_bytes());
+    let told: Vec<&str> = said.lines().skip(1).map(|line| line.split_once(": ").expect("an answer").1).collect();
+    assert_eq!(told, frames.map(|(_, due)| due));
+}
+
 /// Sessions with a frame for each number, and what is said of it.
 #[test]
 fn each_refusal_says_its_rule() {

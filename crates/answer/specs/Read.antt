@@ -14,7 +14,7 @@ use Rattle.ledger.specs.Ledger.{Ledger, task, running}
 use Rattle.ledger.specs.Session.{shown, answer}
 use Rattle.tables.specs.declared.shape.Shape.{Shape}
 use Rattle.tables.specs.declared.tasks.Outcome.{Outcome}
-use Rattle.tables.specs.declared.tasks.Outcome.the-variants.{Plain, Begin, Message, Entry, Refused, Semaphore}
+use Rattle.tables.specs.declared.tasks.Outcome.the-variants.{Plain, Begin, Message, Entry, Refused, Semaphore, Woke}
 use Rattle.tables.specs.Decode.{viewOutcome, viewTask}
 use Rattle.tables.specs.Shows.{Shows}
 use Rattle.tables.specs.Stored.{record-is, shown-task}
@@ -41,6 +41,7 @@ view-short (Message a b c) z h = (omega arith, omega arith)
 view-short (Entry w) z h = (omega arith, simp length-take (omega arith))
 view-short (Refused a) z h = (omega arith, omega arith)
 view-short (Semaphore a) z h = (omega arith, omega arith)
+view-short (Woke a) z h = (omega arith, omega arith)
 
 module _ (c : Config) (s : Shape) (L : Ledger) (d z w : List ℕ) (h : Shows c s L d z w) where
   task-short : (t : ℕ) → t ≤ s .tasks → Short (shown (task L t .outcome))

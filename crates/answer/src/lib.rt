@@ -74,20 +74,13 @@ fn put_entry(answer: &mut [u8], head: Head, width: u8, slots: &[u8], t: u8)
     rows::copy_in(&slots[at..end], answer, 5);
 }
 
-fn put_refused(answer: &mut [u8], head: Head, number: u8)
+// A kind with one number: refused, semaphore, woke.
+fn put_number(answer: &mut [u8], head: Head, kind: u8, number: u8)
     requires { ⌜ answerBytes ≤ length (now answer) ⌝ }
-    ensures { λ _. ⌜ now (answer .exit) ≡ written (line head (ledger.refused number)) (now (answer .entry)) ⌝ }
+    ensures { λ _. ⌜ now (answer .exit) ≡ written (parts head kind (number ∷ [])) (now (answer .entry)) ⌝ }
 {
-    put_head(answer, 5, head, 4);
+    put_head(answer, 5, head, kind);
     answer[5] = number;
-}
-
-fn put_semaphore(answer: &mut [u8], head: Head, semaphore: u8)
-    requires { ⌜ answerBytes ≤ length (now answer) ⌝ }
-    ensures { λ _. ⌜ now (answer .exit) ≡ written (line head (ledger.semaphore semaphore)) (now (answer .entry)) ⌝ }
-{
-    put_head(answer, 5, head, 5);
-    answer[5] = semaphore;
 }
 
 // An outcome of task t.
@@ -100,8 +93,9 @@ fn put_outcome(answer: &mut [u8], head: Head, o: Outcome, slots: &[u8], t: u8)
         Outcome::Begin => put_kind(answer, head, 1),
         Outcome::Message(m, s, b) => put_message(answer, head, m, s, b),
         Outcome::Entry(w) => put_entry(answer, head, w, slots, t),
-        Outcome::Refused(n) => put_refused(answer, head, n),
-        Outcome::Semaphore(b) => put_semaphore(answer, head, b),
+        Outcome::Refused(n) => put_number(answer, head, 4, n),
+        Outcome::Semaphore(b) => put_number(answer, head, 5, b),
+        Outcome::Woke(w) => put_number(answer, head, 6, w),
     }
 }
 

@@ -29,7 +29,7 @@ clocked c L = cond (ltb (suc (L .ticks)) (c .K)) (setClock (L .N) (suc (L .ticks
 -- n times a due timer is taken out, inserted again if it is cyclic, and signals its semaphore
 unfoldable pub drainedTimes : ℕ → Ledger → Ledger
 drainedTimes zero M = M
-drainedTimes (suc n) M = drainedTimes n (signal (nextDue M .semaphore) (takeDue M))
+drainedTimes (suc n) M = drainedTimes n (signal (nextDue M .semaphore) (takeDue M) .ledger)
 
 -- what one tick does: the memory goes on as the clock, and n is how many timers are left to work off
 pub record Advanced (s : Shape) (d w d' w' : List ℕ) (n : ℕ) : Type 0 where
@@ -44,7 +44,7 @@ unfolding drainedTimes
 drained-times zero M l shown e = drain-ends M shown e
 drained-times (suc n) M l shown e =
     sym (drained-next M (omega (arith, shown-due M shown)))
-    ∙ drained-times n (signal (nextDue M .semaphore) (takeDue M)) (takenDue l) (shown-signal (takeDue M) (shown-take M shown) (nextDue M .semaphore)) (omega (arith, one-fewer l (omega arith)))
+    ∙ drained-times n (signal (nextDue M .semaphore) (takeDue M) .ledger) (takenDue l) (shown-signal (takeDue M) (shown-take M shown) (nextDue M .semaphore)) (omega (arith, one-fewer l (omega arith)))
 
 -- ---- a tock has passed for the timers of the block
 pub tock-does : {tidy : Bool} (c : Config) (s : Shape) (L : Ledger) (d z w w' : List ℕ) → ShowsAs tidy c s L d z w → length w' ≡ length w → heldIn s w' ≡ map tocked (heldIn s w) → getD w' 0 0 ≡ getD w 0 0
@@ -93,10 +93,10 @@ module _ (s : Shape) (d w d' : List ℕ) where
 -- ---- for a caller's loop, which takes a due timer and signals its semaphore n times
 
 -- the last of them
-drained-last : (n : ℕ) (M : Ledger) → drainedTimes (suc n) M ≡ signal (nextDue (drainedTimes n M) .semaphore) (takeDue (drainedTimes n M))
+drained-last : (n : ℕ) (M : Ledger) → drainedTimes (suc n) M ≡ signal (nextDue (drainedTimes n M) .semaphore) (takeDue (drainedTimes n M)) .ledger
 unfolding drainedTimes
 drained-last zero M = refl
-drained-last (suc n) M = drained-last n (signal (nextDue M .semaphore) (takeDue M))
+drained-last (suc n) M = drained-last n (signal (nextDue M .semaphore) (takeDue M) .ledger)
 
 -- k turns lead from the memory d₀, w₀ where the loop begins to d, w
 abbrev pub Turned : Shape → (d₀ w₀ d w : List ℕ) → ℕ → Type 0
@@ -108,12 +108,12 @@ no-turn s d w tidy c M z h = h
 
 module _ (s : Shape) (d₀ w₀ d w : List ℕ) where
   pub turn-done : (d' w' : List ℕ) (k b : ℕ) → Turned s d₀ w₀ d w k → TellsTimers s w (λ c L. nextDue L .semaphore) b → DoesTimers s w w' (λ c L. takeDue L)
-      → Does s d d' (λ c L. signal b L) → Turned s d₀ w₀ d' w' (k + 1)
+      → Does s d d' (λ c L. signal b L .ledger) → Turned s d₀ w₀ d' w' (k + 1)
   turn-done d' w' k b t tells takes signals tidy c L z h =
       let M : Ledger = drainedTimes k L in
       let g : ShowsAs tidy c s M d z w = t tidy c L z h in
       subst (λ (x : Ledger). ShowsAs tidy c s x d' z w')
-      (ap (λ (x : ℕ). signal x (takeDue M)) (tells c M d z (loosely g)) ∙ sym (drained-last k L) ∙ ap (λ (x : ℕ). drainedTimes x L) (sym (add-one k)))
+      (ap (λ (x : ℕ). signal x (takeDue M) .ledger) (tells c M d z (loosely g)) ∙ sym (drained-last k L) ∙ ap (λ (x : ℕ). drainedTimes x L) (sym (add-one k)))
       (signals tidy c (takeDue M) z w' (takes tidy c M d z g))
 
   -- as many turns as the tick asks for

@@ -129,7 +129,7 @@ pub by-code : (c : Config) (s : Shape) (self a b x : ℕ) (e : List ℕ) (L : Le
 by-code c s self a b x e L code k q h = moved (ap (λ (n : ℕ). effect (codeAt n) c self a b x e L) (sym q)) h
 
 -- semaphore 0 is signalled to nobody
-pub exit-is : (b : ℕ) (l : Ledger) → signal b l ≡ cond (eqb b 0) l (signal b l)
+pub exit-is : (b : ℕ) (l : Ledger) → signal b l .ledger ≡ cond (eqb b 0) l (signal b l .ledger)
 unfolding signal signalled setSemaphore setSemaphores semaphoreOf at put
 exit-is zero l = refl
 exit-is (suc b) l = rw (ne-eqb (suc b) 0 (λ e. omega arith))

@@ -19,9 +19,7 @@ pub fn serve(tables: &mut [u8], shape: Shape, code: u8, me: u8, b: u8)
 {
     match code {
         0x01 => services::semaphore::wait(tables, shape, me, b),
-        0x02 => {
-            services::semaphore::signal(tables, shape, b);
-        }
+        0x02 => services::semaphore::signal_by(tables, shape, me, b),
         _ => tables::semaphores::store(tables, shape, b, Semaphore::Pending),
     }
 }

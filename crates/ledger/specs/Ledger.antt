@@ -18,6 +18,7 @@ pub data Outcome : Type 0 where
   entry : List ℕ → Outcome
   refused : ℕ → Outcome
   semaphore : ℕ → Outcome
+  woke : ℕ → Outcome
 
 -- an open request: none, a receive from a task (0: from any), a dequeue, an enqueue with its bytes
 pub data Request : Type 0 where

@@ -70,17 +70,35 @@ pub record Table : Type 0 where
 
   -- the number that B = 0 means is stored and shown: task 1's is 3
   zero-is-shown-as-the-tasks-own : Talk room ("0402000001" ▸ "0001000503" ∷ "0100000000" ▸ "00020001" ∷ "1100030000" ▸ "0001000503" ∷ [])
-  sendw-waits-even-on-DONE : Talk room ("0200030000" ▸ "00010000" ∷ "0502000001" ▸ "00020001" ∷ [])
+  sendw-waits-even-on-DONE : Talk room ("0200030000" ▸ "0001000600" ∷ "0502000001" ▸ "00020001" ∷ [])
   and-delay-does : semaphoreOf (after room ("0200030000" ∷ "0D00000002" ∷ [])) 3 ≡ WAITING 1
   -- 21 ($15): task 1 waits on semaphore 1, task 2 calls
   wait-pend-sendw-and-delay-meet-21 : Talk room ("0100010000" ▸ "00020001" ∷ "0100010000" ▸ "15020001" ∷ "0300010000" ▸ "15020001" ∷ "0503010001" ▸ "15020001" ∷ "0D00010002" ▸ "15020001" ∷ [])
   send-timer-purge-and-signal-do-not : Talk room ("0100010000" ▸ "00020001" ∷ "0403010001" ▸ "0002000501" ∷ "0E00010002" ▸ "00020000" ∷ "0F00010001" ▸ "00020000" ∷ "0200010000" ▸ "0001000501" ∷ [])
-  semaphores-of-other-tasks-may-be-named : Talk room ("0200040000" ▸ "00010000" ∷ "0200050000" ▸ "00010000" ∷ "0200060000" ▸ "06010000" ∷ [])
+  semaphores-of-other-tasks-may-be-named : Talk room ("0200040000" ▸ "0001000600" ∷ "0200050000" ▸ "0001000600" ∷ "0200060000" ▸ "0601000600" ∷ [])
   the-interrupt-exit-names-no-queues-semaphore : Talk room ("1100060000" ▸ "06010001" ∷ "1100050000" ▸ "00010001" ∷ [])
   and-0-signals-nothing : after room ("1100000000" ∷ []) ≡ after room []
   a-tick-and-an-interrupt-exit-set-no-outcome : Talk room ("1000000000" ▸ "00010001" ∷ "1100010000" ▸ "00010001" ∷ [])
   -- 20 ($14): all tasks wait
   the-null-task-may-tick-but-not-call : Talk room ("0100000000" ▸ "00020001" ∷ "0100000000" ▸ "00030001" ∷ "0100000000" ▸ "00000000" ∷ "0200010000" ▸ "14000000" ∷ "1000000000" ▸ "00000000" ∷ "1100030000" ▸ "0001000503" ∷ [])
+  -- ---- whom a signal woke
+
+  a-signal-on-PENDING-or-DONE-wakes-nobody : Talk room ("0200010000" ▸ "0001000600" ∷ "0200010000" ▸ "0001000600" ∷ [])
+  -- task 2 waits on semaphore 2, and task 1 signals it
+  a-signal-on-WAITING-tells-the-task : Talk room ("0100010000" ▸ "00020001" ∷ "0100020000" ▸ "00030001" ∷ "1100010000" ▸ "0001000501" ∷ "0200020000" ▸ "0001000602" ∷ [])
+  -- task 1 waits, task 2 signals: task 1 runs first, with its own outcome, and waits again
+  the-caller-is-told-once-it-runs-again : Talk room ("0100010000" ▸ "00020001" ∷ "0200010000" ▸ "0001000501" ∷ "0100010000" ▸ "0002000601" ∷ [])
+  -- task 1 waits and is suspended besides; it is told, and runs only when it is resumed
+  a-suspended-waiter-is-told : Talk room ("0100010000" ▸ "00020001" ∷ "0A01000000" ▸ "00020000" ∷ "0200010000" ▸ "0002000601" ∷ "0901000000" ▸ "0001000501" ∷ [])
+  -- task 2 waits, and is woken while task 1 runs: by the tick, by the interrupt exit, by a put, by a take. Task 1 is told nothing, and waits; task 2 runs
+  a-tick-that-wakes-tells-nobody : Talk room ("0100010000" ▸ "00020001" ∷ "0100020000" ▸ "00030001" ∷ "1100010000" ▸ "0001000501"
+      ∷ "0E00020001" ▸ "00010000" ∷ "1000000000" ▸ "00010000" ∷ "0100010000" ▸ "0002000502" ∷ [])
+  nor-does-an-interrupt-exit : Talk room ("0100010000" ▸ "00020001" ∷ "0100020000" ▸ "00030001" ∷ "1100010000" ▸ "0001000501"
+      ∷ "1100020000" ▸ "0001000501" ∷ "0100010000" ▸ "0002000502" ∷ [])
+  nor-an-enqueue : Talk room ("0100010000" ▸ "00020001" ∷ "0701000000" ▸ "00030001" ∷ "1100010000" ▸ "0001000501"
+      ∷ "080100000041" ▸ "00010000" ∷ "0100010000" ▸ "0002010341" ∷ [])
+  nor-a-dequeue : Talk room ("080100000041" ▸ "00010000" ∷ "0100010000" ▸ "00020001" ∷ "080100000042" ▸ "00030001" ∷ "1100010000" ▸ "0001000501"
+      ∷ "0701000000" ▸ "0001000341" ∷ "0100010000" ▸ "00020100" ∷ [])
   -- ---- messages
 
   -- two of one sender, then none
@@ -185,6 +203,14 @@ the-table = record {
   and-0-signals-nothing = refl;
   a-tick-and-an-interrupt-exit-set-no-outcome = refl;
   the-null-task-may-tick-but-not-call = refl;
+  a-signal-on-PENDING-or-DONE-wakes-nobody = refl;
+  a-signal-on-WAITING-tells-the-task = refl;
+  the-caller-is-told-once-it-runs-again = refl;
+  a-suspended-waiter-is-told = refl;
+  a-tick-that-wakes-tells-nobody = refl;
+  nor-does-an-interrupt-exit = refl;
+  nor-an-enqueue = refl;
+  nor-a-dequeue = refl;
   receive-takes-the-first-message = refl;
   or-the-first-from-the-wanted-sender = refl;
   a-wrong-sender-wakes-the-receiver-which-waits-again = refl;

@@ -6,7 +6,7 @@ use lib.Dec.{eqb}
 use Rattle.ledger.specs.Lists.{find}
 use Rattle.ledger.specs.Config.{Config}
 use Rattle.ledger.specs.Time.{tockValue}
-use Rattle.ledger.specs.Ledger.{PENDING, Request, none, receive, dequeue, enqueue, Ledger, mailbox, queue, held, setSemaphore, setSuspended}
+use Rattle.ledger.specs.Ledger.{PENDING, woke, Request, none, receive, dequeue, enqueue, Ledger, mailbox, queue, held, setSemaphore, setOutcome, setSuspended}
 unfoldable pub use Rattle.ledger.specs.Services.Semaphores.{waitFor, signalled, signal, woken, wakeWaiter, waited, wait, notWaiting, withdrawWait}
 unfoldable pub use Rattle.ledger.specs.Services.Messages.{send, wanted, received}
 unfoldable pub use Rattle.ledger.specs.Services.Queues.{notEmpty, notFull, shape, empty, full, copyInto, takeEntry, putEntry, dequeued, enqueued}
@@ -37,7 +37,7 @@ codes = WAIT ∷ SIGNAL ∷ PEND ∷ SEND ∷ SENDW ∷ RECEIVE ∷ DEQUEUE ∷ 
 
 unfoldable pub effect : Code → Config → (self a b x : ℕ) → List ℕ → Ledger → Ledger
 effect WAIT c self a b x e l = wait self b l
-effect SIGNAL c self a b x e l = signal b l
+effect SIGNAL c self a b x e l = let s = signal b l in setOutcome self (woke (s .woke)) (s .ledger)
 effect PEND c self a b x e l = setSemaphore b PENDING l
 effect SEND c self a b x e l = send self a b x l
 effect SENDW c self a b x e l = waitFor self b (send self a b x l)
@@ -52,4 +52,4 @@ effect DELAY c self a b x e l = waitFor a b (startTimer a b (tockValue x) l)
 effect TIMER c self a b x e l = startTimer a b (tockValue x) l
 effect PURGE c self a b x e l = purge a b x l
 effect TICK c self a b x e l = tick c l
-effect EXIT c self a b x e l = cond (eqb b 0) l (signal b l)
+effect EXIT c self a b x e l = cond (eqb b 0) l (signal b l .ledger)

@@ -5,7 +5,7 @@ use mathlib.Core.Bool.{Bool, true, false, cond}
 use mathlib.Core.List.{List, [], _∷_, map}
 use lib.Dec.{eqb}
 use Rattle.ledger.specs.Config.{Config, configIn, configRefusal}
-use Rattle.ledger.specs.Ledger.{Semaphore, Task, Message, Timer, held, Outcome, plain, begin, message, entry, refused, semaphore, Request, none, receive, dequeue, enqueue, Ledger, task, running, setOutcome, setRequest, fresh}
+use Rattle.ledger.specs.Ledger.{Semaphore, Task, Message, Timer, held, Outcome, plain, begin, message, entry, refused, semaphore, woke, Request, none, receive, dequeue, enqueue, Ledger, task, running, setOutcome, setRequest, fresh}
 use Rattle.ledger.specs.Services.{effect, issue}
 use Rattle.ledger.specs.Refusals.{fields, call, refusal, onNotEmpty, onNotFull, meets21}
 
@@ -63,6 +63,7 @@ shown (message m s b) = 0x02 ∷ m ∷ s ∷ b ∷ []
 shown (entry e) = 0x03 ∷ e
 shown (refused n) = 0x04 ∷ n ∷ []
 shown (semaphore b) = 0x05 ∷ b ∷ []
+shown (woke t) = 0x06 ∷ t ∷ []
 
 -- refusal, running task, reissues of this frame, outcome of the running task
 unfoldable pub answer : (number reissues : ℕ) → Ledger → List ℕ

@@ -20,20 +20,15 @@ use Rattle.ledger.specs.Ledger as ledger
 use Rattle.ledger.specs.Ledger.{Ledger, Semaphore, PENDING, DONE, WAITING, setSemaphore, setSemaphores}
 use Rattle.ledger.specs.Services.{signalled, signal, woken, wakeWaiter, waited}
 
--- who waits, or 0
-unfoldable pub waiterOf : Semaphore → ℕ
-waiterOf PENDING = 0
-waiterOf DONE = 0
-waiterOf (WAITING t) = t
-
 -- ---- by what a semaphore is: v is the case that the match found
 module _ (s : Shape) (d : List ℕ) (b : ℕ) (x v : state.Semaphore) (p : Tells s d (λ c L. ledger.semaphoreOf L b) (viewSemaphore x)) (q : x ≡ v) where
-  pub signal-arm : {d' : List ℕ} → Does s d d' (λ c L. signalled (viewSemaphore v) b L) → Does s d d' (λ c L. signal b L)
+  pub signal-arm : {d' : List ℕ} → Does s d d' (λ c L. signalled (viewSemaphore v) b L .ledger) → Does s d d' (λ c L. signal b L .ledger)
   unfolding signal
-  signal-arm f tidy c L z w h = moved (ap (λ (y : Semaphore). signalled y b L) (known b p q c L z w (loosely h))) (f tidy c L z w h)
+  signal-arm f tidy c L z w h = moved (ap (λ (y : Semaphore). signalled y b L .ledger) (known b p q c L z w (loosely h))) (f tidy c L z w h)
 
-  pub signal-told : Tells s d (λ c L. waiterOf (ledger.semaphoreOf L b)) (waiterOf (viewSemaphore v))
-  signal-told c L z w h = ap waiterOf (known b p q c L z w h)
+  pub signal-told : (t : ℕ) → ((L : Ledger) → t ≡ signalled (viewSemaphore v) b L .woke) → Tells s d (λ c L. signal b L .woke) t
+  unfolding signal
+  signal-told t e c L z w h = e L ∙ ap (λ (y : Semaphore). signalled y b L .woke) (known b p q c L z w h)
 
   pub wake-arm : {d' : List ℕ} → Does s d d' (λ c L. woken (viewSemaphore v) b L) → Does s d d' (λ c L. wakeWaiter b L)
   unfolding wakeWaiter
@@ -58,24 +53,24 @@ get-none (x ∷ xs) (suc n) v h = get-none xs n v (omega arith)
 
 -- signals nothing
 module _ (s : Shape) (d : List ℕ) where
-  pub none-signalled : (b : ℕ) → b ≡ 0 → Does s d d (λ c L. signal b L) × Tells s d (λ c L. waiterOf (ledger.semaphoreOf L b)) 0
-  unfolding signal signalled setSemaphore setSemaphores ledger.semaphoreOf at put waiterOf
-  none-signalled b e = subst (λ (n : ℕ). Does s d d (λ c L. signal n L) × Tells s d (λ c L. waiterOf (ledger.semaphoreOf L n)) 0) (sym e) ((λ tidy c L z w h. h), (λ c L z w h. refl))
+  pub none-signalled : (b : ℕ) → b ≡ 0 → Does s d d (λ c L. signal b L .ledger) × Tells s d (λ c L. signal b L .woke) 0
+  unfolding signal signalled setSemaphore setSemaphores ledger.semaphoreOf at put
+  none-signalled b e = subst (λ (n : ℕ). Does s d d (λ c L. signal n L .ledger) × Tells s d (λ c L. signal n L .woke) 0) (sym e) ((λ tidy c L z w h. h), (λ c L z w h. refl))
 
   beyond : {tidy : Bool} (c : Config) (L : Ledger) (z w : List ℕ) → ShowsAs tidy c s L d z w → (b : ℕ) → s .semaphores < suc b → length (L .semaphores) ≤ b
   unfolding semaphoresIn semaphoreCount
   beyond c L z w h b g = let l = h .of .laid in omega (arith, ap length (h .shown .semaphores), tab-length (semaphoreCount c) (semaphoreAt c (regions s d)), h .of .tasks, h .of .named, h .of .queues, l .semaphores)
 
-  pub past-signalled : (b : ℕ) → s .semaphores < b → Does s d d (λ c L. signal b L) × Tells s d (λ c L. waiterOf (ledger.semaphoreOf L b)) 0
-  unfolding signal signalled setSemaphore setSemaphores ledger.semaphoreOf at put waiterOf
+  pub past-signalled : (b : ℕ) → s .semaphores < b → Does s d d (λ c L. signal b L .ledger) × Tells s d (λ c L. signal b L .woke) 0
+  unfolding signal signalled setSemaphore setSemaphores ledger.semaphoreOf at put
   past-signalled zero g = absurd (omega arith)
   past-signalled (suc b) g = (
     (λ tidy c L z w h.
         let n : length (L .semaphores) ≤ b = beyond c L z w h b g in
         let e : getD (L .semaphores) b ledger.PENDING ≡ ledger.PENDING = get-none (L .semaphores) b ledger.PENDING n in
-        let x : signal (suc b) L ≡ L =
-        ap (λ (y : Semaphore). signalled y (suc b) L) e
+        let x : signal (suc b) L .ledger ≡ L =
+        ap (λ (y : Semaphore). signalled y (suc b) L .ledger) e
         ∙ (λ i. record { N = L .N; ticks = L .ticks; tasks = L .tasks; semaphores = set-none (L .semaphores) b ledger.DONE n i; mailboxes = L .mailboxes; queues = L .queues; timers = L .timers }) in
         moved (sym x) h),
-    (λ c L z w h. sym (ap waiterOf (get-none (L .semaphores) b ledger.PENDING (beyond c L z w h b g)))),
+    (λ c L z w h. sym (ap (λ (y : Semaphore). signalled y (suc b) L .woke) (get-none (L .semaphores) b ledger.PENDING (beyond c L z w h b g)))),
   )

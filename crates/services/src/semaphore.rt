@@ -6,15 +6,14 @@ use tables::tasks::Outcome;
 ghost use lib.ListN.{length};
 ghost use Rattle.tables.specs.Layout.{OneOf, Fits};
 ghost use Rattle.tables.specs.Shows.{Does, Tells};
-ghost use Rattle.ledger.specs.Ledger.{semaphoreOf};
+ghost use Rattle.ledger.specs.Ledger.{woke, semaphoreOf, setOutcome};
 ghost use Rattle.ledger.specs.Services as ledger;
-ghost use Rattle.services.specs.Semaphores.{waiterOf};
 
 // Gives the task that it woke, or 0. A number that no semaphore has signals nothing.
 pub fn signal(tables: &mut [u8], shape: Shape, b: u8) -> u8
     requires { ⌜ Fits shape (length (now tables)) ⌝ }
-    ensures does { λ _. ⌜ Does shape (now (tables .entry)) (now (tables .exit)) (λ c L. ledger.signal b L) ⌝ }
-    ensures tells { λ r. ⌜ Tells shape (now (tables .entry)) (λ c L. waiterOf (semaphoreOf L b)) r ⌝ }
+    ensures does { λ _. ⌜ Does shape (now (tables .entry)) (now (tables .exit)) (λ c L. ledger.signal b L .ledger) ⌝ }
+    ensures tells { λ r. ⌜ Tells shape (now (tables .entry)) (λ c L. ledger.signal b L .woke) r ⌝ }
 {
     if b == 0 {
         return 0;
@@ -28,8 +27,8 @@ pub fn signal(tables: &mut [u8], shape: Shape, b: u8) -> u8
 // A semaphore that there is: WAITING becomes PENDING and its task loses event wait, otherwise DONE.
 fn signal_one(tables: &mut [u8], shape: Shape, b: u8) -> u8
     requires { ⌜ Fits shape (length (now tables)) × OneOf (shape .semaphores) b ⌝ }
-    ensures does { λ _. ⌜ Does shape (now (tables .entry)) (now (tables .exit)) (λ c L. ledger.signal b L) ⌝ }
-    ensures tells { λ r. ⌜ Tells shape (now (tables .entry)) (λ c L. waiterOf (semaphoreOf L b)) r ⌝ }
+    ensures does { λ _. ⌜ Does shape (now (tables .entry)) (now (tables .exit)) (λ c L. ledger.signal b L .ledger) ⌝ }
+    ensures tells { λ r. ⌜ Tells shape (now (tables .entry)) (λ c L. ledger.signal b L .woke) r ⌝ }
 {
     let s = tables::semaphores::load(tables, shape, b);
     match s {
@@ -47,6 +46,15 @@ fn signal_one(tables: &mut [u8], shape: Shape, b: u8) -> u8
             t
         }
     }
+}
+
+// The signal request of task t, whose outcome says whom it woke.
+pub fn signal_by(tables: &mut [u8], shape: Shape, t: u8, b: u8)
+    requires { ⌜ Fits shape (length (now tables)) × OneOf (shape .tasks) t ⌝ }
+    ensures { λ _. ⌜ Does shape (now (tables .entry)) (now (tables .exit)) (λ c L. let s = ledger.signal b L in setOutcome t (woke (s .woke)) (s .ledger)) ⌝ }
+{
+    let w = signal(tables, shape, b);
+    tables::tasks::store_outcome(tables, shape, t, Outcome::Woke(w));
 }
 
 // Wakes the waiter, if there is one, as by signal.

@@ -6,7 +6,7 @@ use lib.Dec.{eqb, leb, ltb}
 use lib.ListN.{length, getD, take}
 use Rattle.tables.specs.declared.blocks.Blocks.{Blocks}
 use Rattle.tables.specs.declared.tasks.Outcome.{Outcome}
-use Rattle.tables.specs.declared.tasks.Outcome.the-variants.{Plain, Begin, Message, Entry, Refused, Semaphore}
+use Rattle.tables.specs.declared.tasks.Outcome.the-variants.{Plain, Begin, Message, Entry, Refused, Semaphore, Woke}
 use Rattle.tables.specs.declared.tasks.OutcomeBytes.{OutcomeBytes}
 use Rattle.tables.specs.declared.tasks.Request.{Request}
 use Rattle.tables.specs.declared.tasks.Request.the-variants.{None, Receive, Dequeue, Enqueue}
@@ -21,7 +21,7 @@ use Rattle.ledger.specs.Services.{shape}
 
 abbrev pub outcomeOf : ℕ → ℕ → ℕ → ℕ → Outcome
 outcomeOf k a b c =
-    cond (eqb k 1) Begin (cond (eqb k 2) (Message a b c) (cond (eqb k 3) (Entry a) (cond (eqb k 4) (Refused a) (cond (eqb k 5) (Semaphore a) Plain))))
+    cond (eqb k 1) Begin (cond (eqb k 2) (Message a b c) (cond (eqb k 3) (Entry a) (cond (eqb k 4) (Refused a) (cond (eqb k 5) (Semaphore a) (cond (eqb k 6) (Woke a) Plain)))))
 
 abbrev bytes : (kind first second third : ℕ) → OutcomeBytes
 bytes k a b c = record { kind = k; first = a; second = b; third = c }
@@ -33,6 +33,7 @@ outcomeWritten (Message a b c) = bytes 2 a b c
 outcomeWritten (Entry a) = bytes 3 a 0 0
 outcomeWritten (Refused a) = bytes 4 a 0 0
 outcomeWritten (Semaphore a) = bytes 5 a 0 0
+outcomeWritten (Woke a) = bytes 6 a 0 0
 
 abbrev pub outcomeBytes : Outcome → List ℕ
 outcomeBytes o = let b = outcomeWritten o in b .kind ∷ b .first ∷ b .second ∷ b .third ∷ []
@@ -97,6 +98,7 @@ viewOutcome (Message a b c) z = ledger.message a b c
 viewOutcome (Entry w) z = ledger.entry (take w z)
 viewOutcome (Refused a) z = ledger.refused a
 viewOutcome (Semaphore a) z = ledger.semaphore a
+viewOutcome (Woke a) z = ledger.woke a
 
 unfoldable pub viewRequest : Config → Request → (waiting : List ℕ) → ledger.Request
 viewRequest c None e = ledger.none
@@ -122,6 +124,7 @@ outcomeAs (ledger.message a b c) = 2 ∷ a ∷ b ∷ c ∷ []
 outcomeAs (ledger.entry e) = 3 ∷ length e ∷ 0 ∷ 0 ∷ []
 outcomeAs (ledger.refused a) = 4 ∷ a ∷ 0 ∷ 0 ∷ []
 outcomeAs (ledger.semaphore a) = 5 ∷ a ∷ 0 ∷ 0 ∷ []
+outcomeAs (ledger.woke a) = 6 ∷ a ∷ 0 ∷ 0 ∷ []
 
 unfoldable pub requestAs : ledger.Request → List ℕ
 requestAs ledger.none = 0 ∷ 0 ∷ []

@@ -9,7 +9,7 @@ use lib.ListN.{length, take, length-take}
 use lib.Seq.{length-take-le}
 use borrow.Author.Tests.{ne-eqb, eqb-false, le-leb, lt-leb, leb-true, ltb-true}
 use Rattle.tables.specs.declared.tasks.Outcome.{Outcome}
-use Rattle.tables.specs.declared.tasks.Outcome.the-variants.{Plain, Begin, Message, Entry, Refused, Semaphore}
+use Rattle.tables.specs.declared.tasks.Outcome.the-variants.{Plain, Begin, Message, Entry, Refused, Semaphore, Woke}
 use Rattle.tables.specs.declared.tasks.Request.{Request}
 use Rattle.tables.specs.declared.tasks.Request.the-variants.{None, Receive, Dequeue, Enqueue}
 use Rattle.tables.specs.declared.semaphores.Semaphore as state
@@ -41,6 +41,7 @@ Narrow (Message a b c) = Unit
 Narrow (Entry a) = a ≤ 16
 Narrow (Refused a) = Unit
 Narrow (Semaphore a) = Unit
+Narrow (Woke a) = Unit
 
 pub case {ℓ} : {P : Type ℓ} (b : Bool) → (b ≡ true → P) → (b ≡ false → P) → P
 case true y n = y refl
@@ -53,6 +54,7 @@ outcome-back (Message a b c) = refl
 outcome-back (Entry a) = refl
 outcome-back (Refused a) = refl
 outcome-back (Semaphore a) = refl
+outcome-back (Woke a) = refl
 
 pub request-back : (Q : ℕ) (q : Request) → AsksFor Q q → requestOf Q (requestKind q) (requestArgument q) ≡ q
 request-back Q None w = refl
@@ -95,6 +97,7 @@ outcome-as (Message a b c) z n h = refl
 outcome-as (Entry a) z n h = let e : a ≡ length (take a z) = sym (length-take-le a z (omega arith)) in ap (λ (x : ℕ). 3 ∷ x ∷ 0 ∷ 0 ∷ []) e
 outcome-as (Refused a) z n h = refl
 outcome-as (Semaphore a) z n h = refl
+outcome-as (Woke a) z n h = refl
 
 -- a slot as long as another makes the same bytes of an outcome
 pub outcome-long : (o : Outcome) (x y : List ℕ) → length x ≡ length y → outcomeAs (viewOutcome o x) ≡ outcomeAs (viewOutcome o y)
@@ -105,6 +108,7 @@ outcome-long (Message a b c) x y h = refl
 outcome-long (Entry a) x y h = let e : length (take a x) ≡ length (take a y) = length-take a x ∙ ap (min a) h ∙ sym (length-take a y) in ap (λ (n : ℕ). 3 ∷ n ∷ 0 ∷ 0 ∷ []) e
 outcome-long (Refused a) x y h = refl
 outcome-long (Semaphore a) x y h = refl
+outcome-long (Woke a) x y h = refl
 
 -- whatever waits beside it
 pub request-as : (c : Config) (q : Request) (e : List ℕ) → requestBytes q ≡ requestAs (viewRequest c q e)
@@ -129,6 +133,7 @@ outcome-over (ledger.message a b c) y o = refl
 outcome-over (ledger.entry e) y o = refl
 outcome-over (ledger.refused a) y o = refl
 outcome-over (ledger.semaphore a) y o = refl
+outcome-over (ledger.woke a) y o = refl
 
 request-over-plain : (a b c d : ℕ) (y : ledger.Request) (q : Request) → splice ((a ∷ b ∷ c ∷ d ∷ []) ++ requestAs y) 4 (requestBytes q) ≡ (a ∷ b ∷ c ∷ d ∷ []) ++ requestBytes q
 unfolding requestAs
@@ -145,3 +150,4 @@ request-over (ledger.message a b c) y q = request-over-plain 2 a b c y q
 request-over (ledger.entry e) y q = request-over-plain 3 (length e) 0 0 y q
 request-over (ledger.refused a) y q = request-over-plain 4 a 0 0 y q
 request-over (ledger.semaphore a) y q = request-over-plain 5 a 0 0 y q
+request-over (ledger.woke a) y q = request-over-plain 6 a 0 0 y q

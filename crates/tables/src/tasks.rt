@@ -22,6 +22,7 @@ pub enum Outcome {
     Entry(u8),
     Refused(u8),
     Semaphore(u8),
+    Woke(u8),
 }
 
 // The open request: none, a receive from a task, a dequeue, an enqueue (its bytes wait beside it).
@@ -63,6 +64,9 @@ fn outcome_of(k: u8, a: u8, b: u8, c: u8) -> Outcome
     if k == 5 {
         return Outcome::Semaphore(a);
     }
+    if k == 6 {
+        return Outcome::Woke(a);
+    }
     Outcome::Plain
 }
 
@@ -102,6 +106,12 @@ fn outcome_bytes(o: Outcome) -> OutcomeBytes
         },
         Outcome::Semaphore(a) => OutcomeBytes {
             kind: 5,
+            first: a,
+            second: 0,
+            third: 0,
+        },
+        Outcome::Woke(a) => OutcomeBytes {
+            kind: 6,
             first: a,
             second: 0,
             third: 0,

@@ -7,6 +7,8 @@ use plain_executive::configuration::Configuration;
 use plain_executive::executive::Executive;
 use plain_executive::numbers::{Number, MEMORY};
 use plain_executive::random::Random;
+use plain_executive::semaphore::Semaphore;
+use plain_executive::tasks::Block;
 
 use crate::lent::{ends, parts, timer_row, Lent, Regions, COUNT, FRAME, MARKS, PART, PLANE, PLANES, SIZES, TICKS};
 use crate::rules::{self, Rule};
@@ -26,6 +28,8 @@ pub struct Counts {
     pub reissues: u64,
     /// Of accepted frames.
     pub strange: BTreeMap<&'static str, u64>,
+    /// Accepted signals of a semaphore that is WAITING with a task without event wait: that task is told.
+    pub told_without_wait: u64,
 }
 
 /// Feeds frames to damaged memory by a given call, and watches each.
@@ -68,6 +72,7 @@ impl<Call: FnMut(&mut Lent, &[u8]) -> Number> Watch<Call> {
     fn compare(&mut self, memory: &mut Lent, other: &mut Executive, frame: &[u8], told: &dyn Fn() -> String) {
         let before = memory.clone();
         let found = strange(&before, other.configuration());
+        let without_wait = signals_without_wait(other, frame);
         let answer = other.frame(frame);
         let number = self.frame(memory, frame);
         assert_eq!(number, answer.refusal(), "the number; {}", told());
@@ -85,6 +90,7 @@ impl<Call: FnMut(&mut Lent, &[u8]) -> Number> Watch<Call> {
         } else {
             *self.counts.accepted.entry(frame[0]).or_default() += 1;
             self.counts.reissues += u64::from(answer.reissues());
+            self.counts.told_without_wait += u64::from(without_wait);
             found.into_iter().for_each(|name| *self.counts.strange.entry(name).or_default() += 1);
         }
     }
@@ -92,6 +98,20 @@ impl<Call: FnMut(&mut Lent, &[u8]) -> Number> Watch<Call> {
     fn frame(&mut self, memory: &mut Lent, frame: &[u8]) -> Number {
         self.counts.calls += 1;
         (self.call)(memory, frame)
+    }
+}
+
+/// A signal whose semaphore is WAITING with a task that has no event wait. No session comes to that.
+fn signals_without_wait(executive: &Executive, frame: &[u8]) -> bool {
+    let &[SIGNAL, _, named, _, _] = frame else { return false };
+    let configuration = executive.configuration();
+    let number = if named == 0 { configuration.semaphore_of_task(executive.running()) } else { named };
+    if number > configuration.nameable_semaphores() {
+        return false;
+    }
+    match executive.semaphore(number) {
+        Semaphore::Waiting(task) => !executive.tasks().get(task).blocks().has(Block::EventWait),
+        _ => false,
     }
 }
 
@@ -182,7 +202,7 @@ fn a_value(random: &mut Random, configuration: &Configuration) -> u8 {
         1 => near,
         2 => near.wrapping_add(1),
         3 => random.between(0, tasks),
-        _ => random.between(0, 6),
+        _ => random.between(0, 7),
     }
 }
 

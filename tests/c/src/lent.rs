@@ -273,6 +273,7 @@ impl<'lent> Reader<'lent> {
             3 => OutcomeItem::Entry(slot[..usize::from(self.at(record + 1)).min(16)].to_vec()),
             4 => OutcomeItem::Refused(self.at(record + 1)),
             5 => OutcomeItem::Semaphore(self.at(record + 1)),
+            6 => OutcomeItem::Woke(self.at(record + 1)),
             _ => OutcomeItem::Plain,
         }
     }

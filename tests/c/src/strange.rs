@@ -22,7 +22,7 @@ pub const STRANGE: [Situation; 28] = [
         let bits = |plane: &[u8]| (tasks..8 * PLANE).any(|bit| plane[bit / 8] >> (bit % 8) & 1 == 1);
         seen.lent.tables[PLANES..seen.regions.records].chunks_exact(PLANE).any(bits)
     }),
-    ("outcome: above 5", |seen| seen.records().any(|record| record[0] > 5)),
+    ("outcome: above 6", |seen| seen.records().any(|record| record[0] > 6)),
     ("outcome: an entry above 16", |seen| seen.records().any(|record| record[0] == 3 && record[1] > 16)),
     ("request: above 3", |seen| seen.records().any(|record| record[4] > 3)),
     ("request: a queue that there is not", |seen| seen.records().any(|record| seen.names_no_queue(record))),

@@ -81,9 +81,10 @@ fn any_damage() {
 
 /// Each rule was broken, each service accepted, each number given, and each strange memory met by an accepted frame.
 fn all_met(counts: &Counts) {
-    let Counts { broken, filled, accepted, refused, strange, reissues, .. } = counts;
+    let Counts { broken, filled, accepted, refused, strange, reissues, told_without_wait, .. } = counts;
     let all = format!(
-        "{broken:?}, {filled} by frames, accepted {accepted:?}, refused {refused:?}, {reissues} reissues, {strange:#?}"
+        "{broken:?}, {filled} by frames, accepted {accepted:?}, refused {refused:?}, {reissues} reissues, \
+         {told_without_wait} told without wait, {strange:#?}"
     );
     println!("{} calls: {all}", counts.calls);
     for rule in [Rule::Sizes, Rule::Marks, Rule::Configuration, Rule::Messages] {
@@ -100,6 +101,7 @@ fn all_met(counts: &Counts) {
     }
     assert!(*reissues > 1000, "{all}");
     assert!(*filled > 20, "{all}");
+    assert!(*told_without_wait > 20, "{all}");
 }
 
 /// A memory that needs few bytes: each of them, and each of the marks in front, with each value.

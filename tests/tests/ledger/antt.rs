@@ -52,6 +52,7 @@ fn outcome(outcome: &OutcomeItem) -> String {
         OutcomeItem::Entry(entry) => format!("(entry {})", bytes(entry)),
         OutcomeItem::Refused(number) => format!("(refused {number})"),
         OutcomeItem::Semaphore(number) => format!("(semaphore {number})"),
+        OutcomeItem::Woke(task) => format!("(woke {task})"),
     }
 }
 

@@ -15,7 +15,7 @@ use mathlib.Core.Path.{_≡_, refl}
 use mathlib.Core.Bool.{Bool, true, false}
 use mathlib.Core.List.{List, [], _∷_, map}
 use Rattle.ledger.specs.Ledger.{Semaphore, PENDING, DONE, WAITING, Outcome, plain, begin, message, entry, refused, semaphore, \
-Request, none, receive, dequeue, enqueue}
+woke, Request, none, receive, dequeue, enqueue}
 use Rattle.ledger.specs.Session.{session}
 use Rattle.ledger.specs.Lines.{output}
 use Rattle.ledger.specs.Computing.Hex.{hex}

@@ -151,6 +151,8 @@ fn outcome(configuration: &Configuration, outcome: &OutcomeItem) -> String {
         OutcomeItem::Entry(entry) => format!("entry {}", hex(entry)),
         OutcomeItem::Refused(number) => format!("refused {number}"),
         OutcomeItem::Semaphore(number) => named(configuration, *number),
+        OutcomeItem::Woke(0) => "woke nobody".to_string(),
+        OutcomeItem::Woke(task) => format!("woke task {task}"),
     }
 }
 

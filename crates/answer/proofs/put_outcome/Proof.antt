@@ -33,14 +33,20 @@ put-entry-requires c κs = search needs
 enum-known-o-3 : tie.Need-enum-known-o-3
 enum-known-o-3 c = search needs
 
-put-refused-requires : tie.Need-put-refused-requires
-put-refused-requires c κs = search needs
+put-number-requires : tie.Need-put-number-requires
+put-number-requires c κs = search needs
 
 enum-known-o-4 : tie.Need-enum-known-o-4
 enum-known-o-4 c = search needs
 
-put-semaphore-requires : tie.Need-put-semaphore-requires
-put-semaphore-requires c κs = search needs
+put-number-requires-2 : tie.Need-put-number-requires-2
+put-number-requires-2 c κs = search needs
+
+enum-known-o-5 : tie.Need-enum-known-o-5
+enum-known-o-5 c = search needs
+
+put-number-requires-3 : tie.Need-put-number-requires-3
+put-number-requires-3 c κs = search needs
 
 same-length : tie.Need-same-length
 same-length c = search needs
@@ -74,15 +80,22 @@ same-length-5 : tie.Need-same-length-5
 same-length-5 c = search needs
 
 returns-5 : tie.Need-returns-5
-unfolding viewOutcome
-returns-5 c = rw (c .before .before .before .before .before .o3 .given .1) (c .before .before .put-refused .ensures)
+unfolding line shown viewOutcome
+returns-5 c = rw (c .before .before .before .before .before .o3 .given .1) (c .before .before .put-number .ensures)
 
 same-length-6 : tie.Need-same-length-6
 same-length-6 c = search needs
 
 returns-6 : tie.Need-returns-6
-unfolding viewOutcome
-returns-6 c = rw (c .before .before .before .before .before .o4 .given .1) (c .before .before .put-semaphore .ensures)
+unfolding line shown viewOutcome
+returns-6 c = rw (c .before .before .before .before .before .o4 .given .1) (c .before .before .put-number2 .ensures)
+
+same-length-7 : tie.Need-same-length-7
+same-length-7 c = search needs
+
+returns-7 : tie.Need-returns-7
+unfolding line shown viewOutcome
+returns-7 c = rw (c .before .before .before .before .before .o5 .given .1) (c .before .before .put-number3 .ensures)
 
 pub put-outcome-spec : {M : Type 1} → statement M
 put-outcome-spec =
@@ -97,9 +110,11 @@ put-outcome-spec =
     enum-known-o-2
     put-entry-requires
     enum-known-o-3
-    put-refused-requires
+    put-number-requires
     enum-known-o-4
-    put-semaphore-requires
+    put-number-requires-2
+    enum-known-o-5
+    put-number-requires-3
     same-length
     returns
     same-length-2
@@ -111,4 +126,6 @@ put-outcome-spec =
     same-length-5
     returns-5
     same-length-6
-    returns-6)
+    returns-6
+    same-length-7
+    returns-7)

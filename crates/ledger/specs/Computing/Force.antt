@@ -3,7 +3,7 @@ use Prim.Native.Nat.{ℕ}
 use mathlib.Core.Path.{_≡_, refl, _∙_}
 use mathlib.Core.Bool.{Bool, true, false}
 use mathlib.Core.List.{List, [], _∷_}
-use Rattle.ledger.specs.Ledger.{Semaphore, PENDING, DONE, WAITING, Outcome, plain, begin, message, entry, refused, semaphore, Request, none, receive, dequeue, enqueue, Task, Message, Queue, Timer, Ledger}
+use Rattle.ledger.specs.Ledger.{Semaphore, PENDING, DONE, WAITING, Outcome, plain, begin, message, entry, refused, semaphore, woke, Request, none, receive, dequeue, enqueue, Task, Message, Queue, Timer, Ledger}
 
 module _ {B : Type 0} where
   unfoldable pub forceBool : Bool → (Bool → B) → B
@@ -29,6 +29,7 @@ module _ {B : Type 0} where
   forceOutcome (entry e) k = k (entry e)
   forceOutcome (refused n) k = k (refused n)
   forceOutcome (semaphore n) k = k (semaphore n)
+  forceOutcome (woke n) k = k (woke n)
 
   unfoldable pub forceRequest : Request → (Request → B) → B
   forceRequest none k = k none
@@ -80,6 +81,7 @@ module _ {B : Type 0} where
   forceOutcome-is (entry e) k = refl
   forceOutcome-is (refused n) k = refl
   forceOutcome-is (semaphore n) k = refl
+  forceOutcome-is (woke n) k = refl
 
   forceRequest-is : (r : Request) (k : Request → B) → forceRequest r k ≡ k r
   unfolding forceRequest

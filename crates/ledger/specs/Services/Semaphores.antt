@@ -9,20 +9,25 @@ use Rattle.ledger.specs.Ledger.{Semaphore, PENDING, DONE, WAITING, semap
 unfoldable pub waitFor : ℕ → ℕ → Ledger → Ledger
 waitFor t b l = setEventWait t true (setSemaphore b (WAITING t) l)
 
--- WAITING becomes PENDING and its task loses event wait; otherwise DONE
-unfoldable pub signalled : Semaphore → ℕ → Ledger → Ledger
-signalled PENDING b l = setSemaphore b DONE l
-signalled DONE b l = setSemaphore b DONE l
-signalled (WAITING t) b l = setEventWait t false (setSemaphore b PENDING l)
+-- what a signal leaves, and the task that lost its event wait, or 0 if none did
+pub record Signalled : Type 0 where
+  pub ledger : Ledger
+  pub woke : ℕ
 
-unfoldable pub signal : ℕ → Ledger → Ledger
+-- WAITING becomes PENDING and its task loses event wait; otherwise DONE
+unfoldable pub signalled : Semaphore → ℕ → Ledger → Signalled
+signalled PENDING b l = record { ledger = setSemaphore b DONE l; woke = 0 }
+signalled DONE b l = record { ledger = setSemaphore b DONE l; woke = 0 }
+signalled (WAITING t) b l = record { ledger = setEventWait t false (setSemaphore b PENDING l); woke = t }
+
+unfoldable pub signal : ℕ → Ledger → Signalled
 signal b l = signalled (semaphoreOf l b) b l
 
 -- the waiter, if there is one, is woken as by signal: a queue's semaphores are never DONE
 unfoldable pub woken : Semaphore → ℕ → Ledger → Ledger
 woken PENDING b l = l
 woken DONE b l = l
-woken (WAITING t) b l = signal b l
+woken (WAITING t) b l = signal b l .ledger
 
 unfoldable pub wakeWaiter : ℕ → Ledger → Ledger
 wakeWaiter b l = woken (semaphoreOf l b) b l

@@ -26,7 +26,7 @@ unfoldable pub insertAgain : Timer → Ledger → Ledger
 insertAgain t l = cond (eqb (t .period) 0) l (insertTimer (record { task = t .task; semaphore = t .semaphore; due = l .N + t .period; period = t .period }) l)
 
 unfoldable pub expire : Timer → Ledger → Ledger
-expire t l = signal (t .semaphore) (insertAgain t l)
+expire t l = signal (t .semaphore) (insertAgain t l) .ledger
 
 unfoldable pub expireAll : List Timer → Ledger → Ledger
 expireAll [] l = l

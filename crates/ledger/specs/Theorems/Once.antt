@@ -50,13 +50,13 @@ once-more {c} boxes t m g n h = record {
 abbrev boxes : Ledger → List (List Message)
 boxes l = l .mailboxes
 
-of-signalled : (s : Semaphore) (b : ℕ) (l : Ledger) → boxes (signalled s b l) ≡ boxes l
+of-signalled : (s : Semaphore) (b : ℕ) (l : Ledger) → boxes (signalled s b l .ledger) ≡ boxes l
 unfolding updates signalled
 of-signalled PENDING b l = refl
 of-signalled DONE b l = refl
 of-signalled (WAITING t) b l = refl
 
-of-signal : (b : ℕ) (l : Ledger) → boxes (signal b l) ≡ boxes l
+of-signal : (b : ℕ) (l : Ledger) → boxes (signal b l .ledger) ≡ boxes l
 unfolding signal
 of-signal b l = of-signalled (semaphoreOf l b) b l
 
@@ -147,7 +147,7 @@ module _ (c : Config) where
   once-effect TIMER s a b x e l g h = h
   once-effect PURGE s a b x e l g h = h
   once-effect TICK s a b x e l g h = as-before (of-tick c l) h
-  once-effect EXIT s a b x e l g h = as-before (cond-both (λ m. boxes m ≡ boxes l) (eqb b 0) l (signal b l) refl (of-signal b l)) h
+  once-effect EXIT s a b x e l g h = as-before (cond-both (λ m. boxes m ≡ boxes l) (eqb b 0) l (signal b l .ledger) refl (of-signal b l)) h
 
   -- ---- a frame
 

@@ -136,7 +136,7 @@ wait-load t b r l h =
     let m = setSemaphore b (WAITING t) l in
     omega (arith, request-load t r (setEventWait t true m) (event-blocks t m h), event-load t m)
 
-signalled-load : (s : Semaphore) (b : ℕ) (l : Ledger) → load (signalled s b l .tasks) ≤ load (l .tasks) + 1
+signalled-load : (s : Semaphore) (b : ℕ) (l : Ledger) → load (signalled s b l .ledger .tasks) ≤ load (l .tasks) + 1
 unfolding signalled setSemaphore setSemaphores
 signalled-load PENDING b l = omega arith
 signalled-load DONE b l = omega arith

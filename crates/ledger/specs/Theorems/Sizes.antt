@@ -8,7 +8,7 @@ use mathlib.Core.Option.{Option, none as nothing, some}
 use lib.Dec.{ltb, eqb}
 use lib.ListN.{length, length-map, length-replicate}
 use Rattle.ledger.specs.Config.{Config}
-use Rattle.ledger.specs.Ledger.{Semaphore, PENDING, DONE, WAITING, Outcome, plain, refused, Request, none, receive, dequeue, enqueue, Task, Message, Queue, Timer, Ledger, semaphoreOf, running, setTask, setSemaphores, setSemaphore, setMailbox, setQueue, setTimers, setClock, setBlocks, setOutcome, setSlot, setRequest, setSuspended, setEventWait, setMessageWait, fresh}
+use Rattle.ledger.specs.Ledger.{Semaphore, PENDING, DONE, WAITING, Outcome, plain, refused, woke, Request, none, receive, dequeue, enqueue, Task, Message, Queue, Timer, Ledger, semaphoreOf, running, setTask, setSemaphores, setSemaphore, setMailbox, setQueue, setTimers, setClock, setBlocks, setOutcome, setSlot, setRequest, setSuspended, setEventWait, setMessageWait, fresh}
 use Rattle.ledger.specs.Services.{waitFor, signalled, signal, woken, wakeWaiter, waited, wait, withdrawWait, send, takeEntry, putEntry, received, dequeued, enqueued, issue, terminate, execute, insertTimer, startTimer, purge, insertAgain, expire, expireAll, tock, tick, Code, WAIT, SIGNAL, PEND, SEND, SENDW, RECEIVE, DEQUEUE, ENQUEUE, RESUME, SUSPEND, TERMINATE, EXECUTE, DELAY, TIMER, PURGE, TICK, EXIT, effect}
 use Rattle.ledger.specs.Lists.{byte}
 use Rattle.ledger.specs.Refusals.{fields, call, refusal}
@@ -80,13 +80,13 @@ of-waitFor : (t b : ℕ) (l : Ledger) → sizes (waitFor t b l) ≡ sizes l
 unfolding waitFor
 of-waitFor t b l = simp (of-event, items)
 
-of-signalled : (s : Semaphore) (b : ℕ) (l : Ledger) → sizes (signalled s b l) ≡ sizes l
+of-signalled : (s : Semaphore) (b : ℕ) (l : Ledger) → sizes (signalled s b l .ledger) ≡ sizes l
 unfolding signalled
 of-signalled PENDING b l = simp items
 of-signalled DONE b l = simp items
 of-signalled (WAITING t) b l = simp (of-event, items)
 
-of-signal : (b : ℕ) (l : Ledger) → sizes (signal b l) ≡ sizes l
+of-signal : (b : ℕ) (l : Ledger) → sizes (signal b l .ledger) ≡ sizes l
 unfolding signal
 of-signal b l = of-signalled (semaphoreOf l b) b l
 
@@ -152,7 +152,7 @@ of-tick c l = cond-both (λ m. sizes m ≡ sizes l) (ltb (suc (l .ticks)) (c .K)
 of-effect : (k : Code) (c : Config) (s a b x : ℕ) (e : List ℕ) (l : Ledger) → sizes (effect k c s a b x e l) ≡ sizes l
 unfolding effect wait terminate execute startTimer insertTimer purge
 of-effect WAIT c s a b x e l = simp (of-outcome, of-waited)
-of-effect SIGNAL c s a b x e l = of-signal b l
+of-effect SIGNAL c s a b x e l = of-outcome s (woke (signal b l .woke)) (signal b l .ledger) ∙ of-signal b l
 of-effect PEND c s a b x e l = simp items
 of-effect SEND c s a b x e l = of-send s a b x l
 of-effect SENDW c s a b x e l = simp (of-waitFor, of-send)
@@ -167,7 +167,7 @@ of-effect DELAY c s a b x e l = simp (of-waitFor, items)
 of-effect TIMER c s a b x e l = simp items
 of-effect PURGE c s a b x e l = simp items
 of-effect TICK c s a b x e l = of-tick c l
-of-effect EXIT c s a b x e l = cond-both (λ m. sizes m ≡ sizes l) (eqb b 0) l (signal b l) refl (of-signal b l)
+of-effect EXIT c s a b x e l = cond-both (λ m. sizes m ≡ sizes l) (eqb b 0) l (signal b l .ledger) refl (of-signal b l)
 
 pub of-accept : (c : Config) (f : List ℕ) (l : Ledger) → sizes (accept c f l) ≡ sizes l
 unfolding accept

@@ -1,6 +1,6 @@
 -- Every accepted frame, and every issue in settling, is a chain of changes: the walk through the services that all rules about the ledger share.
 use Prim.Native.Nat.{ℕ, suc, _+_, _≤_}
-use mathlib.Core.Path.{_≡_, refl, _∙_, ap, subst}
+use mathlib.Core.Path.{_≡_, refl, sym, _∙_, ap, subst}
 use mathlib.Core.Bool.{Bool, true, false, cond}
 use mathlib.Core.List.{List, [], _∷_}
 use mathlib.Core.Option.{Option, none as nothing, some}
@@ -9,7 +9,7 @@ use borrow.Author.Tests.{ltb-true, not-true}
 use lib.Dec.{ltb, eqb}
 use Rattle.ledger.specs.Lists.{at, find, word}
 use Rattle.ledger.specs.Config.{Config}
-use Rattle.ledger.specs.Ledger.{Semaphore, PENDING, DONE, WAITING, Outcome, plain, begin, message, entry, refused, semaphore, Request, none, receive, dequeue, enqueue, Task, Message, Timer, Ledger, nullTask, task, semaphoreOf, mailbox, queue, held, runnable, running, setTask, setSemaphores, setMailbox, setTimers, setClock, setBlocks, setOutcome, setRequest, setSuspended, setMessageWait}
+use Rattle.ledger.specs.Ledger.{Semaphore, PENDING, DONE, WAITING, Outcome, plain, begin, message, entry, refused, semaphore, woke, Request, none, receive, dequeue, enqueue, Task, Message, Timer, Ledger, nullTask, task, semaphoreOf, mailbox, queue, held, runnable, running, setTask, setSemaphores, setMailbox, setTimers, setClock, setBlocks, setOutcome, setRequest, setSuspended, setMessageWait}
 use Rattle.ledger.specs.Services.{signalled, signal, woken, wakeWaiter, waited, wait, withdrawWait, send, wanted, notEmpty, notFull, empty, full, received, dequeued, enqueued, issue, terminate, execute, insertTimer, startTimer, purge, tock, tick, Code, WAIT, SIGNAL, PEND, SEND, SENDW, RECEIVE, DEQUEUE, ENQUEUE, RESUME, SUSPEND, TERMINATE, EXECUTE, DELAY, TIMER, PURGE, TICK, EXIT, effect}
 use Rattle.ledger.specs.Refusals.{Follows, xAlone, xAndEntry, Call, fields, valueX, meets25, wouldWaitOn, isWaiting, meets21, inAMailbox, idleOrWaiting, onNotEmpty, onNotFull, call, refusal}
 use Rattle.ledger.specs.Session.{openRequest, isOpen, refused21, issueAgain, reissue, accept}
@@ -52,6 +52,7 @@ isEntry (message m s b) = false
 isEntry (entry e) = true
 isEntry (refused n) = false
 isEntry (semaphore b) = false
+isEntry (woke t) = false
 
 no-entry : (o : Outcome) (e : List ℕ) → isEntry o ≡ false → o ≡ entry e → ⊥
 no-entry o e n h = let z : _≡_ {A = ℕ} 0 1 = cc (ap isEntry h) in omega arith
@@ -77,19 +78,19 @@ module _ {c : Config} {X : ℕ → Type 0} {l₀ : Ledger} where
   unfolding woken signal signalled
   woken-by PENDING b l e k = k
   woken-by DONE b l e k = k
-  woken-by (WAITING t) b l e k = rw (e, signalled) (k ⨾ wakes b t e)
+  woken-by (WAITING t) b l e k = subst (λ (s : Semaphore). Changes c X l₀ (signalled s b l .ledger)) (sym e) (k ⨾ wakes b t e)
 
   wakes-waiter : (b : ℕ) (l : Ledger) → Changes c X l₀ l → Changes c X l₀ (wakeWaiter b l)
   unfolding wakeWaiter
   wakes-waiter b l k = woken-by (semaphoreOf l b) b l refl k
 
-  signalled-by : (s : Semaphore) (b : ℕ) (l : Ledger) → semaphoreOf l b ≡ s → b ≤ c .S + c .T → Changes c X l₀ l → Changes c X l₀ (signalled s b l)
+  signalled-by : (s : Semaphore) (b : ℕ) (l : Ledger) → semaphoreOf l b ≡ s → b ≤ c .S + c .T → Changes c X l₀ l → Changes c X l₀ (signalled s b l .ledger)
   unfolding signalled isWaiting
   signalled-by PENDING b l e h k = k ⨾ finishes b h (ap isWaiting e)
   signalled-by DONE b l e h k = k ⨾ finishes b h (ap isWaiting e)
   signalled-by (WAITING t) b l e h k = k ⨾ wakes b t e
 
-  signals : (b : ℕ) (l : Ledger) → b ≤ c .S + c .T → Changes c X l₀ l → Changes c X l₀ (signal b l)
+  signals : (b : ℕ) (l : Ledger) → b ≤ c .S + c .T → Changes c X l₀ l → Changes c X l₀ (signal b l .ledger)
   unfolding signal
   signals b l h k = signalled-by (semaphoreOf l b) b l refl h k
 
@@ -130,7 +131,7 @@ module _ {c : Config} {X : ℕ → Type 0} {l₀ : Ledger} where
   signals-all : (ts : List Timer) (l : Ledger) → Every (Timed c) ts → Changes c X l₀ l → Changes c X l₀ (signalAll ts l)
   unfolding signalAll
   signals-all [] l nil k = k
-  signals-all (t ∷ ts) l (cons n ns) k = signals-all ts (signal (t .semaphore) l) ns (signals (t .semaphore) l (n .semaphore .upto) k)
+  signals-all (t ∷ ts) l (cons n ns) k = signals-all ts (signal (t .semaphore) l .ledger) ns (signals (t .semaphore) l (n .semaphore .upto) k)
 
   ticked : (l : Ledger) → Every (Timed c) (l .timers) → Changes c X l₀ l → Changes c X l₀ (tick c l)
   unfolding tick setClock
@@ -159,14 +160,14 @@ module _ (c : Config) (X : ℕ → Type 0) (self a b x : ℕ) (e : List ℕ) (l 
   self-unwaiting : (k : Code) → fields k .service ≡ true → Accepted c l (called k) → waiting (setOutcome self plain l) self ≡ false
   self-unwaiting k s g = unwaiting self (runs-unwaiting (task l self) (g .self s .runs))
 
-  unless-0 : (z : Bool) → b ≤ c .S + c .T → Changes c X l (cond z l (signal b l))
+  unless-0 : (z : Bool) → b ≤ c .S + c .T → Changes c X l (cond z l (signal b l .ledger))
   unless-0 true h = start
   unless-0 false h = signals b l h start
 
   effects : (k : Code) → X x → Named c l → Accepted c l (called k) → Effect k
   unfolding effect fields meets25 wait terminate execute withdrawWait setSemaphores setTimers setMailbox setTask setOutcome semaphoreOf startTimer insertTimer purge meets21 wouldWaitOn refused21 empty full queue inAMailbox send setMessageWait setBlocks task
   effects WAIT h n g = shows self (semaphore b) _ refl (waited-by (semaphoreOf l b) self b _ refl (g .self refl .number) (self-unwaiting WAIT refl g) plainly)
-  effects SIGNAL h n g = signals b _ (g .B .upto) plainly
+  effects SIGNAL h n g = shows self (woke _) _ refl (signals b _ (g .B .upto) plainly)
   effects PEND h n g = plainly ⨾ pends b (g .not21)
   effects SEND h n g = sends self a b x _ (record { number = g .X .number; sender = g .self refl .number; semaphore = g .B }) (g .X .nowhere) plainly
   effects SENDW h n g =

@@ -30,25 +30,25 @@ renewed n ts = renewAll n (keep (dueAt n) ts) (keep (λ t. not (dueAt n t)) ts)
 
 unfoldable pub signalAll : List Timer → Ledger → Ledger
 signalAll [] l = l
-signalAll (t ∷ ts) l = signalAll ts (signal (t .semaphore) l)
+signalAll (t ∷ ts) l = signalAll ts (signal (t .semaphore) l .ledger)
 
-signalled-timers : (s : Semaphore) (b : ℕ) (v : List Timer) (l : Ledger) → signalled s b (setTimers v l) ≡ setTimers v (signalled s b l)
+signalled-timers : (s : Semaphore) (b : ℕ) (v : List Timer) (l : Ledger) → signalled s b (setTimers v l) .ledger ≡ setTimers v (signalled s b l .ledger)
 unfolding signalled setSemaphore setSemaphores setTimers setEventWait setBlocks setTask task
 signalled-timers PENDING b v l = refl
 signalled-timers DONE b v l = refl
 signalled-timers (WAITING t) b v l = refl
 
-signal-timers : (b : ℕ) (v : List Timer) (l : Ledger) → signal b (setTimers v l) ≡ setTimers v (signal b l)
+signal-timers : (b : ℕ) (v : List Timer) (l : Ledger) → signal b (setTimers v l) .ledger ≡ setTimers v (signal b l .ledger)
 unfolding signal semaphoreOf setTimers
 signal-timers b v l = signalled-timers (semaphoreOf l b) b v l
 
-signalled-N : (s : Semaphore) (b : ℕ) (l : Ledger) → signalled s b l .N ≡ l .N
+signalled-N : (s : Semaphore) (b : ℕ) (l : Ledger) → signalled s b l .ledger .N ≡ l .N
 unfolding signalled setSemaphore setSemaphores setEventWait setBlocks setTask
 signalled-N PENDING b l = refl
 signalled-N DONE b l = refl
 signalled-N (WAITING t) b l = refl
 
-signal-N : (b : ℕ) (l : Ledger) → signal b l .N ≡ l .N
+signal-N : (b : ℕ) (l : Ledger) → signal b l .ledger .N ≡ l .N
 unfolding signal
 signal-N b l = signalled-N (semaphoreOf l b) b l
 
@@ -60,15 +60,15 @@ insertAgain-is t l = go (eqb (t .period) 0) (insertBy (λ t. t .due) (again (l .
     go true v = refl
     go false v = refl
 
-expire-is : (t : Timer) (l : Ledger) → expire t l ≡ setTimers (renew (l .N) t (l .timers)) (signal (t .semaphore) l)
+expire-is : (t : Timer) (l : Ledger) → expire t l ≡ setTimers (renew (l .N) t (l .timers)) (signal (t .semaphore) l .ledger)
 unfolding expire
-expire-is t l = ap (signal (t .semaphore)) (insertAgain-is t l) ∙ signal-timers (t .semaphore) (renew (l .N) t (l .timers)) l
+expire-is t l = ap (λ m. signal (t .semaphore) m .ledger) (insertAgain-is t l) ∙ signal-timers (t .semaphore) (renew (l .N) t (l .timers)) l
 
 expireAll-is : (ts : List Timer) (l : Ledger) → expireAll ts l ≡ signalAll ts (setTimers (renewAll (l .N) ts (l .timers)) l)
 unfolding expireAll signalAll renewAll setTimers
 expireAll-is [] l = refl
 expireAll-is (t ∷ ts) l =
-    let s = signal (t .semaphore) l in
+    let s = signal (t .semaphore) l .ledger in
     let v = renew (l .N) t (l .timers) in
     ap (expireAll ts) (expire-is t l) ∙ expireAll-is ts (setTimers v s) ∙ ap (λ n. signalAll ts (setTimers (renewAll n ts v) s)) (signal-N (t .semaphore) l)
     ∙ ap (signalAll ts) (sym (signal-timers (t .semaphore) (renewAll (l .N) ts v) l))

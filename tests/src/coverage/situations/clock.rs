@@ -39,6 +39,10 @@ pub const TABLE: &[Situation] = &[
     }),
     ("due wakes its own task", |s| some_due(s, |task, state| state == Semaphore::Waiting(task))),
     ("due wakes another task", |s| some_due(s, |task, state| state.is_waiting() && state != Semaphore::Waiting(task))),
+    ("due wakes and the running task keeps its outcome", |s| {
+        let running = s.answer.running();
+        running != 0 && running == s.own() && some_due(s, |_, state| state.is_waiting())
+    }),
     ("due on PENDING", |s| some_due(s, |_, state| state == Semaphore::Pending)),
     ("due on DONE", |s| some_due(s, |_, state| state == Semaphore::Done)),
     ("tick in the null task", |s| s.accepts(TICK) && s.own() == 0),

@@ -1,6 +1,7 @@
 //! Dequeue and enqueue, as they are first issued.
 
 use super::{Situation, Step};
+use crate::answer;
 use crate::command::*;
 
 fn takes(s: &Step) -> bool {
@@ -33,6 +34,9 @@ pub const TABLE: &[Situation] = &[
     ("dequeue empties", |s| takes(s) && s.before.queues().held(s.a()) == 1),
     ("dequeue takes from a full queue", |s| takes(s) && s.before.queues().is_full(s.a())),
     ("dequeue wakes the one that puts", |s| takes(s) && waits_at_not_full(s)),
+    ("dequeue wakes and shows its entry", |s| {
+        takes(s) && waits_at_not_full(s) && s.answer.running() == s.own() && s.answer.kind() == answer::ENTRY
+    }),
     ("dequeue waits", |s| s.accepts(DEQUEUE) && s.before.queues().is_empty(s.a())),
     ("dequeue leaves a slot's other bytes", |s| {
         let own = s.now(s.own());
@@ -43,6 +47,9 @@ pub const TABLE: &[Situation] = &[
     ("enqueue fills", |s| puts(s) && s.before.queues().held(s.a()) + 1 == depth(s)),
     ("enqueue fills more than one place", |s| puts(s) && depth(s) > 1 && s.before.queues().held(s.a()) + 1 == depth(s)),
     ("enqueue wakes the one that takes", |s| puts(s) && waits_at_not_empty(s)),
+    ("enqueue wakes and shows plain", |s| {
+        puts(s) && waits_at_not_empty(s) && s.answer.running() == s.own() && s.answer.kind() == answer::PLAIN
+    }),
     ("enqueue waits", |s| s.accepts(ENQUEUE) && s.before.queues().is_full(s.a())),
     ("enqueue of 16 bytes waits", |s| {
         s.accepts(ENQUEUE) && s.before.queues().is_full(s.a()) && s.before.configuration().width(s.a()) == 16

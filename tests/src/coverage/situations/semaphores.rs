@@ -1,6 +1,7 @@
 //! Wait, signal, pend and the interrupt exit.
 
 use super::{Situation, Step};
+use crate::answer;
 use crate::command::*;
 use crate::semaphore::Semaphore;
 use crate::tasks::{Block, Outcome};
@@ -37,6 +38,9 @@ pub const TABLE: &[Situation] = &[
     ("signal wakes a suspended task", |s| {
         s.accepts(SIGNAL) && waiter(s) != 0 && s.now(waiter(s)).blocks().has(Block::Suspended)
     }),
+    ("the woken task ran first, and now its waker is shown whom it woke", |s| {
+        s.own() != 0 && s.own() < s.answer.running() && s.answer.bytes()[3..] == [answer::WOKE, s.own()]
+    }),
     ("pend on DONE", |s| s.accepts(PEND) && s.state() == Semaphore::Done),
     ("pend on PENDING", |s| s.accepts(PEND) && s.state() == Semaphore::Pending),
     ("interrupt exit with 0", |s| s.accepts(INTERRUPT_EXIT) && s.b() == 0),
@@ -49,5 +53,8 @@ pub const TABLE: &[Situation] = &[
             && s.own() != 0
             && s.old(s.own()).outcome != Outcome::Plain
             && s.own() == s.answer.running()
+    }),
+    ("interrupt exit wakes and the running task keeps its outcome", |s| {
+        s.accepts(INTERRUPT_EXIT) && s.b() != 0 && waiter(s) != 0 && s.own() != 0 && s.own() == s.answer.running()
     }),
 ];

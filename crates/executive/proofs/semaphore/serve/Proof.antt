@@ -17,8 +17,9 @@ wait-requires : tie.Need-wait-requires
 unfolding fields codeAt at
 wait-requires c κs = let s = c .before .before .before in let e = c .before .match .keys1 in (s .pre .0, subst (λ (n : ℕ). MeansB (s .args .shape) n (s .args .b)) e (s .pre .4), subst (λ (n : ℕ). Asks (s .args .shape) n (s .args .me)) e (s .pre .3) refl)
 
-signal-requires : tie.Need-signal-requires
-signal-requires c κs = search needs
+signal-by-requires : tie.Need-signal-by-requires
+unfolding fields codeAt at
+signal-by-requires c κs = let s = c .before .before .before in (s .pre .0, subst (λ (n : ℕ). Asks (s .args .shape) n (s .args .me)) (c .before .match .keys2) (s .pre .3) refl)
 
 store-requires : tie.Need-store-requires
 unfolding fields codeAt at
@@ -36,7 +37,7 @@ same-length-2 c = search needs
 
 returns-2 : tie.Need-returns-2
 unfolding effect fields codeAt at
-returns-2 c = let s = c .before .before .before .before .before .before in λ a x e g L z w h. by-code g (s .args .shape) (s .args .me) a (s .args .b) x e L (s .args .code) 2 (c .before .before .before .before .match .keys2) (c .before .before .signal .ensures .0 tidy g L z w h)
+returns-2 c = let s = c .before .before .before .before .before .before in λ a x e tidy g L z w h. by-code g (s .args .shape) (s .args .me) a (s .args .b) x e L (s .args .code) 2 (c .before .before .before .before .match .keys2) (c .before .before .signal-by .ensures tidy g L z w h)
 
 same-length-3 : tie.Need-same-length-3
 same-length-3 c = search needs
@@ -50,7 +51,7 @@ serve-spec =
     tie.close
     (tie.spec
     wait-requires
-    signal-requires
+    signal-by-requires
     store-requires
     same-length
     returns

@@ -21,6 +21,9 @@ enum-known-o-3 c = search needs
 enum-known-o-4 : tie.Need-enum-known-o-4
 enum-known-o-4 c = search needs
 
+enum-known-o-5 : tie.Need-enum-known-o-5
+enum-known-o-5 c = search needs
+
 returns : tie.Need-returns
 returns c = rw (c .enum-told .given .1)
 
@@ -39,6 +42,9 @@ returns-5 c = rw (c .before .o3 .given .1)
 returns-6 : tie.Need-returns-6
 returns-6 c = rw (c .before .o4 .given .1)
 
+returns-7 : tie.Need-returns-7
+returns-7 c = rw (c .before .o5 .given .1)
+
 pub outcome-bytes-spec : {M : Type 1} → statement M
 outcome-bytes-spec =
     tie.close
@@ -49,9 +55,11 @@ outcome-bytes-spec =
     enum-known-o-2
     enum-known-o-3
     enum-known-o-4
+    enum-known-o-5
     returns
     returns-2
     returns-3
     returns-4
     returns-5
-    returns-6)
+    returns-6
+    returns-7)
