@@ -37,7 +37,7 @@ pub record Meant (c : Config) (s : Shape) (code self a b : ℕ) (f d : List ℕ)
 -- the code's effect, where the ledger has room for it
 abbrev pub Effects : Config → Shape → (code self a b : ℕ) (f d z w d' z' w' : List ℕ) → Type 0
 Effects c s code self a b f d z w d' z' w' =
-    (L : Ledger) → GoodX c L (fields (codeAt code) .X) a b (256 * byte 3 f + byte 4 f) → ShowsAs tidy c s L d z w
+    (tidy : Bool) (L : Ledger) → GoodX c L (fields (codeAt code) .X) a b (256 * byte 3 f + byte 4 f) → ShowsAs tidy c s L d z w
     → ShowsAs tidy c s (effect (codeAt code) c self a b (256 * byte 3 f + byte 4 f) (drop 5 f) L) d' z' w'
 
 -- what the frame itself says has been passed, while task `self` runs, and the tables d have room for what it sends
@@ -124,7 +124,7 @@ module _ (c : Config) (self : ℕ) (f : List ℕ) (L : Ledger) (q : self ≡ run
       subst (λ (n : ℕ). GoodX c (cond (fields (codeAt n) .service) (setOutcome self plain L) L) (fields (codeAt n) .X) a b (256 * byte 3 f + byte 4 f)) e w
 
 -- ---- an arm: the code is the one that the match found
-pub by-code : (c : Config) (s : Shape) (self a b x : ℕ) (e : List ℕ) (L : Ledger) (code k : ℕ) {d z w : List ℕ} → code ≡ k
+pub by-code : {tidy : Bool} (c : Config) (s : Shape) (self a b x : ℕ) (e : List ℕ) (L : Ledger) (code k : ℕ) {d z w : List ℕ} → code ≡ k
     → ShowsAs tidy c s (effect (codeAt k) c self a b x e L) d z w → ShowsAs tidy c s (effect (codeAt code) c self a b x e L) d z w
 by-code c s self a b x e L code k q h = moved (ap (λ (n : ℕ). effect (codeAt n) c self a b x e L) (sym q)) h
 

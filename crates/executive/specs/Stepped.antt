@@ -9,7 +9,7 @@ use borrow.Author.Tests.{eq-eqb, ne-eqb}
 use Rattle.tables.specs.declared.shape.Shape.{Shape}
 use Rattle.rows.specs.Tab.{tab-length}
 use Rattle.tables.specs.Layout.{Fits, fitting}
-use Rattle.tables.specs.Shows.{tasksIn, Of, ShowsAs, Tells, moved}
+use Rattle.tables.specs.Shows.{tasksIn, Of, ShowsAs, Shows, loosely, Tells, moved}
 use Rattle.tables.specs.AnyMemory.{some, shows-some}
 use Rattle.mailboxes.specs.Room.{Roomy, soundIn}
 use Rattle.mailboxes.specs.Whole.{room-shown}
@@ -32,7 +32,7 @@ use Rattle.executive.specs.Kept.{Ended}
 pub record Acts (c : Config) (s : Shape) (self : ℕ) (f d z w d' z' w' : List ℕ) (r : Settled) : Type 0 where
   pub low : r .running ≤ s .tasks
   pub few : r .reissues ≤ 2 * s .tasks
-  pub ends : {tidy : Bool} (L : Ledger) → self ≡ running L → Accepted c L (call c self f) → ShowsAs tidy c s L d z w → Ended c s (accept c f L) d' z' w' r
+  pub ends : {tidy : Bool} (L : Ledger) → self ≡ running L → Accepted c L (call c self f) → ShowsAs tidy c s L d z w → Ended tidy c s (accept c f L) d' z' w' r
 
 -- the number, the memory and the answer are the ledger's; a refused frame changes the answer alone
 pub record Steps (c : Config) (s : Shape) (f d z w a d' z' w' a' : List ℕ) (r : ℕ) : Type 0 where
@@ -53,7 +53,7 @@ tasks-length : {tidy : Bool} (c : Config) (s : Shape) (L : Ledger) (d z w : List
 unfolding tasksIn
 tasks-length c s L d z w h = ap length (h .shown .tasks) ∙ tab-length (c .T) _
 
-room-of : {c : Config} {s : Shape} {L : Ledger} {d z w : List ℕ} → ShowsAs tidy c s L d z w → (X : FieldX) (a b x : ℕ) → GoodX c L X a b x → soundIn s d ≡ true → isMessage X ≡ true → Roomy s d
+room-of : {c : Config} {s : Shape} {L : Ledger} {d z w : List ℕ} → Shows c s L d z w → (X : FieldX) (a b x : ℕ) → GoodX c L X a b x → soundIn s d ≡ true → isMessage X ≡ true → Roomy s d
 unfolding isMessage
 room-of h noX a b x g e m = never m
 room-of {c} {s} {L} {d} {z} {w} h aMessage a b x g e m =
@@ -62,20 +62,21 @@ room-of h aTockValue a b x g e m = never m
 room-of h aSwitch a b x g e m = never m
 
 module _ (c : Config) (s : Shape) (f d z w a : List ℕ) (self n : ℕ) (runs : Tells s d (λ c L. running L) self) (r : Refuses c s f self d w n) where
-  number-is : {tidy : Bool} (L : Ledger) → ShowsAs tidy c s L d z w → n ≡ refusal c L f
+  number-is : (L : Ledger) → Shows c s L d z w → n ≡ refusal c L f
   number-is L h = r .tells L z h (runs c L z w h)
 
-  pub step-refused : (a' : List ℕ) → (n ≡ 0 → ⊥) → ((tidy : Bool) (L : Ledger) → ShowsAs tidy c s L d z w → self ≡ running L → a' ≡ written (session.answer n 0 L) a) → Steps c s f d z w a d z w a' n
+  pub step-refused : (a' : List ℕ) → (n ≡ 0 → ⊥) → ((L : Ledger) → Shows c s L d z w → self ≡ running L → a' ≡ written (session.answer n 0 L) a) → Steps c s f d z w a d z w a' n
   step-refused a' ne e =
       record {
         tells = λ L h.
-            let q = number-is L h in
+            let v = loosely h in
+            let q = number-is L v in
             let x = refused-step c f L (λ k. ne (q ∙ k)) in
-            (q, moved (sym (ap (λ y. y .ledger) x)) h, e L h (runs c L z w h) ∙ ap (λ (k : ℕ). written (session.answer k 0 L) a) q ∙ ap (λ y. written (y .answered) a) (sym x));
+            (q, moved (sym (ap (λ y. y .ledger) x)) h, e L v (runs c L z w v) ∙ ap (λ (k : ℕ). written (session.answer k 0 L) a) q ∙ ap (λ y. written (y .answered) a) (sym x));
         unchanged = λ k. (refl, refl, refl);
       }
 
-  accepted-call : {tidy : Bool} (L : Ledger) → ShowsAs tidy c s L d z w → n ≡ 0 → Accepted c L (call c self f)
+  accepted-call : (L : Ledger) → Shows c s L d z w → n ≡ 0 → Accepted c L (call c self f)
   accepted-call L h e =
       subst (λ (i : ℕ). Accepted c L (call c i f)) (sym (runs c L z w h)) (accepted c L f (tasks-length c s L d z w h) (sym (number-is L h) ∙ e))
 
@@ -84,19 +85,20 @@ module _ (c : Config) (s : Shape) (f d z w a : List ℕ) (self n : ℕ) (runs : 
   unfolding call
   room-found e o (fitting l r) long held sound m =
       let L : Ledger = some c s d z w in
-      let h : ShowsAs tidy c s L d z w = shows-some c s d z w o r long (space held) in
+      let h : Shows c s L d z w = shows-some c s d z w o r long (space held) in
       room-of h (fields (codeAt (byte 0 f)) .X) _ _ _ (accepted-call L h e .X) sound m
 
   pub step-accepted : (d' z' w' a' : List ℕ) (k : Settled) → n ≡ 0 → Acts c s self f d z w d' z' w' k
-      → ((tidy : Bool) (M : Ledger) → ShowsAs tidy c s M d' z' w' → k .running ≡ running M → a' ≡ written (session.answer 0 (k .reissues) M) a) → Steps c s f d z w a d' z' w' a' 0
+      → ((M : Ledger) → Shows c s M d' z' w' → k .running ≡ running M → a' ≡ written (session.answer 0 (k .reissues) M) a) → Steps c s f d z w a d' z' w' a' 0
   step-accepted d' z' w' a' k e acts told =
       record {
         tells = λ L h.
-            let q : 0 ≡ refusal c L f = sym e ∙ number-is L h in
-            let t = runs c L z w h in
-            let y = acts .ends L t (accepted-call L h e) h in
+            let v = loosely h in
+            let q : 0 ≡ refusal c L f = sym e ∙ number-is L v in
+            let t = runs c L z w v in
+            let y = acts .ends L t (accepted-call L v e) h in
             let x = accepted-step c f L (sym q) in
             let M : Ledger = session.settle (2 * c .T) c (accept c f L) .ledger in
-            (q, moved (sym (ap (λ y. y .ledger) x)) (y .shows), told M (y .shows) (y .runs) ∙ ap (λ (i : ℕ). written (session.answer 0 i M) a) (y .reissues) ∙ ap (λ y. written (y .answered) a) (sym x));
+            (q, moved (sym (ap (λ y. y .ledger) x)) (y .shows), told M (loosely (y .shows)) (y .runs) ∙ ap (λ (i : ℕ). written (session.answer 0 i M) a) (y .reissues) ∙ ap (λ y. written (y .answered) a) (sym x));
         unchanged = λ k. absurd (k refl);
       }

@@ -32,7 +32,7 @@ same-length-4 : tie.Need-same-length-4
 same-length-4 c = search needs
 
 returns : tie.Need-returns
-returns c = let a = c .before .before .before .before .before .before .before .before .before .before .before .before .before .before .before .before .before .before .args in let g = configIn (now (a .config)) in step-refused g (a .shape) (now (a .frame)) (now (a .tables)) (now (a .slots)) (now (a .timers)) (now (a .answer)) _ _ (c .before .before .before .before .before .before .before .before .before .before .running .ensures .1) (c .before .before .before .before .before .before .before .refusal .ensures) _ (c .before .before .before .before .before .before .if1 .taken) (λ L h r. c .before .before .write .ensures tidy g L _ h r)
+returns c = let a = c .before .before .before .before .before .before .before .before .before .before .before .before .before .before .before .before .before .before .args in let g = configIn (now (a .config)) in step-refused g (a .shape) (now (a .frame)) (now (a .tables)) (now (a .slots)) (now (a .timers)) (now (a .answer)) _ _ (c .before .before .before .before .before .before .before .before .before .before .running .ensures .1) (c .before .before .before .before .before .before .before .refusal .ensures) _ (c .before .before .before .before .before .before .if1 .taken) (λ L h r. c .before .before .write .ensures g L _ h r)
 
 act-requires : tie.Need-act-requires
 act-requires c κs =

@@ -11,7 +11,7 @@ use Rattle.executive.proofs.settling.is_open.Statement.{statement}
 use Rattle.executive.proofs.settling.is_open.Tie as tie
 
 returns : tie.Need-returns
-returns c = (λ e. never e, λ tidy g L z w h. null-closed L _ (c .if1 .taken))
+returns c = (λ e. never e, λ g L z w h. null-closed L _ (c .if1 .taken))
 
 load-requires : tie.Need-load-requires
 load-requires c κs = search needs
@@ -34,7 +34,7 @@ returns-2 c =
     let s = c .before .before .before .before .before in
     let a = s .args in
     let lo : 1 ≤ a .t = omega arith in
-    (λ e. never e, λ tidy g L z w h. ap isOpen (request-is g (a .shape) L (now (a .tables)) z w h (a .t) _ _ (lo, s .pre .1) (ap (λ k. k .request) (c .before .before .load .ensures .0)) (c .enum-told .given .1)))
+    (λ e. never e, λ g L z w h. ap isOpen (request-is g (a .shape) L (now (a .tables)) z w h (a .t) _ _ (lo, s .pre .1) (ap (λ k. k .request) (c .before .before .load .ensures .0)) (c .enum-told .given .1)))
 
 returns-3 : tie.Need-returns-3
 unfolding viewRequest isOpen
@@ -42,7 +42,7 @@ returns-3 c =
     let s = c .before .before .before .before .before in
     let a = s .args in
     let lo : 1 ≤ a .t = omega arith in
-    (λ e. lo, λ tidy g L z w h. ap isOpen (request-is g (a .shape) L (now (a .tables)) z w h (a .t) _ _ (lo, s .pre .1) (ap (λ k. k .request) (c .before .before .load .ensures .0)) (c .enum-told2 .given .1)))
+    (λ e. lo, λ g L z w h. ap isOpen (request-is g (a .shape) L (now (a .tables)) z w h (a .t) _ _ (lo, s .pre .1) (ap (λ k. k .request) (c .before .before .load .ensures .0)) (c .enum-told2 .given .1)))
 
 returns-4 : tie.Need-returns-4
 unfolding viewRequest isOpen
@@ -50,7 +50,7 @@ returns-4 c =
     let s = c .before .before .before .before .before in
     let a = s .args in
     let lo : 1 ≤ a .t = omega arith in
-    (λ e. lo, λ tidy g L z w h. ap isOpen (request-is g (a .shape) L (now (a .tables)) z w h (a .t) _ _ (lo, s .pre .1) (ap (λ k. k .request) (c .before .before .load .ensures .0)) (c .enum-told3 .given .1)))
+    (λ e. lo, λ g L z w h. ap isOpen (request-is g (a .shape) L (now (a .tables)) z w h (a .t) _ _ (lo, s .pre .1) (ap (λ k. k .request) (c .before .before .load .ensures .0)) (c .enum-told3 .given .1)))
 
 returns-5 : tie.Need-returns-5
 unfolding viewRequest isOpen
@@ -58,7 +58,7 @@ returns-5 c =
     let s = c .before .before .before .before .before in
     let a = s .args in
     let lo : 1 ≤ a .t = omega arith in
-    (λ e. lo, λ tidy g L z w h. ap isOpen (request-is g (a .shape) L (now (a .tables)) z w h (a .t) _ _ (lo, s .pre .1) (ap (λ k. k .request) (c .before .before .load .ensures .0)) (c .enum-told4 .given .1)))
+    (λ e. lo, λ g L z w h. ap isOpen (request-is g (a .shape) L (now (a .tables)) z w h (a .t) _ _ (lo, s .pre .1) (ap (λ k. k .request) (c .before .before .load .ensures .0)) (c .enum-told4 .given .1)))
 
 pub is-open-spec : {M : Type 1} → statement M
 is-open-spec =
