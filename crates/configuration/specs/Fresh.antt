@@ -11,7 +11,7 @@ use lib.Seq.{ext-getD}
 use borrow.Author.Tests.{ne-eqb, le-leb, leb-true}
 use Rattle.rows.specs.Rows.{rowAt, getD-row, length-row, drop-elems}
 use Rattle.rows.specs.Tab.{tab, tab-ext, tab-of, map-tab}
-use Rattle.messages.specs.Pending.{pendingIn, mailboxesOf}
+use Rattle.messages.specs.Pending.{addressed, pendingIn, mailboxesOf}
 use Rattle.messages.specs.Mailboxes.{mailboxes-none}
 use Rattle.timers.specs.Records.{none-in}
 use Rattle.ledger.specs.Lists.{all}
@@ -195,14 +195,14 @@ module _ (c : Config) (s : Shape) (o : Of c s) (d z w : List ℕ)
       ∙ sym (fresh-bytes (getD (c .states) i 0) (state-low (c .states) i low)) ∙ ap recordAs (task-fresh i h)
 
   fresh-tidy : s .end ≤ length d → Tidy c (fresh c) p z w
-  unfolding semaphoreAt semaphoreCount stateAs viewSemaphore
+  unfolding semaphoreAt semaphoreCount stateAs viewSemaphore addressed all
   fresh-tidy room =
       let l = o .laid in
       let f : Fits s (s .end) = fitting l (omega arith) in
       let ticks : getD (p .clock) 0 0 ≡ c .K = in-clock 0 (omega arith) ∙ b .ticks in
       record {
         ticks = (omega (arith, o .ticks), omega arith);
-        messages = omega (arith, in-clock 1 (omega arith), b .messages);
+        messages = (omega (arith, in-clock 1 (omega arith), b .messages), ap (λ (n : ℕ). addressed (c .T) n (p .messages)) (in-clock 1 (omega arith) ∙ b .messages));
         tasks = ((λ q i g h. ap (λ (x : List ℕ). has q x i) (planes-are f d) ∙ b .behind q i (omega (arith, o .tasks)) h), row-fresh room);
         semaphores = λ i h. rw (in-semaphores i (omega (arith, o .tasks, o .named, o .queues, l .semaphores)));
         rings = (

@@ -6,7 +6,7 @@ use Prim.Native.Nat.{ℕ, suc, _-_, _<_, _≤_}
 use native.Mathlib.Omega.{arith}
 use lib.ListN.{length, getD}
 use Rattle.rows.specs.Tab.{tab-at, tab-put, at-map, map-put, at-every}
-use Rattle.messages.specs.Pending.{pendingIn, mailboxOf, mailboxesOf}
+use Rattle.messages.specs.Pending.{addressed, pendingIn, mailboxOf, mailboxesOf}
 use Rattle.ledger.specs.Lists.{at, put}
 use Rattle.ledger.specs.Config.{Config}
 use Rattle.ledger.specs.Ledger as ledger
@@ -14,7 +14,7 @@ use Rattle.ledger.specs.Ledger.{Ledger, Task, Semaphore, Message, Queue, Timer,
 use Rattle.ledger.specs.Session.{timerLeft}
 use Rattle.tables.specs.Layout.{OneOf, Regions}
 use Rattle.tables.specs.Decode.{countOf, leftOf}
-use Rattle.tables.specs.Shows.{taskAt, tasksIn, semaphoreCount, semaphoreAt, semaphoresIn, heldAt, queuesIn, pendingOf, mailboxesIn, timersOf, ticksIn, TidyTasks, TidySemaphores, TidyRings, Shown}
+use Rattle.tables.specs.Shows.{taskAt, tasksIn, semaphoreCount, semaphoreAt, semaphoresIn, heldAt, queuesIn, pendingOf, mailboxesIn, timersOf, ticksIn, TidyTasks, TidySemaphores, TidyMessages, TidyRings, Shown}
 
 -- ---- regions of which some are new
 
@@ -114,9 +114,9 @@ module _ {tidy : Bool} (c : Config) (L : Ledger) (p : Regions) (z w : List ℕ) 
       ap (λ (l : List (List Message)). at l t []) (h .mailboxes) ∙ tab-at (c .T) t (λ i. mailboxOf (suc i) (pendingOf c p)) [] a b ∙ ap (λ (i : ℕ). mailboxOf i (pendingOf c p)) e
 
   pub mailbox-shown : (k m : List ℕ) (t : ℕ) (v : List Message) → getD k 0 0 ≡ getD (p .clock) 0 0 → 1 ≤ t → v ≡ mailboxOf t (pendingOf c (withMessages k m p))
-      → ((j : ℕ) → (j ≡ t → ⊥) → mailboxOf j (pendingOf c p) ≡ mailboxOf j (pendingOf c (withMessages k m p))) → getD k 1 0 ≤ c .G → Shown tidy c (setMailbox t v L) (withMessages k m p) z w
+      → ((j : ℕ) → (j ≡ t → ⊥) → mailboxOf j (pendingOf c p) ≡ mailboxOf j (pendingOf c (withMessages k m p))) → (tidy ≡ true → TidyMessages c (withMessages k m p)) → Shown tidy c (setMailbox t v L) (withMessages k m p) z w
   unfolding setMailbox tasksIn taskAt semaphoresIn semaphoreAt queuesIn heldAt mailboxesIn mailboxesOf ticksIn queue timerLeft withMessages
-  mailbox-shown k m t v same x new other few =
+  mailbox-shown k m t v same x new other neat =
       let f : ℕ → List Message = λ i. mailboxOf (suc i) (pendingOf c p) in
       let g : ℕ → List Message = λ i. mailboxOf (suc i) (pendingOf c (withMessages k m p)) in
       let e : suc (t - 1) ≡ t = omega arith in
@@ -128,7 +128,7 @@ module _ {tidy : Bool} (c : Config) (L : Ledger) (p : Regions) (z w : List ℕ) 
         queues = h .queues;
         taken = h .taken;
         timers = h .timers;
-        tidily = λ q. let o = h .tidily q in record { ticks = subst (OneOf (c .K)) (sym same) (o .ticks); messages = few; tasks = o .tasks; semaphores = o .semaphores; rings = o .rings; timers = o .timers };
+        tidily = λ q. let o = h .tidily q in record { ticks = subst (OneOf (c .K)) (sym same) (o .ticks); messages = neat q; tasks = o .tasks; semaphores = o .semaphores; rings = o .rings; timers = o .timers };
       }
 
   -- ---- timers and the clock
@@ -161,5 +161,5 @@ module _ {tidy : Bool} (c : Config) (L : Ledger) (p : Regions) (z w : List ℕ) 
         queues = h .queues;
         taken = h .taken;
         timers = left;
-        tidily = λ q. let o = h .tidily q in record { ticks = one q; messages = subst (λ (n : ℕ). n ≤ c .G) (sym same) (o .messages); tasks = o .tasks; semaphores = o .semaphores; rings = o .rings; timers = few q };
+        tidily = λ q. let o = h .tidily q in record { ticks = one q; messages = subst (λ (n : ℕ). (n ≤ c .G) × (addressed (c .T) n (p .messages) ≡ true)) (sym same) (o .messages); tasks = o .tasks; semaphores = o .semaphores; rings = o .rings; timers = few q };
       }

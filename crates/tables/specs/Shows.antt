@@ -9,7 +9,7 @@ use Rattle.rows.specs.Splice.{cut}
 use Rattle.rows.specs.Rows.{rowAt}
 use Rattle.rows.specs.Tab.{tab}
 use Rattle.rings.specs.Ring.{holds}
-use Rattle.messages.specs.Pending.{Pending, pendingIn, mailboxesOf}
+use Rattle.messages.specs.Pending.{Pending, addressed, pendingIn, mailboxesOf}
 use Rattle.timers.specs.Timers.{timersIn}
 use Rattle.tables.specs.declared.shape.Shape.{Shape}
 use Rattle.tables.specs.declared.blocks.Block.{Block}
@@ -86,6 +86,10 @@ TidyTasks c p z = ((k : Block) (i : ℕ) → c .T ≤ i → i < 128 → has k (p
 abbrev pub TidySemaphores : Config → Regions → Type 0
 TidySemaphores c p = (i : ℕ) → i < semaphoreCount c → getD (p .semaphores) i 0 ≡ stateAs (semaphoreAt c p i)
 
+-- no more than there can be, and the receiver of each is one of the tasks
+abbrev pub TidyMessages : Config → Regions → Type 0
+TidyMessages c p = (getD (p .clock) 1 0 ≤ c .G) × (addressed (c .T) (getD (p .clock) 1 0) (p .messages) ≡ true)
+
 -- a ring begins at the number taken, modulo its depth
 abbrev pub TidyRings : Config → Ledger → Regions → Type 0
 TidyRings c L p =
@@ -95,7 +99,7 @@ TidyRings c L p =
 -- in, and on which clock the timers are due, which is link order
 pub record Tidy (c : Config) (L : Ledger) (p : Regions) (z w : List ℕ) : Type 0 where
   pub ticks : OneOf (c .K) (getD (p .clock) 0 0)
-  pub messages : getD (p .clock) 1 0 ≤ c .G
+  pub messages : TidyMessages c p
   pub tasks : TidyTasks c p z
   pub semaphores : TidySemaphores c p
   pub rings : TidyRings c L p
