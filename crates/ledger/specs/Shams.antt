@@ -1,4 +1,4 @@
--- Sessions in which each sham that document 01 names would answer otherwise, with the ledger's answers computed.
+-- Sessions in which each sham that document 01 names, or that a signal which tells whom it woke invites, would answer otherwise, with the ledger's answers computed.
 use Prim.Native.Nat.{ℕ}
 use mathlib.Core.Path.{_≡_, refl}
 use mathlib.Core.List.{List, [], _∷_}
@@ -26,6 +26,22 @@ starts = 14 ∷ 0 ∷ 1 ∷ 0 ∷ 5 ∷ []
 abbrev pub ticks : List ℕ
 ticks = 16 ∷ 0 ∷ 0 ∷ 0 ∷ 0 ∷ []
 
+-- waits on semaphore 1, waits on its own, signals semaphore 1; the interrupt exit with semaphore 1; starts a timer on semaphore 3, task 2's, for one tock
+abbrev pub waits : List ℕ
+waits = 1 ∷ 0 ∷ 1 ∷ 0 ∷ 0 ∷ []
+
+abbrev pub waitsOwn : List ℕ
+waitsOwn = 1 ∷ 0 ∷ 0 ∷ 0 ∷ 0 ∷ []
+
+abbrev pub signals : List ℕ
+signals = 2 ∷ 0 ∷ 1 ∷ 0 ∷ 0 ∷ []
+
+abbrev pub exits : List ℕ
+exits = 17 ∷ 0 ∷ 1 ∷ 0 ∷ 0 ∷ []
+
+abbrev pub startsOther : List ℕ
+startsOther = 14 ∷ 0 ∷ 3 ∷ 0 ∷ 1 ∷ []
+
 pub record ShamAnswers : Type 0 where
   pub accepted : configRefusal twoTasks ≡ 0
   -- task 1 waits at the empty queue; task 2 puts, and task 1, which runs again, has the entry after one reissue
@@ -36,7 +52,15 @@ pub record ShamAnswers : Type 0 where
   pub started : session twoTasks (starts ∷ []) ≡ (0 ∷ 1 ∷ 0 ∷ 1 ∷ []) ∷ (0 ∷ 1 ∷ 0 ∷ 0 ∷ []) ∷ []
   -- task 1 runs again with the second tick
   pub ticked : session twoTasks (delays ∷ ticks ∷ ticks ∷ []) ≡ (0 ∷ 1 ∷ 0 ∷ 1 ∷ []) ∷ (0 ∷ 2 ∷ 0 ∷ 1 ∷ []) ∷ (0 ∷ 2 ∷ 0 ∷ 1 ∷ []) ∷ (0 ∷ 1 ∷ 0 ∷ 0 ∷ []) ∷ []
+  -- task 2 wakes task 1, and is told once it runs again
+  pub told : session twoTasks (waits ∷ signals ∷ waits ∷ []) ≡ (0 ∷ 1 ∷ 0 ∷ 1 ∷ []) ∷ (0 ∷ 2 ∷ 0 ∷ 1 ∷ []) ∷ (0 ∷ 1 ∷ 0 ∷ 5 ∷ 1 ∷ []) ∷ (0 ∷ 2 ∷ 0 ∷ 6 ∷ 1 ∷ []) ∷ []
+  -- both wait, and task 1 runs again; the tick wakes task 2
+  pub wakingTick : session twoTasks (waits ∷ waitsOwn ∷ exits ∷ startsOther ∷ ticks ∷ [])
+      ≡ (0 ∷ 1 ∷ 0 ∷ 1 ∷ []) ∷ (0 ∷ 2 ∷ 0 ∷ 1 ∷ []) ∷ (0 ∷ 0 ∷ 0 ∷ 0 ∷ []) ∷ (0 ∷ 1 ∷ 0 ∷ 5 ∷ 1 ∷ []) ∷ (0 ∷ 1 ∷ 0 ∷ 0 ∷ []) ∷ (0 ∷ 1 ∷ 0 ∷ 0 ∷ []) ∷ []
+  -- task 2 waits at the empty queue; task 1 puts, and wakes it
+  pub wakingPut : session twoTasks (waits ∷ takes ∷ exits ∷ puts ∷ [])
+      ≡ (0 ∷ 1 ∷ 0 ∷ 1 ∷ []) ∷ (0 ∷ 2 ∷ 0 ∷ 1 ∷ []) ∷ (0 ∷ 0 ∷ 0 ∷ 0 ∷ []) ∷ (0 ∷ 1 ∷ 0 ∷ 5 ∷ 1 ∷ []) ∷ (0 ∷ 1 ∷ 0 ∷ 0 ∷ []) ∷ []
 
 pub the-answers : ShamAnswers
 unfolding everything
-the-answers = record { accepted = refl; settled = refl; filled = refl; started = refl; ticked = refl }
+the-answers = record { accepted = refl; settled = refl; filled = refl; started = refl; ticked = refl; told = refl; wakingTick = refl; wakingPut = refl }

@@ -24,6 +24,9 @@ pub mod Steps
 pub mod Kept
 pub mod HandedOut
 pub mod Sound
+-- whom a signal request tells (request-tells), and that nobody else is told (told-by-own-signal)
+pub mod Told
+pub mod Callers
 -- messages 1 to G, none twice: every step of every ledger keeps it (once-step)
 pub mod Once
 -- lines and frames are inverse to each other (written-reads-back, read-is-the-line); a tock value at every width (negative, lowest); milliseconds as the nearest tocks (nearest-is, only-nearest)

@@ -17,7 +17,7 @@ use Rattle.tables.specs.Semaphores.{known}
 use Rattle.ledger.specs.Lists.{at, put}
 use Rattle.ledger.specs.Config.{Config}
 use Rattle.ledger.specs.Ledger as ledger
-use Rattle.ledger.specs.Ledger.{Ledger, Semaphore, PENDING, DONE, WAITING, setSemaphore, setSemaphores}
+use Rattle.ledger.specs.Ledger.{Ledger, Semaphore, woke, setSemaphore, setSemaphores, setOutcome}
 use Rattle.ledger.specs.Services.{signalled, signal, woken, wakeWaiter, waited}
 
 -- ---- by what a semaphore is: v is the case that the match found
@@ -39,6 +39,12 @@ module _ (s : Shape) (d : List ℕ) (b : ℕ) (x v : state.Semaphore) (p : Tells
 
 pub waiter : {T t : ℕ} {s : state.Semaphore} → s ≡ Waiting t → Waiter T s → OneOf T t
 waiter {T} e w = subst (Waiter T) e w
+
+-- ---- the request: a signal, then the outcome with whom it woke
+pub signal-shown : (s : Shape) (d d₁ d' : List ℕ) (t b n : ℕ) → Does s d d₁ (λ c L. signal b L .ledger) → Tells s d (λ c L. signal b L .woke) n → Does s d₁ d' (λ c L. setOutcome t (woke n) L)
+    → Does s d d' (λ c L. let k = signal b L in setOutcome t (woke (k .woke)) (k .ledger))
+signal-shown s d d₁ d' t b n does tells shows tidy c L z w h =
+    moved (ap (λ (m : ℕ). setOutcome t (woke m) (signal b L .ledger)) (tells c L z w (loosely h))) (shows tidy c (signal b L .ledger) z w (does tidy c L z w h))
 
 -- ---- a number that no semaphore has
 set-none : {A : Type 0} (l : List A) (n : ℕ) (v : A) → length l ≤ n → set l n v ≡ l

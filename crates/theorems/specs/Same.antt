@@ -17,7 +17,7 @@ use Rattle.ledger.specs.Theorems.Shown.{lowest-shown, reissues-shown}
 use Rattle.ledger.specs.Theorems.HandedOut.{handed-out}
 use Rattle.ledger.specs.Theorems.Once.{Once, once-fresh}
 use Rattle.parts.specs.Parts.{keptFrame}
-use Rattle.mcx11.specs.Contract.{Memory, fullSize, configOf, lentWell, Displays, OutsideStays, OutsideSpared, answering, Configures}
+use Rattle.mcx11.specs.Contract.{Memory, fullSize, configOf, lentWell, Displays, Tidily, OutsideStays, OutsideSpared, answering, Configures}
 use Rattle.mcx11.specs.Kept.{begins-config}
 use Rattle.theorems.specs.Calls.{FrameCalls}
 use Rattle.mcx11.specs.Answer.{answerOf, answer-is}
@@ -36,6 +36,8 @@ pub record Same (g : List ℕ) (m₀ : Memory) (fs answered : List (List ℕ)) (
   -- the memory shows the ledger after the list: its bytes are, item by item, what the ledger keeps
   pub shown : Displays (configIn g) (run (configIn g) fs .0) m
   pub items : items (run (configIn g) fs .0) ≡ itemsIn (configIn g) m
+  -- and tidily: each item has the one value that the executive writes (OneValue)
+  pub tidy : Tidily (configIn g) (run (configIn g) fs .0) m
   -- it is lent well, so that the next frame doesn't meet 11 either
   pub well : lentWell m ≡ true
   -- it still holds the accepted frame
@@ -55,15 +57,16 @@ unfolding session
 session-is g fs h = rw h
 
 whole : (g : List ℕ) (m₀ : Memory) (fs answered : List (List ℕ)) (returned : List ℕ) (m : Memory) → configRefusal g ≡ 0
-    → answered ≡ run (configIn g) fs .1 → returned ≡ numbers (configIn g) fs → Displays (configIn g) (run (configIn g) fs .0) m → lentWell m ≡ true
+    → answered ≡ run (configIn g) fs .1 → returned ≡ numbers (configIn g) fs → Displays (configIn g) (run (configIn g) fs .0) m → Tidily (configIn g) (run (configIn g) fs .0) m → lentWell m ≡ true
     → keptFrame (m .config) ≡ g → OutsideSpared g m₀ m → Same g m₀ fs answered returned m
-whole g m₀ fs answered returned m h a n d w k o =
+whole g m₀ fs answered returned m h a n d t w k o =
     record {
       answers = a ∙ session-is g fs h;
       numbers = n;
       none-11 = rw n (none-11 (configIn g) fs);
       shown = d;
       items = items-shown (configIn g) (run (configIn g) fs .0) m d;
+      tidy = t;
       well = w;
       frame = k;
       outside = o;

@@ -1,4 +1,4 @@
--- The shams that document 01 names, refuted: no executive that meets the contracts behaves so, whatever memory it is lent.
+-- The shams that document 01 names, and those of a signal that tells whom it woke, refuted: no executive that meets the contracts behaves so, whatever memory it is lent.
 use Prim.Native.Nat.{ℕ}
 use mathlib.Core.Path.{_≡_, ap, _∙_}
 use mathlib.Core.Bool.{true}
@@ -8,7 +8,7 @@ use lib.ListN.{getD}
 use Rattle.ledger.specs.Lists.{byte}
 use Rattle.ledger.specs.Config.{configRefusal}
 use Rattle.ledger.specs.Session.{session}
-use Rattle.ledger.specs.Shams.{twoTasks, takes, puts, delays, starts, ticks, the-answers}
+use Rattle.ledger.specs.Shams.{twoTasks, takes, puts, delays, starts, ticks, waits, waitsOwn, signals, exits, startsOther, the-answers}
 use Rattle.mcx11.specs.Contract.{Memory, fullSize, Configures}
 use Rattle.mcx11.specs.Answer.{answerOf}
 use Rattle.theorems.specs.Calls.{FrameCalls}
@@ -75,3 +75,28 @@ module _ (a : List (List ℕ)) where
       let now : shows 3 1 ≡ 1 = of-session x (the-answers .ticked) 3 1 in
       let old : shows 2 1 ≡ 2 = of-session x (the-answers .ticked) 2 1 in
       omega (arith, ap (byte 1) h, now, old)
+
+  -- its signal tells 0 always
+  pub no-telling-0 : Played twoTasks (waits ∷ signals ∷ waits ∷ []) a → shows 3 4 ≡ 0 → ⊥
+  no-telling-0 x h =
+      let is : shows 3 4 ≡ 1 = of-session x (the-answers .told) 3 4 in
+      omega (arith, h, is)
+
+  -- its signal tells the caller its own number
+  pub no-telling-the-caller : Played twoTasks (waits ∷ signals ∷ waits ∷ []) a → shows 3 4 ≡ shows 3 1 → ⊥
+  no-telling-the-caller x h =
+      let is : shows 3 4 ≡ 1 = of-session x (the-answers .told) 3 4 in
+      let caller : shows 3 1 ≡ 2 = of-session x (the-answers .told) 3 1 in
+      omega (arith, h, is, caller)
+
+  -- its tick tells the running task whom it woke
+  pub no-tick-that-tells : Played twoTasks (waits ∷ waitsOwn ∷ exits ∷ startsOther ∷ ticks ∷ []) a → shows 5 3 ≡ 6 → ⊥
+  no-tick-that-tells x h =
+      let is : shows 5 3 ≡ 0 = of-session x (the-answers .wakingTick) 5 3 in
+      omega (arith, h, is)
+
+  -- its put tells the putter whom it woke
+  pub no-put-that-tells : Played twoTasks (waits ∷ takes ∷ exits ∷ puts ∷ []) a → shows 4 3 ≡ 6 → ⊥
+  no-put-that-tells x h =
+      let is : shows 4 3 ≡ 0 = of-session x (the-answers .wakingPut) 4 3 in
+      omega (arith, h, is)

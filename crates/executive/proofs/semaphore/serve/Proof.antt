@@ -1,6 +1,5 @@
 -- `serve`: the code is the key of its arm, or the one that is left.
-use mathlib.Core.Path.{_≡_, subst, sym, ap, _∙_}
-use mathlib.Core.Path.{refl}
+use mathlib.Core.Path.{_≡_, refl, subst}
 use Prim.Native.Nat.{ℕ}
 use native.Mathlib.Omega.{arith}
 use Rattle.ledger.specs.Services.{effect}

@@ -34,7 +34,7 @@ pub record SoundWaits (c : Config) (ts : List Task) (ss : List Semaphore) : Type
 -- ---- the tasks alone change
 
 -- event wait stays
-put-waits : {c : Config} (ts : List Task) {ss : List Semaphore} (t : ℕ) (v : Task) → v .blocks .eventWait ≡ waiting ts t → SoundWaits c ts ss → SoundWaits c (put ts t v) ss
+pub put-waits : {c : Config} (ts : List Task) {ss : List Semaphore} (t : ℕ) (v : Task) → v .blocks .eventWait ≡ waiting ts t → SoundWaits c ts ss → SoundWaits c (put ts t v) ss
 put-waits ts t v e h = record {
   tasks = put-length ts t v ∙ h .tasks;
   number = h .number;

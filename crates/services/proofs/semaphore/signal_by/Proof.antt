@@ -1,12 +1,9 @@
 -- `signal_by` signals, then shows the task that was woken.
-use Prim.Native.Nat.{ℕ}
-use mathlib.Core.Path.{ap}
 use native.Mathlib.Omega.{arith}
+use denote.Ref.{now}
 use Rattle.tables.specs.Layout.{still-fits}
 use Rattle.tables.specs.Decode.{viewOutcome}
-use Rattle.tables.specs.Shows.{loosely, moved}
-use Rattle.ledger.specs.Ledger.{woke, setOutcome}
-use Rattle.ledger.specs.Services as ledger
+use Rattle.services.specs.Semaphores.{signal-shown}
 use borrow.Author.Needs.{needs}
 use Rattle.services.proofs.semaphore.signal_by.Statement.{statement}
 use Rattle.services.proofs.semaphore.signal_by.Tie as tie
@@ -25,9 +22,8 @@ unfolding viewOutcome
 returns c =
     let a = c .before .before .before .before .before .before .before .before .before .args in
     let s = c .before .before .before .before .before .before .signal in
-    λ tidy g L z w h.
-        moved (ap (λ (t : ℕ). setOutcome (a .t) (woke t) (ledger.signal (a .b) L .ledger)) (s .ensures .1 g L z w (loosely h)))
-        (c .before .before .store-outcome .ensures .0 tidy g (ledger.signal (a .b) L .ledger) z w (s .ensures .0 tidy g L z w h))
+    let o = c .before .before .store-outcome in
+    signal-shown (a .shape) (now (a .tables)) (s .last .0) (o .last .0) (a .t) (a .b) (s .result) (s .ensures .0) (s .ensures .1) (o .ensures .0)
 
 pub signal-by-spec : {M : Type 1} → statement M
 signal-by-spec = tie.close (tie.spec signal-requires store-outcome-requires same-length returns)
