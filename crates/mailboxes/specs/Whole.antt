@@ -47,7 +47,7 @@ module _ {tidy : Bool} (c : Config) (s : Shape) (L : Ledger) (d z w : List ℕ) 
   some = let l = h .of .laid in omega (arith, l .some, h .of .tasks)
 
   -- as many records are taken as messages lie in the ledger's mailboxes
-  counted-shown : counted s d ≡ lying (L .mailboxes)
+  pub counted-shown : counted s d ≡ lying (L .mailboxes)
   counted-shown =
       ap₂ countOf (h .of .messages) (sym (counter c s L d z w h))
       ∙ sym (lying-are (c .T) some many (regions s d .messages)) ∙ sym (ap lying boxes-are)

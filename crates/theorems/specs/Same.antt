@@ -101,6 +101,7 @@ every-list {g} {m₀} {m₁} {m} {r₀} {fs} {answered} {returned} h full s more
     (ap₂ _∷_ (answer-is m₁ (answer 0 0 (fresh c)) (m₀ .answer) (a .answered)) (rest .answers))
     (ap₂ _∷_ (a .number) (rest .numbers))
     (rest .shown)
+    (rest .tidy (a .tidy))
     (rest .well)
     (ap keptFrame (rest .config) ∙ a .frame)
     (spares (a .outside) (rest .config) (rest .outside))
