@@ -6,3 +6,4 @@ pub mod SomeLedger
 pub mod Agree
 pub mod OneValue
 pub mod Shams
+
