@@ -20,6 +20,7 @@ pub mod tasks;
 pub mod timers;
 pub mod tocks;
 pub mod trail;
+pub mod written;
 
 pub mod coverage;
 pub mod generator;

@@ -3,10 +3,10 @@
 
 use plain_executive::configuration::{Configuration, QueueSize};
 use plain_executive::executive::Executive;
-use plain_executive::items::{Items, OutcomeItem, RequestItem};
+use plain_executive::items::{OutcomeItem, RequestItem};
 use plain_executive::line;
-use plain_executive::semaphore::Semaphore;
-use plain_executive::tasks::{Block, Letter};
+use plain_executive::tasks::Letter;
+use plain_executive::written::PLANES;
 use std::cell::RefCell;
 use std::collections::HashMap;
 use std::fs;
@@ -237,7 +237,7 @@ fn fields(numbers: Numbers) -> HashMap<String, usize> {
 
 #[test]
 fn slots_and_timers_are_those_of_the_tables() {
-    let needed = sides("crates/tables/specs/Shows.antt", "Shows", " ≤ ");
+    let needed = sides("crates/tables/specs/Shows.antt", "ShowsAs", " ≤ ");
     for (block, name) in [(2, "length z"), (3, "length w")] {
         let (sum, _) = needed.iter().find(|(_, right)| right == name).unwrap_or_else(|| panic!("no line with {name}"));
         for numbers in some_configurations().iter().map(Numbers::of) {
@@ -272,6 +272,39 @@ fn the_regions_are_those_of_the_layout() {
         }
         assert_eq!(at, evaluate(&sizes()[1].2, |name| numbers.letter(name)), "{numbers:?}");
     }
+}
+
+// ---- outcomes and requests
+
+/// The first byte, and how many of the others are 00, of an item whose values are not 0.
+fn first_and_zeros(written: &[u8]) -> (u8, usize) {
+    (written[0], written[1..].iter().filter(|byte| **byte == 0).count())
+}
+
+/// The same by the page, of the rows of such a table.
+fn rows_of(headings: &[&str]) -> Vec<(u8, usize)> {
+    let number = |cell: &str| cell.split(|c: char| !c.is_ascii_digit()).next().and_then(|digits| digits.parse().ok());
+    let zeros = |cell: &str| cell.split([' ', ',', ';']).filter(|word| *word == "00").count();
+    table(headings).iter().map(|row| (number(&row[1]).expect("a byte"), zeros(&row[2]))).collect()
+}
+
+#[test]
+fn outcomes_and_requests_have_the_bytes_of_the_page() {
+    let outcomes = [
+        OutcomeItem::Plain,
+        OutcomeItem::Begin,
+        OutcomeItem::Message(Letter { message: 7, sender: 8, semaphore: 9 }),
+        OutcomeItem::Entry(vec![0; 16]),
+        OutcomeItem::Refused(21),
+        OutcomeItem::Semaphore(255),
+        OutcomeItem::Woke(126),
+    ];
+    let of_outcomes: Vec<_> = outcomes.iter().map(|outcome| first_and_zeros(&outcome.written())).collect();
+    assert_eq!(rows_of(&["Outcome", "First byte", "The other three"]), of_outcomes);
+    let requests =
+        [RequestItem::None, RequestItem::Receive(1), RequestItem::Dequeue(2), RequestItem::Enqueue(3, vec![0; 4])];
+    let of_requests: Vec<_> = requests.iter().map(|request| first_and_zeros(&request.written())).collect();
+    assert_eq!(rows_of(&["Request", "First byte", "The second"]), of_requests);
 }
 
 // ---- the example
@@ -359,8 +392,9 @@ fn example(column: usize) -> HashMap<&'static str, Bytes> {
     found.into_iter().map(whole).collect()
 }
 
-/// What the bytes mean by the page is what the executive holds, and each is one that the program writes.
-fn assert_shown(memory: &HashMap<&str, Bytes>, configuration: &Configuration, items: &Items) {
+/// The bytes are those that the program writes for what the executive holds.
+fn assert_written(memory: &HashMap<&str, Bytes>, executive: &Executive) {
+    let (configuration, items) = (executive.configuration(), executive.items());
     let numbers = Numbers::of(configuration);
     let starts: HashMap<String, usize> = table(&["Region", "Bytes"])
         .iter()
@@ -371,94 +405,55 @@ fn assert_shown(memory: &HashMap<&str, Bytes>, configuration: &Configuration, it
         })
         .collect();
     let (tables, slots, timers) = (&memory["tables"], &memory["slots"], &memory["timers"]);
-    let limited = |value: usize, most: usize| {
-        assert!(value <= most, "{value} is above {most}");
-        value
-    };
 
-    let left = tables.at(starts["ticks"]);
-    assert!(left >= 1 && left <= configuration.ticks_per_tock, "{left} ticks left");
-    assert_eq!(configuration.ticks_per_tock - left, items.ticks);
-
+    assert_eq!(tables.at(starts["ticks"]), configuration.ticks_per_tock - items.ticks);
+    for (plane, block) in PLANES.into_iter().enumerate() {
+        assert_eq!(tables.some(starts["planes"] + 16 * plane, 16), items.plane(block), "{block:?}");
+    }
     for (index, task) in items.tasks.iter().enumerate() {
-        for (plane, block) in
-            [Block::Idle, Block::Suspended, Block::EventWait, Block::MessageWait].into_iter().enumerate()
-        {
-            let bits = tables.at(starts["planes"] + 16 * plane + index / 8);
-            assert_eq!(bits >> (index % 8) & 1 == 1, task.blocks.has(block), "task {}", index + 1);
-        }
-        let slot = slots.some(PART + 16 * index, 16);
-        assert_eq!(slot, task.slot);
         let record = starts["records"] + 6 * index;
-        let outcome = match tables.at(record) {
-            1 => OutcomeItem::Begin,
-            2 => OutcomeItem::Message(letter(tables, record + 1)),
-            3 => OutcomeItem::Entry(slot[..limited(tables.number(record + 1), 16)].to_vec()),
-            4 => OutcomeItem::Refused(tables.at(record + 1)),
-            5 => OutcomeItem::Semaphore(tables.at(record + 1)),
-            6 => OutcomeItem::Woke(tables.at(record + 1)),
-            _ => OutcomeItem::Plain,
-        };
-        assert_eq!(outcome, task.outcome, "task {}", index + 1);
-        let waiting = starts["waiting"] + 16 * index;
-        let request = match tables.at(record + 4) {
-            1 => RequestItem::Receive(tables.at(record + 5)),
-            2 => RequestItem::Dequeue(tables.at(record + 5)),
-            3 => {
-                let queue = tables.at(record + 5);
-                RequestItem::Enqueue(queue, tables.some(waiting, configuration.width(queue)))
-            }
-            _ => RequestItem::None,
-        };
-        assert_eq!(request, task.request, "task {}", index + 1);
+        assert_eq!(tables.some(record, 4), task.outcome.written(), "task {}", index + 1);
+        assert_eq!(tables.some(record + 4, 2), task.request.written(), "task {}", index + 1);
+        let entry = task.request.entry();
+        assert_eq!(tables.some(starts["waiting"] + 16 * index, entry.len()), entry, "task {}", index + 1);
+        assert_eq!(slots.some(PART + 16 * index, 16), task.slot, "task {}", index + 1);
     }
-
     for (index, semaphore) in items.semaphores.iter().enumerate() {
-        let shown = match tables.at(starts["semaphores"] + index) {
-            0 => Semaphore::Pending,
-            task if usize::from(task) <= numbers.tasks => Semaphore::Waiting(task),
-            _ => Semaphore::Done,
-        };
-        assert_eq!(shown, *semaphore, "semaphore {}", index + 1);
+        assert_eq!(tables.at(starts["semaphores"] + index), semaphore.written(), "semaphore {}", index + 1);
     }
 
-    let mut mailboxes = vec![Vec::new(); numbers.tasks];
-    for index in 0..limited(tables.number(starts["count"]), numbers.messages) {
-        let record = starts["messages"] + 4 * index;
-        let task = tables.number(record);
-        let task = if (1..=numbers.tasks).contains(&task) { task } else { 1 };
-        mailboxes[task - 1].push(letter(tables, record + 1));
+    let lying: usize = items.mailboxes.iter().map(Vec::len).sum();
+    assert_eq!(tables.number(starts["count"]), lying);
+    let records: Vec<_> = (0..lying).map(|index| tables.some(starts["messages"] + 4 * index, 4)).collect();
+    for (task, mailbox) in (1..).zip(&items.mailboxes) {
+        let found: Vec<_> = records.iter().filter(|record| record[0] == task).cloned().collect();
+        assert_eq!(
+            found,
+            mailbox.iter().map(|letter| letter.written(task).to_vec()).collect::<Vec<_>>(),
+            "task {task}"
+        );
     }
-    assert_eq!(mailboxes, items.mailboxes);
 
+    let histories = executive.history().expect("kept");
     let mut places = starts["entries"];
     for (index, size) in configuration.queues.iter().enumerate() {
         let (width, depth) = (usize::from(size.width), usize::from(size.depth));
-        let ring = starts["rings"] + 2 * index;
-        let oldest = limited(tables.number(ring), depth - 1);
-        let held = limited(tables.number(ring + 1), depth);
-        let entry = |turn: usize| tables.some(places + (oldest + turn) % depth * width, width);
-        assert_eq!((0..held).map(entry).collect::<Vec<_>>(), items.queues[index], "queue {}", index + 1);
+        let (taken, held) = (histories[index].copied.len(), &items.queues[index]);
+        let ring = tables.some(starts["rings"] + 2 * index, 2);
+        assert_eq!(ring, [(taken % depth) as u8, held.len() as u8], "queue {}", index + 1);
+        for (turn, entry) in held.iter().enumerate() {
+            assert_eq!(tables.some(places + (taken + turn) % depth * width, width), *entry, "queue {}", index + 1);
+        }
         places += width * depth;
     }
 
-    let number = limited(timers.number(PART), numbers.timers);
-    assert_eq!(number, items.timers.len());
-    let record = |row: usize| PART + 1 + 10 * row;
-    let four = |row: usize, at: usize| u32::from_le_bytes(timers.some(record(row) + at, 4).try_into().unwrap());
-    let (time, floor) = (four(0, 2), four(0, 6));
-    let mut before = floor.max(time);
+    assert_eq!(timers.number(PART), items.timers.len());
+    let row = |row: usize| PART + 1 + 10 * row;
     for (index, timer) in items.timers.iter().enumerate() {
-        let (row, due) = (index + 1, four(index + 1, 2));
-        assert!(before <= due, "timer {row} is due at {due}, before {before}");
-        assert_eq!(timers.some(record(row), 2), [timer.task, timer.semaphore]);
-        assert_eq!((u64::from(due - time), four(row, 6)), (timer.tocks_left, timer.period));
-        before = due;
+        let [time, floor] = [2, 6].map(|at| u32::from_le_bytes(timers.some(row(0) + at, 4).try_into().unwrap()));
+        assert!(u64::from(floor) <= u64::from(time) + timer.tocks_left, "timer {} is due before {floor}", index + 1);
+        assert_eq!(timers.some(row(index + 1), 10), timer.written(time), "timer {}", index + 1);
     }
-}
-
-fn letter(tables: &Bytes, at: usize) -> Letter {
-    Letter { message: tables.at(at), sender: tables.at(at + 1), semaphore: tables.at(at + 2) }
 }
 
 #[test]
@@ -470,14 +465,16 @@ fn the_example_is_what_the_other_executive_holds() {
     assert_eq!(frames.len(), 3);
 
     let mut executive = Executive::configure(&frames[0]).expect("accepted");
+    executive.keep_history();
     for (index, frame) in frames.iter().enumerate() {
         let answer = if index == 0 { executive.answer(0, 0) } else { executive.frame(frame) };
         let memory = example(3 + index);
         assert_eq!(memory["config"].some(PART, 2), (frames[0].len() as u16).to_be_bytes());
         assert_eq!(memory["config"].some(FRAME, frames[0].len()), frames[0]);
-        assert_shown(&memory, executive.configuration(), &executive.items());
+        assert_written(&memory, &executive);
         let length = memory["answer"].number(0);
         assert_eq!(memory["answer"].some(1, length), answer.bytes());
+        assert!(memory["answer"].bytes[1 + length..].iter().all(|shown| *shown == Shown::Outside), "behind the answer");
         let needed =
             |block: usize| evaluate(&sizes()[block].2, |name| Numbers::of(executive.configuration()).letter(name));
         for (block, name) in BLOCKS.into_iter().enumerate().take(4) {

@@ -6,6 +6,7 @@ use Prim.Native.Nat.{ℕ, suc, _-_, _<_, _≤_}
 use native.Mathlib.Omega.{arith}
 use lib.Dec.{eqb}
 use lib.ListN.{length, getD, set, length-set}
+use lib.Seq.{getD-set-same}
 use borrow.Rule.Slice.PartMut.{putMid}
 use Rattle.rows.specs.Splice.{cut}
 use Rattle.ledger.specs.Lists.{any, keep, insertBy}
@@ -22,8 +23,9 @@ use Rattle.timers.specs.Shown.{shown-length, shown-have, shown-start}
 use Rattle.timers.specs.Drained.{nextDue, takeDue, one-fewer, shown-next, shown-take}
 use Rattle.tables.specs.declared.shape.Shape.{Shape}
 use Rattle.tables.specs.Decode.{countOf}
-use Rattle.tables.specs.Shows.{Shows}
-use Rattle.clock.specs.Held.{Holds, heldIn, lent, held-same, held-counted}
+use Rattle.tables.specs.Shows.{ShowsAs}
+use Rattle.tables.specs.Stored.{before-stays}
+use Rattle.clock.specs.Held.{Holds, some-byte, heldIn, lent, held-same, held-counted}
 use Rattle.clock.specs.Does.{DoesTimers, TellsTimers, purged, held-shown, timers-stored}
 use Rattle.clock.specs.Tocks.{tock-does}
 
@@ -47,8 +49,9 @@ module _ (s : Shape) (w : List ℕ) (h : Holds s (length w)) (n : ℕ) (counts :
     pass-due r e = e ∙ ap dueIn (sym (held-same s w h n counts ys))
 
     pub pass-does : timersIn n ys ≡ map tocked (timersIn n (cut w 1 (length w))) → DoesTimers s w (putMid 1 (length w - 1) w ys) (λ c L. setClock (suc (L .N)) (L .ticks) L)
-    pass-does e c L d z g =
+    pass-does e tidy c L d z g =
         tock-does c s L d z w (putMid 1 (length w - 1) w ys) g kept (held-same s w h n counts ys ∙ e ∙ ap (map tocked) (lent s w h n counts))
+        (before-stays 1 (length w - 1) 0 w ys (omega arith) (some-byte h))
 
     -- ---- and another count
     module _ (m x : ℕ) (f : m ≤ s .timers) (byte : x ≡ m) where
@@ -61,19 +64,22 @@ module _ (s : Shape) (w : List ℕ) (h : Holds s (length w)) (n : ℕ) (counts :
       after-held : heldIn s after ≡ timersIn m ys
       after-held = rw byte (held-counted s w h n counts ys m f)
 
+      after-count : getD after 0 0 ≤ s .timers
+      after-count = omega (arith, getD-set-same (putMid 1 (length w - 1) w ys) 0 x 0 (omega (arith, kept, some-byte h)))
+
       pub start-does : (a b left p : ℕ) → timersIn m ys ≡ insertBy tocksLeft (timer a b left p) (timersIn n (cut w 1 (length w)))
-          → (c : Config) (L : Ledger) (d z : List ℕ) (v : TockValue) → tocks v ≡ left → period v ≡ p → Shows c s L d z w → Shows c s (startTimer a b v L) d z after
+          → (tidy : Bool) (c : Config) (L : Ledger) (d z : List ℕ) (v : TockValue) → tocks v ≡ left → period v ≡ p → ShowsAs tidy c s L d z w → ShowsAs tidy c s (startTimer a b v L) d z after
       unfolding startTimer insertTimer setTimers timerLeft
-      start-does a b left p e c L d z v el ep g =
+      start-does a b left p e tidy c L d z v el ep g =
           timers-stored c s L d z w g after _ after-length
-          (shown-start L (held-shown c s L d z w g) a b v ∙ rw (el, ep, ← lent s w h n counts) (sym (after-held ∙ e)))
+          (shown-start L (held-shown c s L d z w g) a b v ∙ rw (el, ep, ← lent s w h n counts) (sym (after-held ∙ e))) after-count
 
       pub purge-does : (a : ℕ) (all : Bool) (b : ℕ) → timersIn m ys ≡ keep (stays a all b) (timersIn n (cut w 1 (length w))) → DoesTimers s w after (λ c L. purged a all b L)
       unfolding purged timerLeft
-      purge-does a all b e c L d z g =
+      purge-does a all b e tidy c L d z g =
           timers-stored c s L d z w g after _ after-length
           (keep-map (timerLeft L) (λ (t : Timer). not (eqb (t .task) a && (all || eqb (t .semaphore) b))) (stays a all b) (λ t. refl) (L .timers)
-          ∙ ap (keep (stays a all b)) (held-shown c s L d z w g ∙ sym (lent s w h n counts)) ∙ sym (after-held ∙ e))
+          ∙ ap (keep (stays a all b)) (held-shown c s L d z w g ∙ sym (lent s w h n counts)) ∙ sym (after-held ∙ e)) after-count
 
       module _ (e : timersIn m ys ≡ takenDue (timersIn n (cut w 1 (length w)))) where
         taken : heldIn s after ≡ takenDue (heldIn s w)
@@ -84,4 +90,4 @@ module _ (s : Shape) (w : List ℕ) (h : Holds s (length w)) (n : ℕ) (counts :
 
         pub due-does : DoesTimers s w after (λ c L. takeDue L)
         unfolding takeDue setTimers timerLeft
-        due-does c L d z g = timers-stored c s L d z w g after _ after-length (shown-take L (held-shown c s L d z w g) ∙ sym taken)
+        due-does tidy c L d z g = timers-stored c s L d z w g after _ after-length (shown-take L (held-shown c s L d z w g) ∙ sym taken) after-count

@@ -2,7 +2,7 @@
 use mathlib.Core.Path.{_≡_, refl, sym, ap, _∙_}
 use mathlib.Core.Bool.{Bool, true, false, not, _&&_, _||_}
 use mathlib.Core.List.{List, map}
-use Prim.Native.Nat.{ℕ, _%_, _<_}
+use Prim.Native.Nat.{ℕ, _%_, _<_, _≤_}
 use native.Mathlib.Omega.{arith}
 use lib.Dec.{eqb}
 use lib.ListN.{length, getD, drop}
@@ -16,13 +16,13 @@ use Rattle.timers.specs.Timers.{timersIn}
 use Rattle.tables.specs.declared.shape.Shape.{Shape}
 use Rattle.tables.specs.Decode.{countOf}
 use Rattle.tables.specs.Layout.{regions}
-use Rattle.tables.specs.Shows.{timersOf, Of, Shows}
+use Rattle.tables.specs.Shows.{timersOf, Of, ShowsAs, Shows}
 use Rattle.tables.specs.Items.{timers-shown}
 use Rattle.clock.specs.Held.{heldIn}
 
 -- the timers' block went from w to w' as the ledger goes by f, whatever the tables and the slots are
 abbrev pub DoesTimers : Shape → (w w' : List ℕ) → (Config → Ledger → Ledger) → Type 0
-DoesTimers s w w' f = (c : Config) (L : Ledger) (d z : List ℕ) → Shows c s L d z w → Shows c s (f c L) d z w'
+DoesTimers s w w' f = (tidy : Bool) (c : Config) (L : Ledger) (d z : List ℕ) → ShowsAs tidy c s L d z w → ShowsAs tidy c s (f c L) d z w'
 
 -- the value r is the ledger's
 abbrev pub TellsTimers : {A : Type 0} → Shape → List ℕ → (Config → Ledger → A) → A → Type 0
@@ -30,7 +30,7 @@ TellsTimers s w f r = (c : Config) (L : Ledger) (d z : List ℕ) → Shows c s L
 
 -- where P holds of the ledger
 abbrev pub DoesTimersIf : Shape → (w w' : List ℕ) → (Config → Ledger → Type 0) → (Config → Ledger → Ledger) → Type 0
-DoesTimersIf s w w' P f = (c : Config) (L : Ledger) (d z : List ℕ) → P c L → Shows c s L d z w → Shows c s (f c L) d z w'
+DoesTimersIf s w w' P f = (tidy : Bool) (c : Config) (L : Ledger) (d z : List ℕ) → P c L → ShowsAs tidy c s L d z w → ShowsAs tidy c s (f c L) d z w'
 
 -- a timer is started, where a record is left for it
 abbrev pub Starts : Shape → (w w' : List ℕ) → (task semaphore left again : ℕ) → Type 0
@@ -56,17 +56,17 @@ pub held-of : {c : Config} {s : Shape} → Of c s → (w : List ℕ) → heldIn 
 unfolding timersOf heldIn
 held-of o w = ap (λ (R : ℕ). timersIn (countOf R (getD w 0 0)) (drop 1 w)) (o .timers)
 
-module _ (c : Config) (s : Shape) (L : Ledger) (d z w : List ℕ) (h : Shows c s L d z w) where
+module _ {tidy : Bool} (c : Config) (s : Shape) (L : Ledger) (d z w : List ℕ) (h : ShowsAs tidy c s L d z w) where
   pub held-shown : map (timerLeft L) (L .timers) ≡ heldIn s w
   held-shown = h .shown .timers ∙ sym (held-of (h .of) w)
 
   -- other bytes, which hold the timers v
-  pub timers-stored : (w' : List ℕ) (v : List Timer) → length w' ≡ length w → map (timerLeft L) v ≡ heldIn s w' → Shows c s (setTimers v L) d z w'
-  timers-stored w' v e new =
+  pub timers-stored : (w' : List ℕ) (v : List Timer) → length w' ≡ length w → map (timerLeft L) v ≡ heldIn s w' → getD w' 0 0 ≤ s .timers → ShowsAs tidy c s (setTimers v L) d z w'
+  timers-stored w' v e new few =
       record {
         of = h .of;
         room = h .room;
         slots = h .slots;
         counted = omega (arith, h .counted);
-        shown = timers-shown c L (regions s d) z w (h .shown) w' v (new ∙ held-of (h .of) w');
+        shown = timers-shown c L (regions s d) z w (h .shown) w' v (new ∙ held-of (h .of) w') (λ q. omega (arith, h .of .timers));
       }

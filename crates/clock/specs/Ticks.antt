@@ -14,7 +14,7 @@ use Rattle.ledger.specs.Session.{timerLeft}
 use Rattle.tables.specs.declared.shape.Shape.{Shape}
 use Rattle.tables.specs.Layout.{Fits, fitting, bound, Regions, named, regions, but, byte-written, region-length, region-at}
 use Rattle.tables.specs.Decode.{leftOf}
-use Rattle.tables.specs.Shows.{ticksIn, Shows}
+use Rattle.tables.specs.Shows.{ticksIn, ShowsAs}
 use Rattle.tables.specs.Items.{withMessages, clock-shown}
 use Rattle.tables.specs.Stored.{shows-as}
 
@@ -44,13 +44,13 @@ most-ticks (fitting l r) = (l .ticks, l .tocks)
 left-back : (K x : ℕ) → 1 ≤ x → x ≤ K → leftOf K x ≡ x
 left-back K x lo hi = rw (ne-eqb x 0 (λ e. omega arith), le-leb x K hi)
 
-module _ (c : Config) (s : Shape) (L : Ledger) (d z w : List ℕ) (h : Shows c s L d z w) where
+module _ {tidy : Bool} (c : Config) (s : Shape) (L : Ledger) (d z w : List ℕ) (h : ShowsAs tidy c s L d z w) where
   ticks-shown : L .ticks ≡ c .K - leftOf (c .K) (getD d 0 0)
   unfolding ticksIn regions named bound
   ticks-shown = h .shown .ticks ∙ ap (λ (x : ℕ). c .K - leftOf (c .K) x) (region-at s d 0 0 (omega arith))
 
   -- x ticks left
-  clock-stored : (x k : ℕ) → 1 ≤ x → x ≤ c .K → k ≡ c .K - x → Shows c s (setClock (L .N) k L) (set d 0 x) z w
+  clock-stored : (x k : ℕ) → 1 ≤ x → x ≤ c .K → k ≡ c .K - x → ShowsAs tidy c s (setClock (L .N) k L) (set d 0 x) z w
   unfolding ticksIn regions named but bound withMessages setClock timerLeft
   clock-stored x k lo hi e =
       let l = h .of .laid in
@@ -62,7 +62,7 @@ module _ (c : Config) (s : Shape) (L : Ledger) (d z w : List ℕ) (h : Shows c s
       (setClock (L .N) k L)
       (clock-shown c L p z w (h .shown) v w (L .N) k (getD-set-other (p .clock) 0 1 x 0 (λ q. omega arith))
       (e ∙ ap (λ (y : ℕ). c .K - y) (sym (ap (leftOf (c .K)) (getD-set-same (p .clock) 0 x 0 (omega arith)) ∙ left-back (c .K) x lo hi)))
-      (h .shown .timers))
+      (h .shown .timers) (λ q. let y : getD v 0 0 ≡ x = getD-set-same (p .clock) 0 x 0 (omega arith) in (omega arith, omega arith)) (λ q. h .shown .tidily q .timers))
 
   module _ (left after : ℕ) (tocked : Bool) (is : left ≡ leftOf (s .ticks) (getD d 0 0)) (t : AfterTick (s .ticks) left after tocked) where
     passed : L .ticks ≡ s .ticks - left
@@ -71,7 +71,7 @@ module _ (c : Config) (s : Shape) (L : Ledger) (d z w : List ℕ) (h : Shows c s
     pub tick-tells : tocked ≡ not (ltb (suc (L .ticks)) (c .K))
     tick-tells = t .tock ∙ rw (passed, ← h .of .ticks)
 
-    pub tick-does : Shows c s (setClock (L .N) (cond tocked 0 (suc (L .ticks))) L) (set d 0 after) z w
+    pub tick-does : ShowsAs tidy c s (setClock (L .N) (cond tocked 0 (suc (L .ticks))) L) (set d 0 after) z w
     tick-does =
         clock-stored after (cond tocked 0 (suc (L .ticks))) (t .some) (omega (arith, t .most, h .of .ticks))
         (ap (λ (n : ℕ). cond tocked 0 (suc n)) passed ∙ sym (t .ticks) ∙ ap (λ (K : ℕ). K - after) (h .of .ticks))

@@ -6,7 +6,7 @@ use Prim.Native.Nat.{ℕ, zero, suc, _+_, _≤_}
 use native.Mathlib.Numerals.{add-one}
 use native.Mathlib.Omega.{arith}
 use lib.Dec.{ltb}
-use lib.ListN.{length}
+use lib.ListN.{length, getD}
 use borrow.Author.Tests.{not-true, not-false}
 use Rattle.ledger.specs.Config.{Config}
 use Rattle.ledger.specs.Ledger.{Ledger, setClock}
@@ -17,7 +17,7 @@ use Rattle.timers.specs.Shown.{shown-tock, shown-signal}
 use Rattle.timers.specs.Drained.{drained, tock-is, nextDue, takeDue, one-fewer, shown-due, shown-take, drained-next, drain-ends}
 use Rattle.tables.specs.declared.shape.Shape.{Shape}
 use Rattle.tables.specs.Layout.{Regions, regions}
-use Rattle.tables.specs.Shows.{Shows, Does, Tells}
+use Rattle.tables.specs.Shows.{ShowsAs, loosely, Does, Tells}
 use Rattle.tables.specs.Items.{withMessages, clock-shown}
 use Rattle.clock.specs.Held.{heldIn}
 use Rattle.clock.specs.Does.{DoesTimers, TellsTimers, held-of, held-shown}
@@ -35,8 +35,8 @@ drainedTimes (suc n) M = drainedTimes n (signal (nextDue M .semaphore) (takeDue 
 pub record Advanced (s : Shape) (d w d' w' : List ℕ) (n : ℕ) : Type 0 where
   pub few : n ≤ s .timers
   pub enough : n ≤ dueIn (heldIn s w')
-  pub clock : (c : Config) (L : Ledger) (z : List ℕ) → Shows c s L d z w → Shows c s (clocked c L) d' z w'
-  pub whole : (c : Config) (L : Ledger) (z : List ℕ) → Shows c s L d z w → tick c L ≡ drainedTimes n (clocked c L)
+  pub clock : {tidy : Bool} (c : Config) (L : Ledger) (z : List ℕ) → ShowsAs tidy c s L d z w → ShowsAs tidy c s (clocked c L) d' z w'
+  pub whole : {tidy : Bool} (c : Config) (L : Ledger) (z : List ℕ) → ShowsAs tidy c s L d z w → tick c L ≡ drainedTimes n (clocked c L)
 
 -- ---- as often as timers are due, it is the ledger's tock
 drained-times : (n : ℕ) (M : Ledger) (l : List TimerLeft) → map (timerLeft M) (M .timers) ≡ l → dueIn l ≡ n → drained M ≡ drainedTimes n M
@@ -47,10 +47,10 @@ drained-times (suc n) M l shown e =
     ∙ drained-times n (signal (nextDue M .semaphore) (takeDue M) .ledger) (takenDue l) (shown-signal (takeDue M) (shown-take M shown) (nextDue M .semaphore)) (omega (arith, one-fewer l (omega arith)))
 
 -- ---- a tock has passed for the timers of the block
-pub tock-does : (c : Config) (s : Shape) (L : Ledger) (d z w w' : List ℕ) → Shows c s L d z w → length w' ≡ length w → heldIn s w' ≡ map tocked (heldIn s w)
-    → Shows c s (setClock (suc (L .N)) (L .ticks) L) d z w'
+pub tock-does : {tidy : Bool} (c : Config) (s : Shape) (L : Ledger) (d z w w' : List ℕ) → ShowsAs tidy c s L d z w → length w' ≡ length w → heldIn s w' ≡ map tocked (heldIn s w) → getD w' 0 0 ≡ getD w 0 0
+    → ShowsAs tidy c s (setClock (suc (L .N)) (L .ticks) L) d z w'
 unfolding setClock timerLeft withMessages
-tock-does c s L d z w w' h e new =
+tock-does c s L d z w w' h e new same =
     let p : Regions = regions s d in
     record {
       of = h .of;
@@ -58,7 +58,7 @@ tock-does c s L d z w w' h e new =
       slots = h .slots;
       counted = omega (arith, h .counted);
       shown = clock-shown c L p z w (h .shown) (p .clock) w' (suc (L .N)) (L .ticks) refl (h .shown .ticks)
-          (shown-tock L (held-shown c s L d z w h) ∙ sym new ∙ held-of (h .of) w');
+          (shown-tock L (held-shown c s L d z w h) ∙ sym new ∙ held-of (h .of) w') (λ q. h .shown .tidily q .ticks) (λ q. subst (λ (x : ℕ). x ≤ c .R) (sym same) (h .shown .tidily q .timers));
     }
 
 -- ---- both ways of a tick, from what is known of the tables and of the timers' block
@@ -67,27 +67,27 @@ module _ (s : Shape) (d w d' : List ℕ) where
       → Advanced s d w d' w 0
   unfolding clocked tick drainedTimes
   no-tock b e tells does =
-      let test : (c : Config) (L : Ledger) (z : List ℕ) → Shows c s L d z w → ltb (suc (L .ticks)) (c .K) ≡ true = λ c L z h. not-false _ (sym (tells c L z w h) ∙ e) in
+      let test : (tidy : Bool) (c : Config) (L : Ledger) (z : List ℕ) → ShowsAs tidy c s L d z w → ltb (suc (L .ticks)) (c .K) ≡ true = λ tidy c L z h. not-false _ (sym (tells c L z w (loosely h)) ∙ e) in
       record {
         few = omega arith;
         enough = omega arith;
-        clock = λ c L z h. rw (test c L z h) (rw e at (does c L z w h));
-        whole = λ c L z h. rw (test c L z h);
+        clock = λ {tidy} c L z h. rw (test tidy c L z h) (rw e at (does tidy c L z w h));
+        whole = λ {tidy} c L z h. rw (test tidy c L z h);
       }
 
   pub a-tock : (b : Bool) → b ≡ true → Tells s d (λ c L. not (ltb (suc (L .ticks)) (c .K))) b → Does s d d' (λ c L. setClock (L .N) (cond b 0 (suc (L .ticks))) L)
       → (w' : List ℕ) (n : ℕ) → n ≤ s .timers → n ≡ dueIn (heldIn s w') → DoesTimers s w w' (λ c L. setClock (suc (L .N)) (L .ticks) L) → Advanced s d w d' w' n
   unfolding clocked tick setClock
   a-tock b e tells does w' n f due passes =
-      let test : (c : Config) (L : Ledger) (z : List ℕ) → Shows c s L d z w → ltb (suc (L .ticks)) (c .K) ≡ false = λ c L z h. not-true _ (sym (tells c L z w h) ∙ e) in
-      let shows : (c : Config) (L : Ledger) (z : List ℕ) → Shows c s L d z w → Shows c s (setClock (suc (L .N)) 0 L) d' z w' = λ c L z h. passes c (setClock (L .N) 0 L) d' z (rw e at (does c L z w h)) in
+      let test : (tidy : Bool) (c : Config) (L : Ledger) (z : List ℕ) → ShowsAs tidy c s L d z w → ltb (suc (L .ticks)) (c .K) ≡ false = λ tidy c L z h. not-true _ (sym (tells c L z w (loosely h)) ∙ e) in
+      let shows : (tidy : Bool) (c : Config) (L : Ledger) (z : List ℕ) → ShowsAs tidy c s L d z w → ShowsAs tidy c s (setClock (suc (L .N)) 0 L) d' z w' = λ tidy c L z h. passes tidy c (setClock (L .N) 0 L) d' z (rw e at (does tidy c L z w h)) in
       record {
         few = f;
         enough = omega arith;
-        clock = λ c L z h. rw (test c L z h) (shows c L z h);
-        whole = λ c L z h.
+        clock = λ {tidy} c L z h. rw (test tidy c L z h) (shows tidy c L z h);
+        whole = λ {tidy} c L z h.
             let M : Ledger = setClock (suc (L .N)) 0 L in
-            rw (test c L z h) (tock-is M ∙ drained-times n M (heldIn s w') (held-shown c s M d' z w' (shows c L z h)) (sym due));
+            rw (test tidy c L z h) (tock-is M ∙ drained-times n M (heldIn s w') (held-shown c s M d' z w' (shows tidy c L z h)) (sym due));
       }
 
 -- ---- for a caller's loop, which takes a due timer and signals its semaphore n times
@@ -100,23 +100,23 @@ drained-last (suc n) M = drained-last n (signal (nextDue M .semaphore) (takeDue 
 
 -- k turns lead from the memory d₀, w₀ where the loop begins to d, w
 abbrev pub Turned : Shape → (d₀ w₀ d w : List ℕ) → ℕ → Type 0
-Turned s d₀ w₀ d w k = (c : Config) (M : Ledger) (z : List ℕ) → Shows c s M d₀ z w₀ → Shows c s (drainedTimes k M) d z w
+Turned s d₀ w₀ d w k = (tidy : Bool) (c : Config) (M : Ledger) (z : List ℕ) → ShowsAs tidy c s M d₀ z w₀ → ShowsAs tidy c s (drainedTimes k M) d z w
 
 pub no-turn : (s : Shape) (d w : List ℕ) → Turned s d w d w 0
 unfolding drainedTimes
-no-turn s d w c M z h = h
+no-turn s d w tidy c M z h = h
 
 module _ (s : Shape) (d₀ w₀ d w : List ℕ) where
   pub turn-done : (d' w' : List ℕ) (k b : ℕ) → Turned s d₀ w₀ d w k → TellsTimers s w (λ c L. nextDue L .semaphore) b → DoesTimers s w w' (λ c L. takeDue L)
       → Does s d d' (λ c L. signal b L .ledger) → Turned s d₀ w₀ d' w' (k + 1)
-  turn-done d' w' k b t tells takes signals c L z h =
+  turn-done d' w' k b t tells takes signals tidy c L z h =
       let M : Ledger = drainedTimes k L in
-      let g : Shows c s M d z w = t c L z h in
-      subst (λ (x : Ledger). Shows c s x d' z w')
-      (ap (λ (x : ℕ). signal x (takeDue M) .ledger) (tells c M d z g) ∙ sym (drained-last k L) ∙ ap (λ (x : ℕ). drainedTimes x L) (sym (add-one k)))
-      (signals c (takeDue M) z w' (takes c M d z g))
+      let g : ShowsAs tidy c s M d z w = t tidy c L z h in
+      subst (λ (x : Ledger). ShowsAs tidy c s x d' z w')
+      (ap (λ (x : ℕ). signal x (takeDue M) .ledger) (tells c M d z (loosely g)) ∙ sym (drained-last k L) ∙ ap (λ (x : ℕ). drainedTimes x L) (sym (add-one k)))
+      (signals tidy c (takeDue M) z w' (takes tidy c M d z g))
 
   -- as many turns as the tick asks for
   pub ticked : (d' w' : List ℕ) (n k : ℕ) → Advanced s d₀ w₀ d w n → Turned s d w d' w' k → k ≡ n
-      → (c : Config) (L : Ledger) (z : List ℕ) → Shows c s L d₀ z w₀ → Shows c s (tick c L) d' z w'
-  ticked d' w' n k a t e c L z h = rw (a .whole c L z h, ← e) (t c (clocked c L) z (a .clock c L z h))
+      → (tidy : Bool) (c : Config) (L : Ledger) (z : List ℕ) → ShowsAs tidy c s L d₀ z w₀ → ShowsAs tidy c s (tick c L) d' z w'
+  ticked d' w' n k a t e tidy c L z h = rw (a .whole c L z h, ← e) (t tidy c (clocked c L) z (a .clock c L z h))

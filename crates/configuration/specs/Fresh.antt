@@ -2,15 +2,16 @@
 use mathlib.Core.Path.{_≡_, refl, sym, ap, _∙_, subst}
 use mathlib.Core.Bool.{Bool, true, false, cond, _&&_}
 use mathlib.Core.List.{List, [], _∷_, map}
-use Prim.Native.Nat.{ℕ, zero, suc, _+_, _-_, _*_, _<_, _≤_}
+use Prim.Native.Nat.{ℕ, zero, suc, _+_, _-_, _*_, _%_, _<_, _≤_}
+use native.Mathlib.Nat.{mod-eq-of-lt}
 use native.Mathlib.Omega.{arith}
 use lib.Dec.{eqb, leb}
 use lib.ListN.{length, getD, drop, replicate, getD-replicate}
 use lib.Seq.{ext-getD}
 use borrow.Author.Tests.{ne-eqb, le-leb, leb-true}
-use Rattle.rows.specs.Rows.{rowAt, getD-row, length-row}
+use Rattle.rows.specs.Rows.{rowAt, getD-row, length-row, drop-elems}
 use Rattle.rows.specs.Tab.{tab, tab-ext, tab-of, map-tab}
-use Rattle.messages.specs.Pending.{pendingIn, mailboxesOf}
+use Rattle.messages.specs.Pending.{addressed, pendingIn, mailboxesOf}
 use Rattle.messages.specs.Mailboxes.{mailboxes-none}
 use Rattle.timers.specs.Records.{none-in}
 use Rattle.ledger.specs.Lists.{all}
@@ -23,10 +24,11 @@ use Rattle.ledger.specs.Theorems.Fresh.{fresh-queue}
 use Rattle.rows.specs.Splice.{cut}
 use Rattle.tables.specs.declared.shape.Shape.{Shape}
 use Rattle.tables.specs.declared.blocks.Blocks.{Blocks}
-use Rattle.tables.specs.Layout.{ticksAt, countAt, planesAt, recordsAt, Fits, fitting, Regions, regions, region, named, bound, region-at, planes-are}
-use Rattle.tables.specs.Planes.{blocksAt}
-use Rattle.tables.specs.Decode.{stateOf, viewBlocks, viewOutcome, viewRequest, viewSemaphore, viewTask, recordOf}
-use Rattle.tables.specs.Shows.{taskAt, tasksIn, semaphoreCount, semaphoreAt, semaphoresIn, heldAt, queuesIn, pendingOf, mailboxesIn, timersOf, ticksIn, Shown, Of, Shows}
+use Rattle.tables.specs.Layout.{ticksAt, countAt, planesAt, recordsAt, Fits, fitting, Regions, regions, region, named, bound, region-at, region-length, planes-are}
+use Rattle.tables.specs.declared.blocks.Block.{Block}
+use Rattle.tables.specs.Planes.{has, blocksAt}
+use Rattle.tables.specs.Decode.{stateOf, viewBlocks, viewOutcome, viewRequest, viewSemaphore, viewTask, outcomeAs, requestAs, recordAs, stateAs, recordOf}
+use Rattle.tables.specs.Shows.{taskAt, tasksIn, semaphoreCount, semaphoreAt, semaphoresIn, heldAt, queuesIn, pendingOf, mailboxesIn, timersOf, ticksIn, Tidy, Shown, Of, ShowsAs}
 
 -- the kind of the outcome: begin for a runnable task, plain for an idle one
 abbrev pub kindOf : ℕ → ℕ
@@ -39,12 +41,13 @@ idleOf state = cond (eqb state 0) false true
 abbrev pub freshBlocks : ℕ → Blocks
 freshBlocks state = record { idle = idleOf state; suspended = false; event = false; message = false }
 
--- all ticks left, no message, the tasks by their initial states, no request, every semaphore PENDING, every ring empty.
+-- all ticks left, no message, the tasks by their initial states, no block behind the last, no request, every semaphore PENDING, every ring empty.
 -- All other bytes are free
 pub record FreshTables (s : Shape) (k : ℕ) (states d : List ℕ) : Type 0 where
   pub ticks : getD d ticksAt 0 ≡ k
   pub messages : getD d countAt 0 ≡ 0
   pub blocks : (i : ℕ) → i < s .tasks → blocksAt (cut d planesAt recordsAt) i ≡ freshBlocks (getD states i 0)
+  pub behind : (q : Block) (i : ℕ) → s .tasks ≤ i → i < 128 → has q (cut d planesAt recordsAt) i ≡ false
   pub kinds : (i : ℕ) → i < s .tasks → getD d (s .recordat + i * 6) 0 ≡ kindOf (getD states i 0)
   pub requests : (i j : ℕ) → i < s .tasks → 1 ≤ j → j < 6 → getD d (s .recordat + (i * 6 + j)) 0 ≡ 0
   pub semaphores : (i : ℕ) → i < s .semaphores → getD d (s .semaphoreat + i) 0 ≡ 0
@@ -58,6 +61,13 @@ unfolding freshTask viewTask recordOf viewBlocks viewOutcome viewRequest
 fresh-record c Q zero b r e h eb ek e4 e5 = rw (eb, ek, e4, e5)
 fresh-record c Q (suc zero) b r e h eb ek e4 e5 = rw (eb, ek, e4, e5)
 fresh-record c Q (suc (suc n)) b r e h eb ek e4 e5 = absurd (omega arith)
+
+-- its six bytes
+fresh-bytes : (st : ℕ) → st ≤ 1 → recordAs (freshTask st) ≡ kindOf st ∷ 0 ∷ 0 ∷ 0 ∷ 0 ∷ 0 ∷ []
+unfolding recordAs outcomeAs requestAs freshTask
+fresh-bytes zero h = refl
+fresh-bytes (suc zero) h = refl
+fresh-bytes (suc (suc n)) h = absurd (omega arith)
 
 -- ---- lists of equals
 
@@ -169,9 +179,44 @@ module _ (c : Config) (s : Shape) (o : Of c s) (d z w : List ℕ)
   unfolding timersOf
   timers-fresh = sym (rw (none, le-leb 0 (c .R) (omega arith)) (none-in (drop 1 w)))
 
-  fresh-shown : Shown c (fresh c) p z w
+  -- ---- and tidily
+
+  row-fresh : s .end ≤ length d → (i : ℕ) → i < c .T → rowAt 6 i (p .records) ≡ recordAs (taskAt c p z i)
+  unfolding regions named bound
+  row-fresh room i h =
+      let l = o .laid in
+      let r : List ℕ = rowAt 6 i (p .records) in
+      let n : length r ≡ 6 = length-row 6 i (p .records) (omega (arith, region-length s l d room 2)) in
+      let e : s .recordat + (i * 6 + 0) ≡ s .recordat + i * 6 = omega arith in
+      let kind : getD r 0 0 ≡ kindOf (getD (c .states) i 0) = in-record i 0 h (omega arith) ∙ ap (λ (x : ℕ). getD d x 0) e ∙ b .kinds i (omega arith) in
+      let zero : (j : ℕ) → 1 ≤ j → j < 6 → getD r j 0 ≡ 0 = λ j f g. in-record i j h g ∙ b .requests i j (omega arith) f g in
+      drop-elems 6 0 r n
+      ∙ (λ x. kind x ∷ zero 1 (omega arith) (omega arith) x ∷ zero 2 (omega arith) (omega arith) x ∷ zero 3 (omega arith) (omega arith) x ∷ zero 4 (omega arith) (omega arith) x ∷ zero 5 (omega arith) (omega arith) x ∷ [])
+      ∙ sym (fresh-bytes (getD (c .states) i 0) (state-low (c .states) i low)) ∙ ap recordAs (task-fresh i h)
+
+  fresh-tidy : s .end ≤ length d → Tidy c (fresh c) p z w
+  unfolding semaphoreAt semaphoreCount stateAs viewSemaphore addressed all
+  fresh-tidy room =
+      let l = o .laid in
+      let f : Fits s (s .end) = fitting l (omega arith) in
+      let ticks : getD (p .clock) 0 0 ≡ c .K = in-clock 0 (omega arith) ∙ b .ticks in
+      record {
+        ticks = (omega (arith, o .ticks), omega arith);
+        messages = (omega (arith, in-clock 1 (omega arith), b .messages), ap (λ (n : ℕ). addressed (c .T) n (p .messages)) (in-clock 1 (omega arith) ∙ b .messages));
+        tasks = ((λ q i g h. ap (λ (x : List ℕ). has q x i) (planes-are f d) ∙ b .behind q i (omega (arith, o .tasks)) h), row-fresh room);
+        semaphores = λ i h. rw (in-semaphores i (omega (arith, o .tasks, o .named, o .queues, l .semaphores)));
+        rings = (
+          (λ i h.
+              let e : queue (fresh c) (suc i) .taken ≡ 0 = ap (λ (k : Queue). k .taken) (fresh-queue c (suc i)) in
+              in-rings (i * 2) (omega (arith, o .queues)) ∙ sym (mod-eq-of-lt (o .depths (suc i) (omega arith) (omega arith) .0)) ∙ ap (λ (n : ℕ). n % shape c (suc i) .depth) (sym e)),
+          λ i h. omega (arith, in-rings (i * 2 + 1) (omega (arith, o .queues))),
+        );
+        timers = omega (arith, none);
+      }
+
+  fresh-shown : {tidy : Bool} → s .end ≤ length d → Shown tidy c (fresh c) p z w
   unfolding fresh
-  fresh-shown =
+  fresh-shown room =
       record {
         ticks = ticks-fresh;
         tasks = tasks-fresh;
@@ -180,7 +225,8 @@ module _ (c : Config) (s : Shape) (o : Of c s) (d z w : List ℕ)
         queues = queues-fresh;
         taken = taken-fresh;
         timers = timers-fresh;
+        tidily = λ q. fresh-tidy room;
       }
 
-  pub fresh-shows : s .end ≤ length d → 11 + 10 * c .R ≤ length w → Shows c s (fresh c) d z w
-  fresh-shows room counted = record { of = o; room = room; slots = omega (arith, o .tasks); counted = omega (arith, o .timers); shown = fresh-shown }
+  pub fresh-shows : {tidy : Bool} → s .end ≤ length d → 11 + 10 * c .R ≤ length w → ShowsAs tidy c s (fresh c) d z w
+  fresh-shows room counted = record { of = o; room = room; slots = omega (arith, o .tasks); counted = omega (arith, o .timers); shown = fresh-shown room }

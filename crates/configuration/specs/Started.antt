@@ -1,5 +1,6 @@
 -- The memory after a start shows the fresh ledger.
 use mathlib.Core.Path.{_≡_, sym, ap, _∙_, subst}
+use mathlib.Core.Bool.{Bool}
 use mathlib.Core.List.{List}
 use Prim.Native.Nat.{ℕ, _+_, _-_, _*_, _≤_}
 use native.Mathlib.Omega.{arith}
@@ -11,7 +12,7 @@ use Rattle.ledger.specs.Config.{Config, configIn, configRefusal}
 use Rattle.ledger.specs.Ledger.{fresh}
 use Rattle.tables.specs.declared.shape.Shape.{Shape}
 use Rattle.tables.specs.Layout.{Fits, fitting}
-use Rattle.tables.specs.Shows.{Of, Shows}
+use Rattle.tables.specs.Shows.{Of, ShowsAs}
 use Rattle.configuration.specs.Layout.{of-one}
 use Rattle.configuration.specs.Accepted.{Accepted, accepted, accepted-length, accepted-states}
 use Rattle.configuration.specs.Fresh.{FreshTables, fresh-shows}
@@ -21,9 +22,9 @@ use Rattle.configuration.specs.Written.{cleared-length, cleared}
 abbrev pub timersBytes : Shape → ℕ
 timersBytes s = 11 + 10 * s .timers
 
--- the memory shows the fresh ledger, in the shape that the frame asks for
+-- the memory shows the fresh ledger, tidily, in the shape that the frame asks for
 pub record Started (f d z w : List ℕ) : Type 0 where
-  pub shows : (s : Shape) → Of (configIn f) s → Shows (configIn f) s (fresh (configIn f)) d z w
+  pub shows : {tidy : Bool} (s : Shape) → Of (configIn f) s → ShowsAs tidy (configIn f) s (fresh (configIn f)) d z w
 
 module _ (f : List ℕ) (zero : configRefusal f ≡ 0) where
   abbrev ok : Accepted f

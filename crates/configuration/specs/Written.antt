@@ -63,10 +63,10 @@ begun-turn states r d n v h e b =
       others = λ i j x y. getD-set-other d (n * 6) (i * 6 + j) v 0 (λ q. omega arith) ∙ b .others i j x y;
     }
 
--- the first n tasks are idle or not; the other planes are as they were
+-- the first n tasks are idle or not; every other bit is as it was
 pub record Marked (states d d' : List ℕ) (n : ℕ) : Type 0 where
   pub idle : (i : ℕ) → i < n → has Idle d' i ≡ idleOf (getD states i 0)
-  pub others : (k : Block) (i : ℕ) → i < 128 → (planeOf k ≡ planeOf Idle → ⊥) → has k d' i ≡ has k d i
+  pub others : (k : Block) (i : ℕ) → i < 128 → (planeOf k ≡ planeOf Idle → i < n → ⊥) → has k d' i ≡ has k d i
 
 pub marked-none : (states d : List ℕ) → Marked states d d 0
 marked-none states d = record { idle = λ i h. absurd (omega arith); others = λ k i h n. refl }
@@ -79,7 +79,7 @@ marked-turn states r d n v y l h e new b =
     subst (λ (i : ℕ). NewBlock Idle n v d (set d i y)) at (block-set d Idle n v y (omega arith) (omega arith) (subst (λ (i : ℕ). NewBit (n % 8) v (getD d i 0) y) (sym at) new)) in
     record {
       idle = below-more (λ i. has Idle (set d (n / 8) y) i ≡ idleOf (getD states i 0)) n (λ i g. x .others Idle i (omega arith) (λ p q. omega arith) ∙ b .idle i g) (x .here ∙ e);
-      others = λ k i g ne. x .others k i g (λ p q. ne p) ∙ b .others k i g ne;
+      others = λ k i g ne. x .others k i g (λ p q. ne p (omega arith)) ∙ b .others k i g (λ p q. ne p (omega arith));
     }
 
 -- planes of which nothing was set before
@@ -91,7 +91,7 @@ marked-blocks : (states d d' : List ℕ) (n i : ℕ) → i < n → n ≤ 126 →
 unfolding blocksAt
 marked-blocks states d d' n i h m zeros b =
     let l : i < 128 = omega arith in
-    let no : (k : Block) → (planeOf k ≡ planeOf Idle → ⊥) → has k d' i ≡ false = λ k ne. b .others k i l ne ∙ has-none k d i l zeros in
+    let no : (k : Block) → (planeOf k ≡ planeOf Idle → ⊥) → has k d' i ≡ false = λ k ne. b .others k i l (λ p q. ne p) ∙ has-none k d i l zeros in
     λ x. record { idle = b .idle i h x; suspended = no Suspended (λ e. omega arith) x; event = no Event (λ e. omega arith) x; message = no Message (λ e. omega arith) x }
 
 -- ---- the four writes: the fill, the idle tasks, the outcomes, the ticks
@@ -190,6 +190,7 @@ module _ (s : Shape) (l : Laid s) (states d : List ℕ) (room : s .end ≤ lengt
           ticks = first;
           messages = before 1 (omega arith) (omega arith) ∙ was-below 1 (omega arith);
           blocks = λ i h. ap (λ (x : List ℕ). blocksAt x i) planes-now ∙ marked-blocks states planes ps (length states) i (omega arith) (omega (arith, l .few)) planes-blank m;
+          behind = λ q i h g. ap (λ (x : List ℕ). has q x i) planes-now ∙ m .others q i g (λ e f. omega arith) ∙ has-none q planes i g planes-blank;
           kinds = λ i h. within (i * 6) (omega arith) ∙ b .kinds i (omega arith);
           requests = no-request;
           semaphores = λ i h. behind (s .semaphoreat + i) (omega arith) (omega arith);

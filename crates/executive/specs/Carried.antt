@@ -19,7 +19,7 @@ use Rattle.ledger.specs.Theorems.Checks.{within-numbered, passes}
 use Rattle.ledger.specs.Theorems.Accepted.{GoodA, GoodB, GoodX, GoodNumber, GoodEntry, Good, Accepted}
 use Rattle.tables.specs.declared.shape.Shape.{Shape}
 use Rattle.tables.specs.Layout.{OneOf, Fits, fitting}
-use Rattle.tables.specs.Shows.{Of, Shows, moved}
+use Rattle.tables.specs.Shows.{Of, ShowsAs, moved}
 use Rattle.queues.specs.declared.Ring.{Ring}
 use Rattle.queues.specs.Rings.{ringOf, RingFits, width-is}
 use Rattle.command.specs.Table.{value-word, behind-drop, semaphore-in}
@@ -37,8 +37,8 @@ pub record Meant (c : Config) (s : Shape) (code self a b : ℕ) (f d : List ℕ)
 -- the code's effect, where the ledger has room for it
 abbrev pub Effects : Config → Shape → (code self a b : ℕ) (f d z w d' z' w' : List ℕ) → Type 0
 Effects c s code self a b f d z w d' z' w' =
-    (L : Ledger) → GoodX c L (fields (codeAt code) .X) a b (256 * byte 3 f + byte 4 f) → Shows c s L d z w
-    → Shows c s (effect (codeAt code) c self a b (256 * byte 3 f + byte 4 f) (drop 5 f) L) d' z' w'
+    (tidy : Bool) (L : Ledger) → GoodX c L (fields (codeAt code) .X) a b (256 * byte 3 f + byte 4 f) → ShowsAs tidy c s L d z w
+    → ShowsAs tidy c s (effect (codeAt code) c self a b (256 * byte 3 f + byte 4 f) (drop 5 f) L) d' z' w'
 
 -- what the frame itself says has been passed, while task `self` runs, and the tables d have room for what it sends
 pub record Passed (c : Config) (s : Shape) (self : ℕ) (f d : List ℕ) : Type 0 where
@@ -48,7 +48,7 @@ pub record Passed (c : Config) (s : Shape) (self : ℕ) (f d : List ℕ) : Type 
 
 -- the accepted frame's effect
 abbrev pub Carries : Config → Shape → (self : ℕ) (f d z w d' z' w' : List ℕ) → Type 0
-Carries c s self f d z w d' z' w' = (L : Ledger) → self ≡ running L → Accepted c L (call c self f) → Shows c s L d z w → Shows c s (accept c f L) d' z' w'
+Carries c s self f d z w d' z' w' = (tidy : Bool) (L : Ledger) → self ≡ running L → Accepted c L (call c self f) → ShowsAs tidy c s L d z w → ShowsAs tidy c s (accept c f L) d' z' w'
 
 -- ---- what the services require, from what the frame has passed
 module _ {c : Config} {s : Shape} (o : Of c s) where
@@ -124,8 +124,8 @@ module _ (c : Config) (self : ℕ) (f : List ℕ) (L : Ledger) (q : self ≡ run
       subst (λ (n : ℕ). GoodX c (cond (fields (codeAt n) .service) (setOutcome self plain L) L) (fields (codeAt n) .X) a b (256 * byte 3 f + byte 4 f)) e w
 
 -- ---- an arm: the code is the one that the match found
-pub by-code : (c : Config) (s : Shape) (self a b x : ℕ) (e : List ℕ) (L : Ledger) (code k : ℕ) {d z w : List ℕ} → code ≡ k
-    → Shows c s (effect (codeAt k) c self a b x e L) d z w → Shows c s (effect (codeAt code) c self a b x e L) d z w
+pub by-code : {tidy : Bool} (c : Config) (s : Shape) (self a b x : ℕ) (e : List ℕ) (L : Ledger) (code k : ℕ) {d z w : List ℕ} → code ≡ k
+    → ShowsAs tidy c s (effect (codeAt k) c self a b x e L) d z w → ShowsAs tidy c s (effect (codeAt code) c self a b x e L) d z w
 by-code c s self a b x e L code k q h = moved (ap (λ (n : ℕ). effect (codeAt n) c self a b x e L) (sym q)) h
 
 -- semaphore 0 is signalled to nobody

@@ -13,7 +13,7 @@ use Rattle.tables.specs.declared.tasks.Request.the-variants.{Dequeue, Enqueue}
 use Rattle.tables.specs.Decode.{viewRequest, viewTask, recordOf}
 use Rattle.tables.specs.Planes.{blocksAt}
 use Rattle.tables.specs.Encoded.{AsksFor}
-use Rattle.tables.specs.Shows.{recordIn, waitingIn, Shows, moved}
+use Rattle.tables.specs.Shows.{recordIn, waitingIn, ShowsAs, moved}
 use Rattle.tables.specs.Stored.{shown-task}
 use Rattle.ledger.specs.Lists.{at}
 use Rattle.ledger.specs.Config.{Config}
@@ -44,7 +44,7 @@ pub null-closed : (L : Ledger) (t : ℕ) → t ≡ 0 → false ≡ isOpen (task 
 unfolding task at isOpen
 null-closed L t n = ap (λ (k : ℕ). isOpen (task L k .request)) (sym n)
 
-pub request-is : (c : Config) (s : Shape) (L : Ledger) (d z w : List ℕ) → Shows c s L d z w → (t : ℕ) (x v : Request) → OneOf (s .tasks) t → x ≡ recordIn s d t .request → x ≡ v
+pub request-is : {tidy : Bool} (c : Config) (s : Shape) (L : Ledger) (d z w : List ℕ) → ShowsAs tidy c s L d z w → (t : ℕ) (x v : Request) → OneOf (s .tasks) t → x ≡ recordIn s d t .request → x ≡ v
     → viewRequest c v (waitingIn s d t) ≡ task L t .request
 unfolding recordIn recordOf viewTask waitingIn
 request-is c s L d z w h t x v one p q =
@@ -63,7 +63,7 @@ pub entry-is : (E x : List ℕ) (width n : ℕ) → x ≡ E → width ≡ n → 
 entry-is E x width n e k = let m : width - 0 ≡ n = omega arith in ap (λ (j : ℕ). take j x) m ∙ ap (take n) e
 
 -- ---- a turn: the running task's request was open, and the arm's call issued it again
-module _ (c : Config) (s : Shape) (L : Ledger) (d z w : List ℕ) (h : Shows c s L d z w) (t : ℕ) (x v : Request) (one : OneOf (s .tasks) t) (p : x ≡ recordIn s d t .request) (q : x ≡ v) (e : t ≡ running L) where
+module _ {tidy : Bool} (c : Config) (s : Shape) (L : Ledger) (d z w : List ℕ) (h : ShowsAs tidy c s L d z w) (t : ℕ) (x v : Request) (one : OneOf (s .tasks) t) (p : x ≡ recordIn s d t .request) (q : x ≡ v) (e : t ≡ running L) where
   open-is : viewRequest c v (waitingIn s d t) ≡ openRequest L
   unfolding openRequest
   open-is = request-is c s L d z w h t x v one p q ∙ ap (λ (k : ℕ). task L k .request) e
@@ -72,7 +72,7 @@ module _ (c : Config) (s : Shape) (L : Ledger) (d z w : List ℕ) (h : Shows c s
   unfolding isOpen
   turn-none k o = never (ap isOpen (sym k ∙ open-is) ∙ sym o)
 
-  pub turn-open : {d' z' : List ℕ} → Shows c s (issueAgain c t (viewRequest c v (waitingIn s d t)) (setRequest t none L)) d' z' w → Shows c s (reissue c L) d' z' w
+  pub turn-open : {d' z' : List ℕ} → ShowsAs tidy c s (issueAgain c t (viewRequest c v (waitingIn s d t)) (setRequest t none L)) d' z' w → ShowsAs tidy c s (reissue c L) d' z' w
   turn-open g = moved (reissue-is c L t (viewRequest c v (waitingIn s d t)) e open-is) g
 
 pub asked : {Q q : ℕ} {x : Request} → x ≡ Dequeue q → AsksFor Q x → OneOf Q q

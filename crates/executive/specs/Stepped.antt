@@ -1,6 +1,6 @@
 -- A frame's step over the memory: what it promises, and how its calls come to it.
 use mathlib.Core.Path.{_≡_, refl, sym, ap, _∙_, subst}
-use mathlib.Core.Bool.{true}
+use mathlib.Core.Bool.{Bool, true}
 use mathlib.Core.List.{List}
 use Prim.Native.Nat.{ℕ, _*_, _≤_}
 use native.Mathlib.Omega.{arith}
@@ -9,7 +9,7 @@ use borrow.Author.Tests.{eq-eqb, ne-eqb}
 use Rattle.tables.specs.declared.shape.Shape.{Shape}
 use Rattle.rows.specs.Tab.{tab-length}
 use Rattle.tables.specs.Layout.{Fits, fitting}
-use Rattle.tables.specs.Shows.{tasksIn, Of, Shows, Tells, moved}
+use Rattle.tables.specs.Shows.{tasksIn, Of, ShowsAs, Shows, loosely, Tells, moved}
 use Rattle.tables.specs.AnyMemory.{some, shows-some}
 use Rattle.mailboxes.specs.Room.{Roomy, soundIn}
 use Rattle.mailboxes.specs.Whole.{room-shown}
@@ -32,11 +32,11 @@ use Rattle.executive.specs.Kept.{Ended}
 pub record Acts (c : Config) (s : Shape) (self : ℕ) (f d z w d' z' w' : List ℕ) (r : Settled) : Type 0 where
   pub low : r .running ≤ s .tasks
   pub few : r .reissues ≤ 2 * s .tasks
-  pub ends : (L : Ledger) → self ≡ running L → Accepted c L (call c self f) → Shows c s L d z w → Ended c s (accept c f L) d' z' w' r
+  pub ends : {tidy : Bool} (L : Ledger) → self ≡ running L → Accepted c L (call c self f) → ShowsAs tidy c s L d z w → Ended tidy c s (accept c f L) d' z' w' r
 
 -- the number, the memory and the answer are the ledger's; a refused frame changes the answer alone
 pub record Steps (c : Config) (s : Shape) (f d z w a d' z' w' a' : List ℕ) (r : ℕ) : Type 0 where
-  pub tells : (L : Ledger) → Shows c s L d z w → (r ≡ refusal c L f) × Shows c s (session.step c f L .ledger) d' z' w' × (a' ≡ written (session.step c f L .answered) a)
+  pub tells : {tidy : Bool} (L : Ledger) → ShowsAs tidy c s L d z w → (r ≡ refusal c L f) × ShowsAs tidy c s (session.step c f L .ledger) d' z' w' × (a' ≡ written (session.step c f L .answered) a)
   pub unchanged : (r ≡ 0 → ⊥) → (d' ≡ d) × (z' ≡ z) × (w' ≡ w)
 
 -- the two ways of a step
@@ -49,7 +49,7 @@ accepted-step : (c : Config) (f : List ℕ) (L : Ledger) → refusal c L f ≡ 0
 unfolding session.step
 accepted-step c f L e = rw (eq-eqb (refusal c L f) 0 e)
 
-tasks-length : (c : Config) (s : Shape) (L : Ledger) (d z w : List ℕ) → Shows c s L d z w → length (L .tasks) ≡ c .T
+tasks-length : {tidy : Bool} (c : Config) (s : Shape) (L : Ledger) (d z w : List ℕ) → ShowsAs tidy c s L d z w → length (L .tasks) ≡ c .T
 unfolding tasksIn
 tasks-length c s L d z w h = ap length (h .shown .tasks) ∙ tab-length (c .T) _
 
@@ -69,9 +69,10 @@ module _ (c : Config) (s : Shape) (f d z w a : List ℕ) (self n : ℕ) (runs : 
   step-refused a' ne e =
       record {
         tells = λ L h.
-            let q = number-is L h in
+            let v = loosely h in
+            let q = number-is L v in
             let x = refused-step c f L (λ k. ne (q ∙ k)) in
-            (q, moved (sym (ap (λ y. y .ledger) x)) h, e L h (runs c L z w h) ∙ ap (λ (k : ℕ). written (session.answer k 0 L) a) q ∙ ap (λ y. written (y .answered) a) (sym x));
+            (q, moved (sym (ap (λ y. y .ledger) x)) h, e L v (runs c L z w v) ∙ ap (λ (k : ℕ). written (session.answer k 0 L) a) q ∙ ap (λ y. written (y .answered) a) (sym x));
         unchanged = λ k. (refl, refl, refl);
       }
 
@@ -92,11 +93,12 @@ module _ (c : Config) (s : Shape) (f d z w a : List ℕ) (self n : ℕ) (runs : 
   step-accepted d' z' w' a' k e acts told =
       record {
         tells = λ L h.
-            let q : 0 ≡ refusal c L f = sym e ∙ number-is L h in
-            let t = runs c L z w h in
-            let y = acts .ends L t (accepted-call L h e) h in
+            let v = loosely h in
+            let q : 0 ≡ refusal c L f = sym e ∙ number-is L v in
+            let t = runs c L z w v in
+            let y = acts .ends L t (accepted-call L v e) h in
             let x = accepted-step c f L (sym q) in
             let M : Ledger = session.settle (2 * c .T) c (accept c f L) .ledger in
-            (q, moved (sym (ap (λ y. y .ledger) x)) (y .shows), told M (y .shows) (y .runs) ∙ ap (λ (i : ℕ). written (session.answer 0 i M) a) (y .reissues) ∙ ap (λ y. written (y .answered) a) (sym x));
+            (q, moved (sym (ap (λ y. y .ledger) x)) (y .shows), told M (loosely (y .shows)) (y .runs) ∙ ap (λ (i : ℕ). written (session.answer 0 i M) a) (y .reissues) ∙ ap (λ y. written (y .answered) a) (sym x));
         unchanged = λ k. absurd (k refl);
       }

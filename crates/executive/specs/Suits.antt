@@ -1,11 +1,12 @@
 -- What it is for a function over lent blocks of one configuration to do what the ledger does.
+use mathlib.Core.Bool.{Bool}
 use mathlib.Core.Path.{_≡_}
 use mathlib.Core.List.{List}
 use native.Mathlib.Omega.{arith}
 use Prim.Native.Nat.{ℕ, _*_, _≤_}
 use Rattle.tables.specs.declared.shape.Shape.{Shape}
 use Rattle.tables.specs.Layout.{Fits, still-fits}
-use Rattle.tables.specs.Shows.{Shows}
+use Rattle.tables.specs.Shows.{ShowsAs}
 use Rattle.clock.specs.Held.{Holds, still-holds}
 use Rattle.command.specs.Configured.{Framed}
 use Rattle.ledger.specs.Config.{Config}
@@ -17,11 +18,11 @@ pub data Suits (g : List ℕ) (s : Shape) (d z w : ℕ) : Type 0 where
 
 -- the tables, from d to d', for the configuration c
 abbrev pub DoesOf : Config → Shape → (d d' : List ℕ) → (Config → Ledger → Ledger) → Type 0
-DoesOf c s d d' f = (L : Ledger) (z w : List ℕ) → Shows c s L d z w → Shows c s (f c L) d' z w
+DoesOf c s d d' f = (tidy : Bool) (L : Ledger) (z w : List ℕ) → ShowsAs tidy c s L d z w → ShowsAs tidy c s (f c L) d' z w
 
 -- the tables with the slots
 abbrev pub DoesWithSlotsOf : Config → Shape → (d z d' z' : List ℕ) → (Config → Ledger → Ledger) → Type 0
-DoesWithSlotsOf c s d z d' z' f = (L : Ledger) (w : List ℕ) → Shows c s L d z w → Shows c s (f c L) d' z' w
+DoesWithSlotsOf c s d z d' z' f = (tidy : Bool) (L : Ledger) (w : List ℕ) → ShowsAs tidy c s L d z w → ShowsAs tidy c s (f c L) d' z' w
 
 module _ {g : List ℕ} {s : Shape} {d z w : ℕ} where
   pub configuration : Suits g s d z w → Framed g s

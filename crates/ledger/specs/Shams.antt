@@ -2,8 +2,10 @@
 use Prim.Native.Nat.{ℕ}
 use mathlib.Core.Path.{_≡_, refl}
 use mathlib.Core.List.{List, [], _∷_}
-use Rattle.ledger.specs.Config.{configRefusal}
-use Rattle.ledger.specs.Session.{session}
+use lib.ListN.{getD}
+use Rattle.ledger.specs.Config.{configIn, configRefusal}
+use Rattle.ledger.specs.Ledger.{PENDING, DONE}
+use Rattle.ledger.specs.Session.{run, session}
 use Rattle.ledger.specs.Computing.Quick.{everything}
 
 -- two tasks, one queue of width and depth 1, one timer, one tick a tock
@@ -60,7 +62,9 @@ pub record ShamAnswers : Type 0 where
   -- task 2 waits at the empty queue; task 1 puts, and wakes it
   pub wakingPut : session twoTasks (waits ∷ takes ∷ exits ∷ puts ∷ [])
       ≡ (0 ∷ 1 ∷ 0 ∷ 1 ∷ []) ∷ (0 ∷ 2 ∷ 0 ∷ 1 ∷ []) ∷ (0 ∷ 0 ∷ 0 ∷ 0 ∷ []) ∷ (0 ∷ 1 ∷ 0 ∷ 5 ∷ 1 ∷ []) ∷ (0 ∷ 1 ∷ 0 ∷ 0 ∷ []) ∷ []
+  -- nobody waits on semaphore 1
+  pub done : getD (run (configIn twoTasks) (signals ∷ []) .0 .semaphores) 0 PENDING ≡ DONE
 
 pub the-answers : ShamAnswers
 unfolding everything
-the-answers = record { accepted = refl; settled = refl; filled = refl; started = refl; ticked = refl; told = refl; wakingTick = refl; wakingPut = refl }
+the-answers = record { accepted = refl; settled = refl; filled = refl; started = refl; ticked = refl; told = refl; wakingTick = refl; wakingPut = refl; done = refl }

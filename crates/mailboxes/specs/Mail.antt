@@ -1,4 +1,5 @@
 -- Where the messages lie in the tables, and what the tables show once their region and their number are new.
+use mathlib.Core.Bool.{Bool, true}
 use mathlib.Core.Path.{_≡_, refl, sym, ap, ap₂, _∙_}
 use mathlib.Core.List.{List}
 use Prim.Native.Nat.{ℕ, _+_, _-_, _*_, _<_, _≤_}
@@ -9,11 +10,11 @@ use borrow.Author.Tests.{le-leb}
 use borrow.Rule.Slice.PartMut.{putMid}
 use Rattle.rows.specs.Splice.{cut, splice}
 use Rattle.rows.specs.Laws.{length-cut, length-splice, lent-back, splice-whole}
-use Rattle.messages.specs.Pending.{Pending, pendingIn, mailboxOf}
+use Rattle.messages.specs.Pending.{Pending, addressed, pendingIn, mailboxOf}
 use Rattle.tables.specs.declared.shape.Shape.{Shape}
 use Rattle.tables.specs.Layout.{OneOf, countAt, Laid, Fits, fitting, bound, region, Regions, named, regions, but, written, byte-written, region-at, region-length}
 use Rattle.tables.specs.Decode.{countOf}
-use Rattle.tables.specs.Shows.{Shows, pendingOf}
+use Rattle.tables.specs.Shows.{ShowsAs, pendingOf}
 use Rattle.tables.specs.Items.{withMessages, mailbox-is, mailbox-shown}
 use Rattle.tables.specs.Stored.{shows-as}
 use Rattle.ledger.specs.Config.{Config}
@@ -44,7 +45,7 @@ bytes-are s d = refl
 pub bytes-length : {s : Shape} (d : List ℕ) → Fits s (length d) → length (bytes s d) ≡ s .messages * 4
 bytes-length {s} d f = let l = lies f in length-cut d (s .messageat) (s .bodyat) (l .within) ∙ l .room
 
-module _ (c : Config) (s : Shape) (L : Ledger) (d z w : List ℕ) (h : Shows c s L d z w) where
+module _ {tidy : Bool} (c : Config) (s : Shape) (L : Ledger) (d z w : List ℕ) (h : ShowsAs tidy c s L d z w) where
   pub counter : getD (regions s d .clock) countAt 0 ≡ getD d countAt 0
   unfolding regions named bound
   counter = region-at s d 0 1 (omega arith)
@@ -55,6 +56,14 @@ module _ (c : Config) (s : Shape) (L : Ledger) (d z w : List ℕ) (h : Shows c s
   mail-is =
       ap₂ (λ (g x : ℕ). pendingIn (s .tasks) (countOf g x) (bytes s d)) (h .of .messages) (sym counter)
       ∙ ap₂ (λ (t : ℕ) (l : List ℕ). pendingIn t (countOf (c .G) (getD (regions s d .clock) countAt 0)) l) (h .of .tasks) (sym (bytes-are s d))
+
+  -- the receivers of all of them, where the memory is tidy
+  pub mail-tidy : tidy ≡ true → (n : ℕ) → n ≡ countOf (s .messages) (getD d countAt 0) → addressed (s .tasks) n (bytes s d) ≡ true
+  mail-tidy q n e =
+      let o = h .shown .tidily q .messages in
+      let few : getD d countAt 0 ≤ s .messages = omega (arith, o .0, counter, h .of .messages) in
+      let m : n ≡ getD (regions s d .clock) countAt 0 = e ∙ rw (le-leb (getD d countAt 0) (s .messages) few) (sym counter) in
+      ap₂ (λ (t k : ℕ). addressed t k (bytes s d)) (h .of .tasks) m ∙ ap (addressed (c .T) (getD (regions s d .clock) countAt 0)) (sym (bytes-are s d)) ∙ o .1
 
 -- the region came back as other bytes, and the byte that counts them is new
 abbrev pub renewed : Shape → (d ys : List ℕ) → ℕ → List ℕ
@@ -90,7 +99,7 @@ module _ (s : Shape) (l : Laid s) (d : List ℕ) (space : s .end ≤ length d) (
         ∙ ap (λ (p : Regions). withMessages (set (p .clock) countAt v) (p .messages) p) back-regions
 
 -- what is then shown: one mailbox is new, the others are as they were
-module _ (c : Config) (s : Shape) (L : Ledger) (d z w : List ℕ) (h : Shows c s L d z w) (t : ℕ) (to : OneOf (s .tasks) t) where
+module _ {tidy : Bool} (c : Config) (s : Shape) (L : Ledger) (d z w : List ℕ) (h : ShowsAs tidy c s L d z w) (t : ℕ) (to : OneOf (s .tasks) t) where
   pub mailbox-in : mailbox L t ≡ mailboxOf t (mail s d)
   mailbox-in = mailbox-is c L (regions s d) z w (h .shown) t (to .0, omega (arith, h .of .tasks)) ∙ ap (mailboxOf t) (sym (mail-is c s L d z w h))
 
@@ -110,12 +119,16 @@ module _ (c : Config) (s : Shape) (L : Ledger) (d z w : List ℕ) (h : Shows c s
         ap₂ (λ (t x : ℕ). pendingIn t (countOf (c .G) x) ys) (sym (h .of .tasks)) e ∙ rw (le-leb v (c .G) m)
 
     pub mail-renewed : (x : List Message) → mailboxOf t (pendingIn (s .tasks) v ys) ≡ x → ((u : ℕ) → (t ≡ u → ⊥) → mailboxOf u (pendingIn (s .tasks) v ys) ≡ mailboxOf u (mail s d))
-        → Shows c s (setMailbox t x L) (renewed s d ys v) z w
-    mail-renewed x new others =
+        → (tidy ≡ true → addressed (s .tasks) v ys ≡ true) → ShowsAs tidy c s (setMailbox t x L) (renewed s d ys v) z w
+    unfolding withMessages
+    mail-renewed x new others neat =
         let p : Regions = regions s d in
         shows-as c s L d z w (renewed s d ys v) z (withMessages clock ys p) h (renewed-length s (h .of .laid) d (h .room) ys n v) refl
         (renewed-regions s (h .of .laid) d (h .room) ys n v)
         (setMailbox t x L)
         (mailbox-shown c L p z w (h .shown) clock ys t x (getD-set-other (p .clock) countAt 0 v 0 (λ e. omega arith)) (to .0)
         (sym new ∙ ap (mailboxOf t) (sym mail-new))
-        (λ j ne. ap (mailboxOf j) (sym (mail-is c s L d z w h)) ∙ sym (others j (λ e. ne (sym e))) ∙ ap (mailboxOf j) (sym mail-new)))
+        (λ j ne. ap (mailboxOf j) (sym (mail-is c s L d z w h)) ∙ sym (others j (λ e. ne (sym e))) ∙ ap (mailboxOf j) (sym mail-new))
+        (λ q.
+        let e : getD clock countAt 0 ≡ v = getD-set-same (p .clock) countAt v 0 (omega (arith, clock-length)) in
+        (omega (arith, h .of .messages), ap₂ (λ (t n : ℕ). addressed t n ys) (sym (h .of .tasks)) e ∙ neat q)))

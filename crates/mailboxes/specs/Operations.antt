@@ -12,15 +12,15 @@ use Rattle.messages.specs.Records.{held-is, found-some, found-none, taken}
 use Rattle.tables.specs.declared.shape.Shape.{Shape}
 use Rattle.tables.specs.Layout.{OneOf, countAt}
 use Rattle.tables.specs.Decode.{countOf}
-use Rattle.tables.specs.Shows.{Shows, mailboxesIn}
+use Rattle.tables.specs.Shows.{ShowsAs, mailboxesIn}
 use Rattle.ledger.specs.Config.{Config}
 use Rattle.ledger.specs.Lists.{any, find, without, insertBy}
 use Rattle.ledger.specs.Ledger.{Ledger, Message, mailbox, setMailbox}
 use Rattle.ledger.specs.Services.{wanted}
 use Rattle.ledger.specs.Refusals.{inAMailbox}
-use Rattle.mailboxes.specs.Mail.{bytes, mail, mail-is, mailbox-in, renewed, mail-renewed}
+use Rattle.mailboxes.specs.Mail.{bytes, mail, mail-is, mail-tidy, mailbox-in, renewed, mail-renewed}
 
-module _ (c : Config) (s : Shape) (L : Ledger) (d z w : List ℕ) (h : Shows c s L d z w) where
+module _ {tidy : Bool} (c : Config) (s : Shape) (L : Ledger) (d z w : List ℕ) (h : ShowsAs tidy c s L d z w) where
   in-mail : (x : ℕ) → any (any (numbered x)) (mailboxesOf (s .tasks) (mail s d)) ≡ inAMailbox L x
   unfolding inAMailbox mailboxesIn
   in-mail x =
@@ -42,12 +42,13 @@ module _ (c : Config) (s : Shape) (L : Ledger) (d z w : List ℕ) (h : Shows c s
       own-mail = ap (mailboxOf t) mail-now ∙ sym (mailbox-in c s L d z w h t to)
 
       pub insert-done : (x f b : ℕ) (ys : List ℕ) → n < s .messages → length ys ≡ length (bytes s d) → Inserted (s .tasks) n (pending t x f b) (bytes s d) ys
-          → Shows c s (setMailbox t (insertBy (λ m. m .sender) (letter x f b) (mailbox L t)) L) (renewed s d ys (n + 1)) z w
+          → ShowsAs tidy c s (setMailbox t (insertBy (λ m. m .sender) (letter x f b) (mailbox L t)) L) (renewed s d ys (n + 1)) z w
       insert-done x f b ys r l i =
           let m : Message = letter x f b in
           mail-renewed c s L d z w h t to ys l (n + 1) (omega arith) (insertBy (λ m. m .sender) m (mailbox L t))
           (i .own ∙ ap (insertBy (λ m. m .sender) m) own-mail)
           (λ u ne. i .others u ne ∙ ap (mailboxOf u) mail-now)
+          (λ q. i .addressed (mail-tidy c s L d z w h q n e))
 
       -- what a receive found, at record k
       module _ (few : n ≤ s .messages) (a k : ℕ) (f : Found (s .tasks) n t a (bytes s d) k) where
@@ -58,15 +59,17 @@ module _ (c : Config) (s : Shape) (L : Ledger) (d z w : List ℕ) (h : Shows c s
         take-some m g q = ap some q ∙ sym (ap (find (wanted a)) (sym own-mail) ∙ found-some (s .tasks) n t a k (bytes s d) f g)
 
         pub take-done : (ys : List ℕ) → k < n → length ys ≡ length (bytes s d) → Removed n k (bytes s d) ys
-            → Shows c s (setMailbox t (without (wanted a) (mailbox L t)) L) (renewed s d ys (n - 1)) z w
+            → ShowsAs tidy c s (setMailbox t (without (wanted a) (mailbox L t)) L) (renewed s d ys (n - 1)) z w
         take-done ys g l q =
-            let i : Taken (s .tasks) n t a (bytes s d) ys = taken (s .tasks) n t a k (bytes s d) ys f g (q (s .tasks)) in
+            let i : Taken (s .tasks) n t a (bytes s d) ys = taken (s .tasks) n t a k (bytes s d) ys f g (q (s .tasks) .0) in
             mail-renewed c s L d z w h t to ys l (n - 1) (omega arith) (without (wanted a) (mailbox L t))
             (i .own ∙ ap (without (wanted a)) own-mail)
             (λ u ne. i .others u ne ∙ ap (mailboxOf u) mail-now)
+            (λ p. q (s .tasks) .1 (mail-tidy c s L d z w h p n e))
 
       pub clear-done : (ys : List ℕ) (r : ℕ) → n ≤ s .messages → length ys ≡ length (bytes s d) → Emptied (s .tasks) n t (bytes s d) ys r
-          → Shows c s (setMailbox t [] L) (renewed s d ys r) z w
+          → ShowsAs tidy c s (setMailbox t [] L) (renewed s d ys r) z w
       clear-done ys r few l i =
           mail-renewed c s L d z w h t to ys l r (omega (arith, i .left)) [] (i .own)
           (λ u ne. i .others u ne ∙ ap (mailboxOf u) mail-now)
+          (λ q. i .addressed (mail-tidy c s L d z w h q n e))

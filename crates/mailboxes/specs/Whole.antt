@@ -14,7 +14,7 @@ use Rattle.messages.specs.Lying.{lying, lying-are}
 use Rattle.tables.specs.declared.shape.Shape.{Shape}
 use Rattle.tables.specs.Layout.{OneOf, countAt, regions}
 use Rattle.tables.specs.Decode.{countOf}
-use Rattle.tables.specs.Shows.{pendingOf, mailboxesIn, Shows}
+use Rattle.tables.specs.Shows.{pendingOf, mailboxesIn, ShowsAs}
 use Rattle.ledger.specs.Config.{Config}
 use Rattle.ledger.specs.Ledger.{Ledger}
 use Rattle.ledger.specs.Refusals.{inAMailbox}
@@ -30,7 +30,7 @@ most g x = go (leb x g) refl
     go true e = leb-true x g e
     go false e = omega arith
 
-module _ (c : Config) (s : Shape) (L : Ledger) (d z w : List ℕ) (h : Shows c s L d z w) where
+module _ {tidy : Bool} (c : Config) (s : Shape) (L : Ledger) (d z w : List ℕ) (h : ShowsAs tidy c s L d z w) where
   -- the records by the configuration's numbers
   abbrev many : ℕ
   many = countOf (c .G) (getD (regions s d .clock) countAt 0)
@@ -47,7 +47,7 @@ module _ (c : Config) (s : Shape) (L : Ledger) (d z w : List ℕ) (h : Shows c s
   some = let l = h .of .laid in omega (arith, l .some, h .of .tasks)
 
   -- as many records are taken as messages lie in the ledger's mailboxes
-  counted-shown : counted s d ≡ lying (L .mailboxes)
+  pub counted-shown : counted s d ≡ lying (L .mailboxes)
   counted-shown =
       ap₂ countOf (h .of .messages) (sym (counter c s L d z w h))
       ∙ sym (lying-are (c .T) some many (regions s d .messages)) ∙ sym (ap lying boxes-are)
@@ -70,7 +70,7 @@ module _ (c : Config) (s : Shape) (L : Ledger) (d z w : List ℕ) (h : Shows c s
   sound-shown o = whole-sound s d (whole-shown o)
 
 -- two memories that show the same ledger: the rule as a frame asks it is kept in both or in none
-module _ (c : Config) (s : Shape) (L : Ledger) (d z w d' z' w' : List ℕ) (h : Shows c s L d z w) (k : Shows c s L d' z' w') where
+module _ {tidy : Bool} (c : Config) (s : Shape) (L : Ledger) (d z w d' z' w' : List ℕ) (h : ShowsAs tidy c s L d z w) (k : ShowsAs tidy c s L d' z' w') where
   whole-same : wholeIn s d ≡ wholeIn s d'
   whole-same = go (wholeIn s d) (wholeIn s d') (λ e. whole-shown c s L d' z' w' k (shown-once c s L d z w h e)) (λ e. whole-shown c s L d z w h (shown-once c s L d' z' w' k e))
     where

@@ -10,7 +10,7 @@ use Rattle.ledger.specs.Ledger.{Ledger, fresh}
 use Rattle.ledger.specs.Refusals.{refusal}
 use Rattle.ledger.specs.Session as session
 use Rattle.tables.specs.Layout.{recordsAt}
-use Rattle.tables.specs.Shows.{Shows}
+use Rattle.tables.specs.Shows.{ShowsAs, Shows}
 use Rattle.mailboxes.specs.Room.{counted, wholeIn}
 use Rattle.configuration.specs.Limits.{longest}
 use Rattle.configuration.specs.Block.{frameRule}
@@ -112,6 +112,10 @@ lentWell m = lentWellFor controller m
 unfoldable pub Displays : Config → Ledger → Memory → Type 0
 Displays c l m = Shows c (shapeOf c) l (tablesPart c m) (slotsPart c m) (timersPart c m)
 
+-- and tidily: each item has the one value that the executive writes
+unfoldable pub Tidily : Config → Ledger → Memory → Type 0
+Tidily c l m = ShowsAs true c (shapeOf c) l (tablesPart c m) (slotsPart c m) (timersPart c m)
+
 -- as many bytes in every block
 pub record SameSizes (m m' : Memory) : Type 0 where
   pub config : length (m' .config) ≡ length (m .config)
@@ -144,6 +148,7 @@ pub record Begins (f : List ℕ) (m m' : Memory) (r : ℕ) : Type 0 where
   pub frame : keptFrame (m' .config) ≡ f
   pub well : lentWell m' ≡ true
   pub shown : Displays (configIn f) (fresh (configIn f)) m'
+  pub tidy : Tidily (configIn f) (fresh (configIn f)) m'
   pub answered : m' .answer ≡ written (session.answer 0 0 (fresh (configIn f))) (m .answer)
   pub outside : OutsideSpared f m m'
 
@@ -158,6 +163,7 @@ pub record Configures (f : List ℕ) (m m' : Memory) (r : ℕ) : Type 0 where
 pub record Goes (c : Config) (l : Ledger) (f : List ℕ) (m m' : Memory) (r : ℕ) : Type 0 where
   pub number : r ≡ refusal c l f
   pub shown : Displays c (session.step c f l .ledger) m'
+  pub tidy : Tidily c l m → Tidily c (session.step c f l .ledger) m'
   pub answered : m' .answer ≡ written (session.step c f l .answered) (m .answer)
 
 pub record Frames (f : List ℕ) (m m' : Memory) (r : ℕ) : Type 0 where

@@ -1,7 +1,7 @@
 -- From the steps inside to what the exported functions promise.
 use Prim.Native.Nat.{ℕ, _+_, _-_, _*_, _≤_, min}
 use mathlib.Core.Path.{_≡_, refl, sym, ap, _∙_, subst}
-use mathlib.Core.Bool.{true, false}
+use mathlib.Core.Bool.{Bool, true, false}
 use mathlib.Core.List.{List}
 use native.Mathlib.Omega.{arith}
 use lib.ListN.{length, getD, length-take, length-drop}
@@ -15,7 +15,7 @@ use Rattle.rows.specs.Splice.{cut, splice}
 use Rattle.rows.specs.Laws.{length-cut}
 use Rattle.tables.specs.declared.shape.Shape.{Shape}
 use Rattle.tables.specs.Layout.{fitting}
-use Rattle.tables.specs.Shows.{Of, Shows}
+use Rattle.tables.specs.Shows.{Of, ShowsAs, Shows, loosely}
 use Rattle.mailboxes.specs.Room.{soundIn}
 use Rattle.clock.specs.Held.{holding}
 use Rattle.configuration.specs.Limits.{controller-made}
@@ -30,7 +30,7 @@ use Rattle.executive.specs.Stepped.{Steps}
 use Rattle.answer.specs.Written.{written}
 use Rattle.parts.specs.Parts.{partAt, frameAt, ends, part, keptFrame, kept, Stays, Spares}
 use Rattle.parts.specs.Laws.{length-ends, marks-after, spares-after, part-stays, back-part, back-stays, back-same, kept-frame}
-use Rattle.mcx11.specs.Contract.{Memory, memory, Sizes, sizesOf, fullSize, configMark, tablesMark, slotsMark, timersMark, isMarked, configOf, tablesPart, slotsPart, timersPart, messagesSound, lentWell, Displays, SameSizes, answering, Begins, Configures, Frames}
+use Rattle.mcx11.specs.Contract.{Memory, memory, Sizes, sizesOf, fullSize, configMark, tablesMark, slotsMark, timersMark, isMarked, configOf, tablesPart, slotsPart, timersPart, messagesSound, lentWell, Displays, Tidily, SameSizes, answering, Begins, Configures, Frames}
 use Rattle.mcx11.specs.Sizes.{RoomForMarks, room-for-marks, full-sizes, full-kept, well-full, well-frame, well-messages}
 use Rattle.mcx11.specs.Tested.{frame-is, sound-is, frame-rule, frame-whole, frame-short, tables-within, slots-within, timers-within}
 use Rattle.mcx11.specs.Displayed.{displays-well}
@@ -158,7 +158,7 @@ module _ (f g d z w a : List ℕ) where
         )
 
     pub frame-fed : (d' z' w' a' : List ℕ) (r : ℕ) → SameSizes m (memory g d' z' w' a') → StepsInside s f g d z w a d' z' w' a' r → Frames f m (memory g d' z' w' a') r
-    unfolding configOf tablesPart slotsPart timersPart Displays
+    unfolding configOf tablesPart slotsPart timersPart Displays Tidily
     frame-fed d' z' w' a' r sizes h =
         let c : Config = configIn (keptFrame g) in
         let p : s ≡ shapeOf c = is-shape in
@@ -167,10 +167,13 @@ module _ (f g d z w a : List ℕ) where
           config = refl;
           bad = λ k. never (sym k ∙ well);
           good = λ k l v.
-              let t = h .steps .tells l (subst (λ (y : Shape). Shows c y l (part (y .end) d) (part (16 * y .tasks) z) (part (timersBytes y) w)) (sym p) v) in
+              let In : Bool → Shape → Type 0 = λ b y. ShowsAs b c y l (part (y .end) d) (part (16 * y .tasks) z) (part (timersBytes y) w) in
+              let Out : Bool → Shape → Type 0 = λ b y. ShowsAs b c y (session.step c f l .ledger) (part (y .end) d') (part (16 * y .tasks) z') (part (timersBytes y) w') in
+              let t = h .steps .tells l (subst (In false) (sym p) v) in
               record {
                 number = t .0;
-                shown = subst (λ (y : Shape). Shows c y (session.step c f l .ledger) (part (y .end) d') (part (16 * y .tasks) z') (part (timersBytes y) w')) p (t .1);
+                shown = subst (Out false) p (t .1);
+                tidy = λ u. subst (Out true) p (h .steps .tells l (subst (In true) (sym p) u) .1);
                 answered = t .2;
               };
           outside = λ k. record {
@@ -274,12 +277,15 @@ module _ (f : List ℕ) (zero : configRefusal f ≡ 0) (s : Shape) (o : Of (conf
           marks-after w w' 659 timersMark (timersBytes s) (b .3) (n .timers) (h .timers) (omega arith),
         )
 
-    shown-here : Displays (configIn f) (fresh (configIn f)) m₁
-    unfolding Displays tablesPart slotsPart timersPart
-    shown-here =
+    tidy-here : Tidily (configIn f) (fresh (configIn f)) m₁
+    unfolding Tidily tablesPart slotsPart timersPart
+    tidy-here =
         let c : Config = configIn f in
-        let v : Shows c s (fresh c) (part (s .end) d') (part (16 * s .tasks) z') (part (timersBytes s) w') = h .started .shows s o in
-        subst (λ (y : Shape). Shows c y (fresh c) (part (y .end) d') (part (16 * y .tasks) z') (part (timersBytes y) w')) shape-here v
+        subst (λ (y : Shape). ShowsAs true c y (fresh c) (part (y .end) d') (part (16 * y .tasks) z') (part (timersBytes y) w')) shape-here (h .started .shows s o)
+
+    shown-here : Displays (configIn f) (fresh (configIn f)) m₁
+    unfolding Displays Tidily
+    shown-here = loosely tidy-here
 
     pub begun : Begins f m₀ m₁ 0
     unfolding sizesOf
@@ -293,6 +299,7 @@ module _ (f : List ℕ) (zero : configRefusal f ≡ 0) (s : Shape) (o : Of (conf
           well = displays-well m₁ (fresh c) (full-kept sizes ∙ full) marks-here (ap (frameRule controller) frame-here ∙ frame-keeps)
               (subst (λ (k : Config). Displays k (fresh c) m₁) (sym config-here) shown-here) (subst (λ (k : Config). Once k (fresh c .mailboxes)) (sym config-here) (once-fresh c));
           shown = shown-here;
+          tidy = tidy-here;
           answered = tells c (fresh c) (part (timersBytes s) w') (h .started .shows s o);
           outside = record {
             config = spares-after g g' 208 configMark (2 + length f) (omega (arith, b .0)) (n .config) frame-stays;

@@ -3,12 +3,14 @@ use mathlib.Core.Path.{_≡_, refl, sym, ap, ap₂, _∙_}
 use mathlib.Core.Bool.{Bool, true, false, cond, _&&_, _||_, and-false, or-true}
 use mathlib.Core.List.{List, [], _∷_, map}
 use Prim.Native.Nat.{ℕ, zero, suc, _+_, _-_, _<_}
+use native.Mathlib.Nat.{suc-add}
 use native.Mathlib.Numerals.{add-one}
 use native.Mathlib.Omega.{arith}
 use lib.Dec.{leb, eqb}
 use lib.ListN.{length, getD}
 use borrow.Author.Tests.{eq-eqb, ne-eqb, leb-true, leb-false}
-use Rattle.ledger.specs.Lists.{within, any, keep}
+use Rattle.ledger.specs.Lists.{within, any, all, keep}
+use Rattle.rows.specs.Rows.{insertAt, removeAt}
 use Rattle.rows.specs.First.{firstOf}
 use Rattle.rows.specs.Tab.{tab}
 
@@ -27,6 +29,22 @@ or-left false b e = refl
 pub or-right : (a b : Bool) → (a || b) ≡ false → b ≡ false
 or-right true b e = let z : _≡_ {A = Bool} true false = e in cc
 or-right false b e = e
+
+-- ---- what holds of all items, with one more and with one less
+
+module _ {A : Type 0} (p : A → Bool) where
+  pub all-insert : (k : ℕ) (x : A) (l : List A) → p x ≡ true → all p l ≡ true → all p (insertAt k x l) ≡ true
+  unfolding all
+  all-insert zero x l e h = rw (e, h)
+  all-insert (suc k) x [] e h = rw e
+  all-insert (suc k) x (y ∷ ys) e h = rw (and-left (p y) (all p ys) h, all-insert k x ys e (and-right (p y) (all p ys) h))
+
+  pub all-remove : (k : ℕ) (l : List A) → all p l ≡ true → all p (removeAt k l) ≡ true
+  unfolding all
+  all-remove zero [] h = refl
+  all-remove (suc k) [] h = rw suc-add
+  all-remove zero (y ∷ ys) h = and-right (p y) (all p ys) h
+  all-remove (suc k) (y ∷ ys) h = rw (suc-add, and-left (p y) (all p ys) h) (all-remove k ys (and-right (p y) (all p ys) h))
 
 -- ---- a search in the images, and in what is kept
 

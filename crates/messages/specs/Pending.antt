@@ -50,6 +50,10 @@ letterAt k d = letterOf (rowAt 4 k d)
 unfoldable pub numbersIn : ℕ → List ℕ → List ℕ
 numbersIn n d = map (λ r. getD r 1 0) (rowsOf 4 n d)
 
+-- the receiver of each of the first n records is one of the tasks
+unfoldable pub addressed : (tasks n : ℕ) → List ℕ → Bool
+addressed tasks n d = all (λ r. within 1 tasks (getD r 0 0)) (rowsOf 4 n d)
+
 -- ---- mailboxes
 
 abbrev pub for : ℕ → Pending → Bool

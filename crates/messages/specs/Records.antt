@@ -9,12 +9,12 @@ use native.Mathlib.Omega.{arith}
 use lib.Dec.{ltb, eqb}
 use borrow.Author.Tests.{eq-eqb, ne-eqb, le-leb}
 use lib.ListN.{length, getD, drop, length-map, List·getD-map}
-use Rattle.ledger.specs.Lists.{within, any, keep, find}
+use Rattle.ledger.specs.Lists.{within, any, all, keep, find}
 use Rattle.ledger.specs.Services.{wanted}
 use Rattle.rows.specs.Rows.{rowsOf, insertAt, removeAt, getD-row, getD-rows, length-rows, map-insertAt}
 use Rattle.rows.specs.First.{firstOf, first-le, first-here, first-on, first-end, keepFrom, keep-on, keep-out, keep-end, map-removeAt, any-is}
-use Rattle.messages.specs.Lists.{any-map, any-ext}
-use Rattle.messages.specs.Pending.{Pending, letter, pending, receiver, pendingOf, pendingAt, pendingIn, letterAt, numbersIn, for, mailboxOf, mailboxesOf, numbered, behind, placeFor, wantedBy, placeOf, occurs}
+use Rattle.messages.specs.Lists.{all-insert, all-remove, any-map, any-ext}
+use Rattle.messages.specs.Pending.{Pending, addressed, letter, pending, receiver, pendingOf, pendingAt, pendingIn, letterAt, numbersIn, for, mailboxOf, mailboxesOf, numbered, behind, placeFor, wantedBy, placeOf, occurs}
 use Rattle.messages.specs.Changes.{Inserted, Found, Removed, Taken, Emptied}
 use Rattle.messages.specs.Mailboxes.{mailbox-insert, mailbox-insert-other, mailbox-remove, mailbox-remove-other, mailbox-find, mailbox-find-none, mailbox-empty, mailbox-empty-other, mailboxes-any}
 
@@ -173,7 +173,7 @@ held-is T n x d h =
 
 pub inserted : (T n k t x s b : ℕ) (d d' : List ℕ) → 1 ≤ t → t ≤ T → k ≡ placeFor t s (pendingIn T n d)
     → rowsOf 4 (n + 1) d' ≡ insertAt k (t ∷ x ∷ s ∷ b ∷ []) (rowsOf 4 n d) → Inserted T n (pending t x s b) d d'
-unfolding pendingIn
+unfolding pendingIn addressed
 inserted T n k t x s b d d' low high at e =
     let p : Pending = pending t x s b in
     let l : List Pending = pendingIn T n d in
@@ -183,11 +183,15 @@ inserted T n k t x s b d d' low high at e =
     record {
       own = ap (mailboxOf t) q ∙ mailbox-insert p l;
       others = λ u ne. ap (mailboxOf u) q ∙ mailbox-insert-other p l u (placeFor t s l) ne;
+      addressed = λ h. ap (all (λ r. within 1 T (getD r 0 0))) e ∙ all-insert (λ r. within 1 T (getD r 0 0)) k (t ∷ x ∷ s ∷ b ∷ []) (rowsOf 4 n d) (rw (le-leb 1 t low, le-leb t T high)) h;
     }
 
 pub removed : (n k : ℕ) (d d' : List ℕ) → rowsOf 4 (n - 1) d' ≡ removeAt k (rowsOf 4 n d) → Removed n k d d'
-unfolding pendingIn
-removed n k d d' e T = ap (map (pendingOf T)) e ∙ map-removeAt (pendingOf T) k (rowsOf 4 n d)
+unfolding pendingIn addressed
+removed n k d d' e T = (
+  ap (map (pendingOf T)) e ∙ map-removeAt (pendingOf T) k (rowsOf 4 n d),
+  λ h. ap (all (λ r. within 1 T (getD r 0 0))) e ∙ all-remove (λ r. within 1 T (getD r 0 0)) k (rowsOf 4 n d) h,
+)
 
 pub taken : (T n t a k : ℕ) (d d' : List ℕ) → Found T n t a d k → k < n → pendingIn T (n - 1) d' ≡ removeAt k (pendingIn T n d) → Taken T n t a d d'
 taken T n t a k d d' f h e =
@@ -230,10 +234,11 @@ module _ (T t m k : ℕ) (d : List ℕ) (l : List Pending) (s : Emptying T t m k
   pub empty-end : m ≤ k → pendingIn T m d ≡ l
   empty-end h = sym (keep-end (notFor t) (pendingIn T m d) k (rw pending-length h)) ∙ s .so-far
 
-pub emptied : (T n t r : ℕ) (d d' : List ℕ) → r ≤ n → pendingIn T r d' ≡ keep (notFor t) (pendingIn T n d) → Emptied T n t d d' r
-emptied T n t r d d' h q =
+pub emptied : (T n t r : ℕ) (d d' : List ℕ) → r ≤ n → pendingIn T r d' ≡ keep (notFor t) (pendingIn T n d) → (addressed T n d ≡ true → addressed T r d' ≡ true) → Emptied T n t d d' r
+emptied T n t r d d' h q a =
     record {
       left = h;
       own = ap (mailboxOf t) q ∙ mailbox-empty t (pendingIn T n d);
       others = λ u ne. ap (mailboxOf u) q ∙ mailbox-empty-other t u ne (pendingIn T n d);
+      addressed = a;
     }

@@ -1,4 +1,5 @@
 -- Putting in the lent memory: the bytes that the calls leave, as regions, and so the ledger's own change.
+use mathlib.Core.Bool.{Bool}
 use mathlib.Core.Path.{_≡_, refl, sym, ap, _∙_, subst}
 use mathlib.Core.List.{List}
 use Prim.Native.Nat.{ℕ, zero, suc, _+_, _-_, _*_, _<_, _≤_}
@@ -17,14 +18,14 @@ use Rattle.ledger.specs.Services.{putEntry}
 use Rattle.tables.specs.declared.shape.Shape.{Shape}
 use Rattle.tables.specs.Layout.{OneOf, bound, Regions, named, regions, but, written, byte-written, region-length}
 use Rattle.tables.specs.Encoded.{head-in}
-use Rattle.tables.specs.Shows.{begins, Shows}
+use Rattle.tables.specs.Shows.{begins, ShowsAs}
 use Rattle.tables.specs.Items.{withQueues}
 use Rattle.tables.specs.Stored.{shows-as}
 use Rattle.queues.specs.declared.Ring.{Ring}
 use Rattle.queues.specs.Rings.{ringOf, headIn, countIn, bodyIn, inside, held-length}
 use Rattle.queues.specs.Holding.{put-shown}
 
-module _ (c : Config) (s : Shape) (L : Ledger) (d z w : List ℕ) (h : Shows c s L d z w) where
+module _ {tidy : Bool} (c : Config) (s : Shape) (L : Ledger) (d z w : List ℕ) (h : ShowsAs tidy c s L d z w) where
   pub rings-length : length (regions s d .rings) ≡ 2 * c .Q
   unfolding regions named bound
   rings-length = region-length s (h .of .laid) d (h .room) 5 ∙ (let l = h .of .laid in omega (arith, h .of .queues))
@@ -48,11 +49,11 @@ module _ (c : Config) (s : Shape) (L : Ledger) (d z w : List ℕ) (h : Shows c s
 
   put-for : (i : ℕ) → i < c .Q → (r : Ring) → r ≡ ringOf c s (suc i) → (e ys : List ℕ) → length e ≡ r .width → countIn s r d i < r .depth
       → ys ≡ splice (bodyIn r d) (wrapOf (r .depth) (headIn s r d i + countIn s r d i) * r .width) e
-      → Shows c s (putEntry (suc i) e L) (set (putMid (r .base) (r .base + r .depth * r .width - r .base) d ys) (s .ringat + (i * 2 + 1)) (countIn s r d i + 1)) z w
+      → ShowsAs tidy c s (putEntry (suc i) e L) (set (putMid (r .base) (r .base + r .depth * r .width - r .base) d ys) (s .ringat + (i * 2 + 1)) (countIn s r d i + 1)) z w
   unfolding ringOf headIn countIn bodyIn
   put-for i hi r er e ys =
       subst (λ (r : Ring). length e ≡ r .width → countIn s r d i < r .depth → ys ≡ splice (bodyIn r d) (wrapOf (r .depth) (headIn s r d i + countIn s r d i) * r .width) e
-      → Shows c s (putEntry (suc i) e L) (set (putMid (r .base) (r .base + r .depth * r .width - r .base) d ys) (s .ringat + (i * 2 + 1)) (countIn s r d i + 1)) z w) (sym er)
+      → ShowsAs tidy c s (putEntry (suc i) e L) (set (putMid (r .base) (r .base + r .depth * r .width - r .base) d ys) (s .ringat + (i * 2 + 1)) (countIn s r d i + 1)) z w) (sym er)
       (λ el room ey.
       let r : Ring = ringOf c s (suc i) in
       let k : ℕ = wrapOf (r .depth) (headIn s r d i + countIn s r d i) in
@@ -64,7 +65,7 @@ module _ (c : Config) (s : Shape) (L : Ledger) (d z w : List ℕ) (h : Shows c s
       ∙ (let x : s .bodyat + begins c i + k * r .width ≡ s .bodyat + (begins c i + k * r .width) = omega arith in ap (λ (n : ℕ). splice d n e) x) in
       let d' : List ℕ = set (splice d (s .bodyat + (begins c i + k * r .width)) e) (s .ringat + (i * 2 + 1)) (countIn s r d i + 1) in
       let m : length d' ≡ length d = length-set (splice d (s .bodyat + (begins c i + k * r .width)) e) (s .ringat + (i * 2 + 1)) (countIn s r d i + 1) ∙ length-splice d (s .bodyat + (begins c i + k * r .width)) e (omega (arith, h .room)) in
-      subst (λ (x : List ℕ). Shows c s (putEntry (suc i) e L) (set x (s .ringat + (i * 2 + 1)) (countIn s r d i + 1)) z w) (sym b)
+      subst (λ (x : List ℕ). ShowsAs tidy c s (putEntry (suc i) e L) (set x (s .ringat + (i * 2 + 1)) (countIn s r d i + 1)) z w) (sym b)
       (shows-as c s L d z w d' z _ h m refl (put-written i hi (k * r .width) (countIn s r d i + 1) e (omega arith)) (putEntry (suc i) e L)
       (put-shown c s (h .of) L (regions s d) z w (h .shown) rings-length bodies-length i hi e el room)))
 
@@ -72,7 +73,7 @@ module _ (c : Config) (s : Shape) (L : Ledger) (d z w : List ℕ) (h : Shows c s
   pub put-done : (q : ℕ) → OneOf (s .queues) q → (r : Ring) → r ≡ ringOf c s q → (e ys : List ℕ) (first many : ℕ) → length e ≡ r .width
       → first ≡ headIn s r d (q - 1) → many ≡ countIn s r d (q - 1) → many < r .depth
       → ys ≡ splice (cut d (r .base) (r .base + r .depth * r .width)) (wrapOf (r .depth) (first + many) * r .width) e
-      → Shows c s (putEntry q e L) (set (putMid (r .base) (r .base + r .depth * r .width - r .base) d ys) (s .ringat + (q - 1) * 2 + 1) (many + 1)) z w
+      → ShowsAs tidy c s (putEntry q e L) (set (putMid (r .base) (r .base + r .depth * r .width - r .base) d ys) (s .ringat + (q - 1) * 2 + 1) (many + 1)) z w
   unfolding bodyIn
   put-done zero o r er e ys first many el ef em room ey = absurd (not-suc-le-zero (o .0))
   put-done (suc i) o r er e ys first many el ef em room ey =
@@ -82,10 +83,10 @@ module _ (c : Config) (s : Shape) (L : Ledger) (d z w : List ℕ) (h : Shows c s
       let x : s .ringat + (suc i - 1) * 2 + 1 ≡ s .ringat + (i * 2 + 1) = omega arith in
       let y : ys ≡ splice (bodyIn r d) (wrapOf (r .depth) (headIn s r d i + countIn s r d i) * r .width) e =
       ey ∙ ap (λ (k : ℕ). splice (bodyIn r d) (wrapOf (r .depth) (k + many) * r .width) e) f ∙ ap (λ (k : ℕ). splice (bodyIn r d) (wrapOf (r .depth) (headIn s r d i + k) * r .width) e) n in
-      let g : Shows c s (putEntry (suc i) e L) (set (putMid (r .base) (r .base + r .depth * r .width - r .base) d ys) (s .ringat + (i * 2 + 1)) (countIn s r d i + 1)) z w =
+      let g : ShowsAs tidy c s (putEntry (suc i) e L) (set (putMid (r .base) (r .base + r .depth * r .width - r .base) d ys) (s .ringat + (i * 2 + 1)) (countIn s r d i + 1)) z w =
       put-for i (omega (arith, h .of .queues)) r er e ys el (subst (λ (k : ℕ). k < r .depth) n room) y in
-      subst (λ (k : ℕ). Shows c s (putEntry (suc i) e L) (set (putMid (r .base) (r .base + r .depth * r .width - r .base) d ys) k (many + 1)) z w) (sym x)
-      (subst (λ (k : ℕ). Shows c s (putEntry (suc i) e L) (set (putMid (r .base) (r .base + r .depth * r .width - r .base) d ys) (s .ringat + (i * 2 + 1)) (k + 1)) z w) (sym n) g)
+      subst (λ (k : ℕ). ShowsAs tidy c s (putEntry (suc i) e L) (set (putMid (r .base) (r .base + r .depth * r .width - r .base) d ys) k (many + 1)) z w) (sym x)
+      (subst (λ (k : ℕ). ShowsAs tidy c s (putEntry (suc i) e L) (set (putMid (r .base) (r .base + r .depth * r .width - r .base) d ys) (s .ringat + (i * 2 + 1)) (k + 1)) z w) (sym n) g)
 
   -- a queue that is not full
   pub not-full : (q : ℕ) → OneOf (s .queues) q → (r : Ring) → r ≡ ringOf c s q → length (held (queue L q)) < r .depth → countIn s r d (q - 1) < r .depth

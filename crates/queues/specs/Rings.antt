@@ -1,4 +1,5 @@
 -- Where a queue's ring lies, and what it holds.
+use mathlib.Core.Bool.{Bool}
 use mathlib.Core.Path.{_≡_, refl, sym, ap, _∙_}
 use mathlib.Core.List.{List, [], _∷_, map}
 use Prim.Native.Nat.{ℕ, zero, suc, _+_, _-_, _*_, _<_, _≤_}
@@ -18,7 +19,7 @@ use Rattle.tables.specs.declared.shape.Shape.{Shape}
 use Rattle.tables.specs.Decode.{headOf, countOf}
 use Rattle.tables.specs.Encoded.{head-in, count-in}
 use Rattle.tables.specs.Layout.{OneOf, regions, region, named, bound, Fits, fitting, laid, region-at}
-use Rattle.tables.specs.Shows.{bytesOf, begins, heldAt, Of, Shows, DoesIf, DoesWithSlotsIf, TellsIf}
+use Rattle.tables.specs.Shows.{bytesOf, begins, heldAt, Of, ShowsAs, DoesIf, DoesWithSlotsIf, TellsIf}
 use Rattle.tables.specs.Items.{queue-is}
 use Rattle.queues.specs.declared.Ring.{Ring}
 
@@ -150,7 +151,7 @@ body-is c s o d i b =
     let x : s .bodyat + begins c i + k .depth * k .width ≡ s .bodyat + (begins c i + k .depth * k .width) = omega arith in
     cut-cut d (s .bodyat) (s .end) (begins c i) (begins c i + k .depth * k .width) (inside c s o i b) ∙ ap (cut d (s .bodyat + begins c i)) (sym x)
 
-module _ (c : Config) (s : Shape) (L : Ledger) (d z w : List ℕ) (h : Shows c s L d z w) where
+module _ {tidy : Bool} (c : Config) (s : Shape) (L : Ledger) (d z w : List ℕ) (h : ShowsAs tidy c s L d z w) where
   held-at : (i : ℕ) → i < c .Q → (r : Ring) → r ≡ ringOf c s (suc i) → held (queue L (suc i)) ≡ holds (r .width) (r .depth) (headIn s r d i) (countIn s r d i) (bodyIn r d)
   unfolding heldAt headIn countIn ringOf
   held-at i b r e =

@@ -1,4 +1,5 @@
 -- An entry taken into a slot: the ring steps on, the slot's front is new, and the outcome names it.
+use mathlib.Core.Bool.{Bool}
 use mathlib.Core.Path.{_≡_, refl, sym, ap, _∙_, subst}
 use mathlib.Core.List.{List, [], _∷_, _++_}
 use Prim.Native.Nat.{ℕ, zero, suc, _+_, _-_, _*_, _<_, _≤_}
@@ -10,7 +11,7 @@ use lib.Seq.{take-at}
 use Rattle.rows.specs.Splice.{cut, splice}
 use Rattle.rows.specs.Laws.{length-splice, lent-back}
 use Rattle.rows.specs.Rows.{rowAt, length-row, row-fits, row-inside, row-outside}
-use Rattle.rings.specs.Ring.{holds}
+use Rattle.rings.specs.Ring.{wrapOf, holds}
 use Rattle.rings.specs.Laws.{holds-first}
 use Rattle.ledger.specs.Config.{Config}
 use Rattle.ledger.specs.Ledger as ledger
@@ -20,8 +21,10 @@ use Rattle.tables.specs.declared.shape.Shape.{Shape}
 use Rattle.tables.specs.declared.tasks.Outcome.the-variants.{Entry}
 use Rattle.tables.specs.Layout.{OneOf, bound, Regions, named, regions, but, byte-written}
 use Rattle.tables.specs.Planes.{blocksAt}
-use Rattle.tables.specs.Decode.{viewOutcome, viewTask, recordOf}
-use Rattle.tables.specs.Shows.{taskAt, Shown, Shows}
+use Rattle.tables.specs.declared.tasks.Task as tables
+use Rattle.tables.specs.Decode.{viewOutcome, viewRequest, viewTask, requestAs, recordAs, recordOf}
+use Rattle.tables.specs.Encoded.{outcome-long}
+use Rattle.tables.specs.Shows.{taskAt, Shown, ShowsAs}
 use Rattle.tables.specs.Items.{withTasks, withQueues, task-shown}
 use Rattle.tables.specs.Stored.{shows-as, record-is, shown-task, task-in}
 use Rattle.tables.specs.SetTwice.{task-task, task-set}
@@ -58,7 +61,7 @@ tasks-of : (t : ℕ) (L : Ledger) (q : ℕ) (v : Queue) → OneOf (length (L .ta
 unfolding setQueue
 tasks-of t L q v o = o
 
-module _ (c : Config) (s : Shape) (L : Ledger) (d z w : List ℕ) (h : Shows c s L d z w) (t : ℕ) (one : OneOf (s .tasks) t) where
+module _ {tidy : Bool} (c : Config) (s : Shape) (L : Ledger) (d z w : List ℕ) (h : ShowsAs tidy c s L d z w) (t : ℕ) (one : OneOf (s .tasks) t) where
   -- both bytes of the ring in row i are written
   step-written : (i : ℕ) → i < c .Q → (next n : ℕ)
       → regions s (set (set d (s .ringat + i * 2) next) (s .ringat + (i * 2 + 1)) n) ≡ withQueues (set (set (regions s d .rings) (i * 2) next) (i * 2 + 1) n) (regions s d .bodies) (regions s d)
@@ -89,30 +92,45 @@ module _ (c : Config) (s : Shape) (L : Ledger) (d z w : List ℕ) (h : Shows c s
         row-inside 16 (s .tasks) (t - 1) 0 z e (omega (arith, h .slots)) (omega arith) (omega arith)
         ∙ ap (λ (n : ℕ). e ++ drop n slot) y ∙ ap (λ (l : List ℕ). e ++ drop (length e) l) (sym x)
 
+    stored-length : length stored ≡ length z
+    stored-length = length-splice z ((t - 1) * 16 + 0) e (omega (arith, fits-in, h .slots))
+
+    -- the bytes of a record don't tell a slot from another
+    as-long : (k : tables.Task) (v x y : List ℕ) → length x ≡ length y → recordAs (viewTask c k v x) ≡ recordAs (viewTask c k v y)
+    unfolding recordAs viewTask
+    as-long k v x y n = ap (λ (b : List ℕ). b ++ requestAs (viewRequest c (k .request) v)) (outcome-long (k .outcome) x y n)
+
     -- the task with the slot's new front
     abbrev between : Task
     between = viewTask c (record-is c s L d z w h t one) (rowAt 16 (t - 1) (regions s d .waiting)) (rowAt 16 (t - 1) stored)
 
-    slot-shown : (v : Queue) (q : ℕ) (r b : List ℕ) → Shown c (setQueue q v L) (withQueues r b (regions s d)) z w
-        → Shown c (setTask t between (setQueue q v L)) (withQueues r b (regions s d)) stored w
+    slot-shown : (v : Queue) (q : ℕ) (r b : List ℕ) → Shown tidy c (setQueue q v L) (withQueues r b (regions s d)) z w
+        → Shown tidy c (setTask t between (setQueue q v L)) (withQueues r b (regions s d)) stored w
     unfolding withTasks withQueues taskAt
     slot-shown v q r b g =
         let p : Regions = withQueues r b (regions s d) in
         task-shown c (setQueue q v L) p z w g (p .blocks) (p .records) (p .waiting) stored t between (omega arith, omega (arith, h .of .tasks)) refl
         (λ j l ne. ap (λ (x : List ℕ). viewTask c (recordOf (c .Q) (blocksAt (p .blocks) j) (rowAt 6 j (p .records))) (rowAt 16 j (p .waiting)) x)
         (sym (row-outside 16 (s .tasks) (t - 1) 0 z e (omega (arith, h .slots)) (omega arith) (omega arith) j (omega (arith, h .of .tasks)) ne)))
+        (λ q.
+        let y = g .tidily q .tasks in
+        let i : ℕ = t - 1 in (
+          y .0,
+          λ j l. y .1 j l ∙ as-long (recordOf (c .Q) (blocksAt (p .blocks) j) (rowAt 6 j (p .records))) (rowAt 16 j (p .waiting)) (rowAt 16 j z) (rowAt 16 j stored)
+          (length-row 16 j z (omega (arith, h .slots, row-fits 16 j (s .tasks) (omega (arith, h .of .tasks)))) ∙ sym (length-row 16 j stored (omega (arith, h .slots, stored-length, row-fits 16 j (s .tasks) (omega (arith, h .of .tasks)))))),
+        ))
 
   -- what the store of an entry outcome does from bytes d₁ on
   abbrev Stores : (d₁ d₂ : List ℕ) (width : ℕ) → Type 0
-  Stores d₁ d₂ width = (M : Ledger) (z w : List ℕ) → Shows c s M d₁ z w → Shows c s (setOutcome t (viewOutcome (Entry width) (task M t .slot)) M) d₂ z w
+  Stores d₁ d₂ width = (tidy : Bool) (M : Ledger) (z w : List ℕ) → ShowsAs tidy c s M d₁ z w → ShowsAs tidy c s (setOutcome t (viewOutcome (Entry width) (task M t .slot)) M) d₂ z w
 
   -- the ring's two bytes, the slot and then the outcome
-  take-for : (i : ℕ) → i < c .Q → (e : List ℕ) (es : List (List ℕ)) → held (queue L (suc i)) ≡ e ∷ es → length e ≡ shape c (suc i) .width → (next : ℕ) → next < shape c (suc i) .depth
+  take-for : (i : ℕ) → i < c .Q → (e : List ℕ) (es : List (List ℕ)) → held (queue L (suc i)) ≡ e ∷ es → length e ≡ shape c (suc i) .width → (next : ℕ) → next < shape c (suc i) .depth → next ≡ wrapOf (shape c (suc i) .depth) (headIn s (ringOf c s (suc i)) d i + 1)
       → holds (shape c (suc i) .width) (shape c (suc i) .depth) next (countIn s (ringOf c s (suc i)) d i - 1) (bodyIn (ringOf c s (suc i)) d) ≡ es
       → (d₂ : List ℕ) → Stores (set (set d (s .ringat + i * 2) next) (s .ringat + (i * 2 + 1)) (countIn s (ringOf c s (suc i)) d i - 1)) d₂ (shape c (suc i) .width)
-      → Shows c s (takeEntry c t (suc i) e L) d₂ (splice z ((t - 1) * 16 + 0) e) w
-  unfolding viewOutcome viewTask countIn ringOf
-  take-for i b e es eh el next nl rest d₂ f =
+      → ShowsAs tidy c s (takeEntry c t (suc i) e L) d₂ (splice z ((t - 1) * 16 + 0) e) w
+  unfolding viewOutcome viewTask headIn countIn ringOf
+  take-for i b e es eh el next nl on rest d₂ f =
       let short : length e ≤ 16 = omega (arith, h .of .widths (suc i) (omega arith) (omega arith) .1) in
       let v : Queue = taken c t (suc i) e L in
       let L₁ : Ledger = setQueue (suc i) v L in
@@ -120,12 +138,12 @@ module _ (c : Config) (s : Shape) (L : Ledger) (d z w : List ℕ) (h : Shows c s
       let n : ℕ = countIn s (ringOf c s (suc i)) d i in
       let d₁ : List ℕ = set (set d (s .ringat + i * 2) next) (s .ringat + (i * 2 + 1)) (n - 1) in
       let r : List ℕ = set (set (regions s d .rings) (i * 2) next) (i * 2 + 1) (n - 1) in
-      let g : Shown c L₁ (withQueues r (regions s d .bodies) (regions s d)) z w =
+      let g : Shown tidy c L₁ (withQueues r (regions s d .bodies) (regions s d)) z w =
       take-shown c s (h .of) L (regions s d) z w (h .shown) (rings-length c s L d z w h) (bodies-length c s L d z w h) i b next e es (v .handedOut) eh nl
-      (ap (holds (shape c (suc i) .width) (shape c (suc i) .depth) next (n - 1)) (body-is c s (h .of) d i b) ∙ rest) in
+      (ap (holds (shape c (suc i) .width) (shape c (suc i) .depth) next (n - 1)) (body-is c s (h .of) d i b) ∙ rest) on in
       let m : length d₁ ≡ length d = length-set (set d (s .ringat + i * 2) next) (s .ringat + (i * 2 + 1)) (n - 1) ∙ length-set d (s .ringat + i * 2) next in
       let lz : length (splice z ((t - 1) * 16 + 0) e) ≡ length z = length-splice z ((t - 1) * 16 + 0) e (omega (arith, fits-in e short, h .slots)) in
-      let a : Shows c s (setTask t k L₁) d₁ (splice z ((t - 1) * 16 + 0) e) w =
+      let a : ShowsAs tidy c s (setTask t k L₁) d₁ (splice z ((t - 1) * 16 + 0) e) w =
       shows-as c s L d z w d₁ (splice z ((t - 1) * 16 + 0) e) (withQueues r (regions s d .bodies) (regions s d)) h m lz (step-written i b next (n - 1)) (setTask t k L₁)
       (slot-shown e short v (suc i) r (regions s d .bodies) g) in
       let tl : OneOf (length (L .tasks)) t = task-in c s L d z w h t one in
@@ -134,9 +152,9 @@ module _ (c : Config) (s : Shape) (L : Ledger) (d z w : List ℕ) (h : Shows c s
       let ts : task (setTask t k L₁) t .slot ≡ copyInto (task L t .slot) e = ap (λ (y : Task). y .slot) (task-set t k L₁ (tasks-of t L (suc i) v tl)) ∙ sl in
       let o : ledger.entry (take (shape c (suc i) .width) (task (setTask t k L₁) t .slot)) ≡ ledger.entry e =
       ap (λ (y : List ℕ). ledger.entry (take (shape c (suc i) .width) y)) ts ∙ ap ledger.entry (front-of e (task L t .slot) (shape c (suc i) .width) el) in
-      subst (λ (X : Ledger). Shows c s X d₂ (splice z ((t - 1) * 16 + 0) e) w)
+      subst (λ (X : Ledger). ShowsAs tidy c s X d₂ (splice z ((t - 1) * 16 + 0) e) w)
       (taken-is c t (suc i) e L tl k (sym (ap (λ (y : Task). y .blocks) x)) sl (sym (ap (λ (y : Task). y .request) x)) _ o)
-      (f (setTask t k L₁) (splice z ((t - 1) * 16 + 0) e) w a)
+      (f tidy (setTask t k L₁) (splice z ((t - 1) * 16 + 0) e) w a)
 
   -- as the code leaves it
   module _ (e : List ℕ) (es : List (List ℕ)) (ys d₁ d₂ : List ℕ) (first many next : ℕ) where
@@ -144,10 +162,10 @@ module _ (c : Config) (s : Shape) (L : Ledger) (d z w : List ℕ) (h : Shows c s
     Left q i r =
         held (queue L q) ≡ e ∷ es → first ≡ headIn s r d i → many ≡ countIn s r d i → 1 ≤ many
         → ys ≡ splice (cut z ((t - 1) * 16) ((t - 1) * 16 + 16)) 0 (getD (holds (r .width) (r .depth) first many (bodyIn r d)) 0 [])
-        → (next < r .depth) × (holds (r .width) (r .depth) next (many - 1) (bodyIn r d) ≡ drop 1 (holds (r .width) (r .depth) first many (bodyIn r d)))
+        → (next < r .depth) × (holds (r .width) (r .depth) next (many - 1) (bodyIn r d) ≡ drop 1 (holds (r .width) (r .depth) first many (bodyIn r d))) × (next ≡ wrapOf (r .depth) (first + 1))
         → d₁ ≡ set (set d (s .ringat + i * 2) next) (s .ringat + i * 2 + 1) (many - 1)
         → Stores d₁ d₂ (r .width)
-        → Shows c s (takeEntry c t q e L) d₂ (putMid ((t - 1) * 16) ((t - 1) * 16 + 16 - (t - 1) * 16) z ys) w
+        → ShowsAs tidy c s (takeEntry c t q e L) d₂ (putMid ((t - 1) * 16) ((t - 1) * 16 + 16 - (t - 1) * 16) z ys) w
 
     left-for : (i : ℕ) → i < c .Q → Left (suc i) i (ringOf c s (suc i))
     unfolding ringOf
@@ -173,8 +191,8 @@ module _ (c : Config) (s : Shape) (L : Ledger) (d z w : List ℕ) (h : Shows c s
         let ds : d₁ ≡ d₁' = ed ∙ ap (λ (x : ℕ). set (set d (s .ringat + i * 2) next) x (many - 1)) k ∙ ap (λ (x : ℕ). set (set d (s .ringat + i * 2) next) (s .ringat + (i * 2 + 1)) (x - 1)) em in
         let rest : holds (r .width) (r .depth) next (countIn s r d i - 1) (bodyIn r d) ≡ es =
         ap (λ (x : ℕ). holds (r .width) (r .depth) next (x - 1) (bodyIn r d)) (sym em) ∙ en .1 ∙ ap (drop 1) all in
-        subst (λ (x : List ℕ). Shows c s (takeEntry c t (suc i) e L) d₂ x w) (sym zs)
-        (take-for i b e es eh el next (en .0) rest d₂ (subst (λ (x : List ℕ). Stores x d₂ (r .width)) ds f))
+        subst (λ (x : List ℕ). ShowsAs tidy c s (takeEntry c t (suc i) e L) d₂ x w) (sym zs)
+        (take-for i b e es eh el next (en .0) (en .2 ∙ ap (λ (x : ℕ). wrapOf (r .depth) (x + 1)) ef) rest d₂ (subst (λ (x : List ℕ). Stores x d₂ (r .width)) ds f))
       where
         body-long : (i : ℕ) → RingFits s (ringOf c s (suc i)) → ringOf c s (suc i) .depth * ringOf c s (suc i) .width ≤ length (bodyIn (ringOf c s (suc i)) d)
         body-long i fit = body-length s d (ringOf c s (suc i)) fit (h .room)

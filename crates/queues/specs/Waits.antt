@@ -8,7 +8,7 @@ use borrow.Author.Tests.{eq-eqb, ne-eqb, le-leb, lt-leb}
 use lib.ListN.{length}
 use Rattle.tables.specs.declared.shape.Shape.{Shape}
 use Rattle.tables.specs.Layout.{OneOf, Fits, fitting}
-use Rattle.tables.specs.Shows.{Shows, Tells}
+use Rattle.tables.specs.Shows.{ShowsAs, Tells}
 use Rattle.ledger.specs.Lists.{at}
 use Rattle.ledger.specs.Config.{Config}
 use Rattle.ledger.specs.Ledger.{Ledger, queue, held, semaphoreOf}
@@ -26,7 +26,7 @@ pub not-full-in : {s : Shape} {n : ℕ} → Fits s n → (q : ℕ) → OneOf (s 
 not-full-in (fitting l r) q o = ((omega arith, omega arith), (omega arith, omega arith), l .sum)
 
 -- ---- the queue's semaphores and what it holds
-module _ (c : Config) (s : Shape) (L : Ledger) (d z w : List ℕ) (h : Shows c s L d z w) (q : ℕ) (one : OneOf (s .queues) q) (r : Ring) (er : r ≡ ringOf c s q)
+module _ {tidy : Bool} (c : Config) (s : Shape) (L : Ledger) (d z w : List ℕ) (h : ShowsAs tidy c s L d z w) (q : ℕ) (one : OneOf (s .queues) q) (r : Ring) (er : r ≡ ringOf c s q)
     (b many : ℕ) (eb : b ≡ notFullOf s q) (em : many ≡ countIn s r d (q - 1)) where
   pub full-is : b ≡ notFull c q
   unfolding notFull

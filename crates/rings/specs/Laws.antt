@@ -2,8 +2,9 @@
 use mathlib.Core.Path.{_≡_, refl, sym, ap, _∙_}
 use mathlib.Core.List.{List, [], _∷_, _++_}
 use mathlib.Core.Bool.{Bool, true, false}
-use Prim.Native.Nat.{ℕ, zero, suc, _+_, _-_, _*_, _<_, _≤_}
-use native.Mathlib.Nat.{add-zero, suc-add}
+use Prim.Native.Nat.{ℕ, zero, suc, _+_, _-_, _*_, _/_, _%_, _<_, _≤_}
+use lib.Arith.{digits-mod}
+use native.Mathlib.Nat.{add-zero, suc-add, suc-mul, mod-lt, div-add-mod'}
 use native.Mathlib.Numerals.{add-one}
 use native.Mathlib.Omega.{arith}
 use lib.ListN.{length, getD, drop}
@@ -64,6 +65,20 @@ wrap-on depth head k h kd =
     let x : wrapOf depth (0 + k) ≡ 0 + k = wrap-low depth (0 + k) (omega arith) in
     rw (b, z, x, y) (omega arith))
 
+-- a place that steps on with each entry taken is the number taken, modulo the depth
+pub wrap-next : (depth n : ℕ) → 1 ≤ depth → wrapOf depth (n % depth + 1) ≡ suc n % depth
+wrap-next depth n h =
+    let q : ℕ = n / depth in
+    let r : ℕ = n % depth in
+    let low : r < depth = mod-lt n h in
+    let e : q * depth + r ≡ n = div-add-mod' n depth in
+    wrap-by (wrapOf depth (r + 1) ≡ suc n % depth) depth (r + 1)
+    (λ a b. let x : q * depth + (r + 1) ≡ suc n = omega arith in b ∙ sym (digits-mod q a) ∙ ap (λ (k : ℕ). k % depth) x)
+    (λ a b.
+    let x : suc q * depth + 0 ≡ suc n = omega (arith, suc-mul q depth) in
+    let z : r + 1 - depth ≡ 0 = omega arith in
+    b ∙ z ∙ sym (digits-mod (suc q) {m = depth} {r = 0} h) ∙ ap (λ (k : ℕ). k % depth) x)
+
 -- ---- what a ring holds
 
 pub holds-put : (w depth head count : ℕ) (d e : List ℕ) → head < depth → count < depth → depth * w ≤ length d → length e ≡ w
@@ -103,7 +118,7 @@ put-done w depth head count i d d' e h c room l ei ed =
 
 pub take-done : (w depth head count r : ℕ) (d o o' : List ℕ) → head < depth → 0 < count → count ≤ depth
     → o' ≡ splice o 0 (cut d (head * w) (head * w + w)) → r ≡ wrapOf depth (head + 1)
-    → (o' ≡ splice o 0 (getD (holds w depth head count d) 0 [])) × ((r < depth) × (holds w depth r (count - 1) d ≡ drop 1 (holds w depth head count d)))
+    → (o' ≡ splice o 0 (getD (holds w depth head count d) 0 [])) × ((r < depth) × (holds w depth r (count - 1) d ≡ drop 1 (holds w depth head count d)) × (r ≡ wrapOf depth (head + 1)))
 take-done w depth head count r d o o' h z c eo er =
     let e : head * w + w - head * w ≡ w = omega arith in
     let p : cut d (head * w) (head * w + w) ≡ getD (holds w depth head count d) 0 [] = rw (holds-first w depth head count d h z c, e) in (
@@ -111,6 +126,7 @@ take-done w depth head count r d o o' h z c eo er =
       (
         omega (arith, wrap-in depth (head + 1) (omega arith)),
         ap (λ (x : ℕ). holds w depth x (count - 1) d) er ∙ holds-rest w depth head count d h z c,
+        er,
       ),
     )
 

@@ -39,7 +39,7 @@ pub fn take_out(
 ) -> usize
     requires { ⌜ (head < depth) × (0 < count) × (count ≤ depth) × (depth ≤ 255) × (depth * w ≤ length (now body)) × (w ≤ length (now out)) ⌝ }
     ensures { λ r. ⌜ now (out .exit) ≡ splice (now (out .entry)) 0 (getD (holds w depth head count (now (body .entry))) 0 []) ⌝ }
-    ensures { λ r. ⌜ (r < depth) × (holds w depth r (count - 1) (now (body .entry)) ≡ drop 1 (holds w depth head count (now (body .entry)))) ⌝ }
+    ensures { λ r. ⌜ (r < depth) × (holds w depth r (count - 1) (now (body .entry)) ≡ drop 1 (holds w depth head count (now (body .entry)))) × (r ≡ wrapOf depth (head + 1)) ⌝ }
 {
     let from = head * w;
     let to = from + w;

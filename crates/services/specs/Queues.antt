@@ -7,7 +7,7 @@ use native.Mathlib.Omega.{arith}
 use lib.ListN.{length}
 use Rattle.tables.specs.declared.shape.Shape.{Shape}
 use Rattle.tables.specs.Layout.{OneOf}
-use Rattle.tables.specs.Shows.{Shows, Does, moved}
+use Rattle.tables.specs.Shows.{ShowsAs, Does, moved}
 use Rattle.queues.specs.declared.Ring.{Ring}
 use Rattle.queues.specs.Rings.{ringOf, countIn}
 use Rattle.queues.specs.Waits.{notFullOf, full-is, empty-is, holding, is-full, has-room}
@@ -24,18 +24,18 @@ first-entry : (l : List (List ℕ)) → 1 ≤ length l → (e : List ℕ) × ((e
 first-entry [] h = absurd (omega arith)
 first-entry (x ∷ xs) h = (x, (xs, refl))
 
-module _ (c : Config) (s : Shape) (L : Ledger) (d z w : List ℕ) (h : Shows c s L d z w) (q : ℕ) (one : OneOf (s .queues) q) (r : Ring) (er : r ≡ ringOf c s q)
+module _ {tidy : Bool} (c : Config) (s : Shape) (L : Ledger) (d z w : List ℕ) (h : ShowsAs tidy c s L d z w) (q : ℕ) (one : OneOf (s .queues) q) (r : Ring) (er : r ≡ ringOf c s q)
     (t b many : ℕ) (eb : b ≡ notFullOf s q) (em : many ≡ countIn s r d (q - 1)) where
-  pub dequeue-empty : {d₁ d' : List ℕ} → many ≡ 0 → Does s d d₁ (λ c L. waitFor t (b - 1) L) → Does s d₁ d' (λ c L. setRequest t (ledger.dequeue q) L) → Shows c s (issue c t (ledger.dequeue q) L) d' z w
+  pub dequeue-empty : {d₁ d' : List ℕ} → many ≡ 0 → Does s d d₁ (λ c L. waitFor t (b - 1) L) → Does s d₁ d' (λ c L. setRequest t (ledger.dequeue q) L) → ShowsAs tidy c s (issue c t (ledger.dequeue q) L) d' z w
   unfolding issue dequeued
   dequeue-empty e f g =
       let n : held (queue L q) ≡ [] = no-entry (held (queue L q)) (holding c s L d z w h q one r er b many eb em ∙ e) in
       moved (ap (λ (k : ℕ). setRequest t (ledger.dequeue q) (waitFor t k L)) (empty-is c s L d z w h q one r er b many eb em) ∙ ap (λ (y : List (List ℕ)). dequeued c t q y L) (sym n))
-      (g c (waitFor t (b - 1) L) z w (f c L z w h))
+      (g tidy c (waitFor t (b - 1) L) z w (f tidy c L z w h))
 
   pub dequeue-taken : {d₁ d' z' : List ℕ} → (many ≡ 0 → ⊥)
-      → ((e : List ℕ) (es : List (List ℕ)) → held (queue L q) ≡ e ∷ es → Shows c s (takeEntry c t q e L) d₁ z' w)
-      → Does s d₁ d' (λ c L. wakeWaiter b L) → Shows c s (issue c t (ledger.dequeue q) L) d' z' w
+      → ((e : List ℕ) (es : List (List ℕ)) → held (queue L q) ≡ e ∷ es → ShowsAs tidy c s (takeEntry c t q e L) d₁ z' w)
+      → Does s d₁ d' (λ c L. wakeWaiter b L) → ShowsAs tidy c s (issue c t (ledger.dequeue q) L) d' z' w
   unfolding issue dequeued
   dequeue-taken {z' = z'} ne f g =
       let p = first-entry (held (queue L q)) (omega (arith, holding c s L d z w h q one r er b many eb em)) in
@@ -43,20 +43,20 @@ module _ (c : Config) (s : Shape) (L : Ledger) (d z w : List ℕ) (h : Shows c s
       let es : List (List ℕ) = p .1 .0 in
       let n : held (queue L q) ≡ e ∷ es = p .1 .1 in
       moved (ap (λ (k : ℕ). wakeWaiter k (takeEntry c t q e L)) (full-is c s L d z w h q one r er b many eb em) ∙ ap (λ (y : List (List ℕ)). dequeued c t q y L) (sym n))
-      (g c (takeEntry c t q e L) z' w (f e es n))
+      (g tidy c (takeEntry c t q e L) z' w (f e es n))
 
   pub enqueue-full : {d₁ d' : List ℕ} (e : List ℕ) → r .depth ≤ many → Does s d d₁ (λ c L. waitFor t b L)
-      → ((L : Ledger) → Shows c s L d₁ z w → Shows c s (setRequest t (ledger.enqueue q e) L) d' z w) → Shows c s (issue c t (ledger.enqueue q e) L) d' z w
+      → ((tidy : Bool) (L : Ledger) → ShowsAs tidy c s L d₁ z w → ShowsAs tidy c s (setRequest t (ledger.enqueue q e) L) d' z w) → ShowsAs tidy c s (issue c t (ledger.enqueue q e) L) d' z w
   unfolding issue enqueued
   enqueue-full e l f g =
       let n : true ≡ full c L q = sym (is-full c s L d z w h q one r er b many eb em l) in
       moved (ap (λ (k : ℕ). setRequest t (ledger.enqueue q e) (waitFor t k L)) (full-is c s L d z w h q one r er b many eb em) ∙ ap (λ (y : Bool). enqueued c t q e y L) n)
-      (g (waitFor t b L) (f c L z w h))
+      (g tidy (waitFor t b L) (f tidy c L z w h))
 
-  pub enqueue-put : {d₁ d' : List ℕ} (e : List ℕ) → many < r .depth → (length (held (queue L q)) < r .depth → Shows c s (putEntry q e L) d₁ z w)
-      → Does s d₁ d' (λ c L. wakeWaiter (b - 1) L) → Shows c s (issue c t (ledger.enqueue q e) L) d' z w
+  pub enqueue-put : {d₁ d' : List ℕ} (e : List ℕ) → many < r .depth → (length (held (queue L q)) < r .depth → ShowsAs tidy c s (putEntry q e L) d₁ z w)
+      → Does s d₁ d' (λ c L. wakeWaiter (b - 1) L) → ShowsAs tidy c s (issue c t (ledger.enqueue q e) L) d' z w
   unfolding issue enqueued
   enqueue-put e l f g =
       let n : false ≡ full c L q = sym (has-room c s L d z w h q one r er b many eb em l) in
       moved (ap (λ (k : ℕ). wakeWaiter k (putEntry q e L)) (empty-is c s L d z w h q one r er b many eb em) ∙ ap (λ (y : Bool). enqueued c t q e y L) n)
-      (g c (putEntry q e L) z w (f (omega (arith, holding c s L d z w h q one r er b many eb em))))
+      (g tidy c (putEntry q e L) z w (f (omega (arith, holding c s L d z w h q one r er b many eb em))))

@@ -1,12 +1,12 @@
 -- A task whose blocks, outcome and request are set one after the other.
 use mathlib.Core.Path.{_≡_, sym, ap, _∙_}
-use mathlib.Core.Bool.{true}
+use mathlib.Core.Bool.{Bool, true}
 use mathlib.Core.List.{List, []}
 use Prim.Native.Nat.{ℕ}
 use lib.ListN.{length}
 use Rattle.tables.specs.declared.shape.Shape.{Shape}
 use Rattle.tables.specs.Layout.{OneOf}
-use Rattle.tables.specs.Shows.{Shows, moved}
+use Rattle.tables.specs.Shows.{ShowsAs, moved}
 use Rattle.tables.specs.Stored.{task-in}
 use Rattle.tables.specs.SetTwice.{task-task, task-set}
 use Rattle.ledger.specs.Config.{Config}
@@ -32,16 +32,16 @@ merged t b o L i =
     ∙ ap (λ (u : Task). setTask t (record { blocks = u .blocks; outcome = u .outcome; slot = u .slot; request = none }) (setTask t y L)) (task-set t y L i)
     ∙ task-task t (record { blocks = b; outcome = o (k .slot); slot = k .slot; request = none }) y L
 
-pub record-set : (c : Config) (s : Shape) (L : Ledger) (d z w : List ℕ) → Shows c s L d z w → (t : ℕ) → OneOf (s .tasks) t → (b : Blocks) (o : List ℕ → Outcome) (d' : List ℕ)
-    → Shows c s (setRequest t none (setOutcome t (o (task (setBlocks t b L) t .slot)) (setBlocks t b L))) d' z w
-    → Shows c s (setTask t (record { blocks = b; outcome = o (task L t .slot); slot = task L t .slot; request = none }) L) d' z w
+pub record-set : {tidy : Bool} (c : Config) (s : Shape) (L : Ledger) (d z w : List ℕ) → ShowsAs tidy c s L d z w → (t : ℕ) → OneOf (s .tasks) t → (b : Blocks) (o : List ℕ → Outcome) (d' : List ℕ)
+    → ShowsAs tidy c s (setRequest t none (setOutcome t (o (task (setBlocks t b L) t .slot)) (setBlocks t b L))) d' z w
+    → ShowsAs tidy c s (setTask t (record { blocks = b; outcome = o (task L t .slot); slot = task L t .slot; request = none }) L) d' z w
 record-set c s L d z w h t i b o d' g = moved (merged t b o L (task-in c s L d z w h t i)) g
 
 -- an idle task's record, over the wait withdrawn, the timers taken out and the mailbox emptied
-pub terminated : (c : Config) (s : Shape) (L : Ledger) (d z w : List ℕ) (a : ℕ)
+pub terminated : {tidy : Bool} (c : Config) (s : Shape) (L : Ledger) (d z w : List ℕ) (a : ℕ)
     → (let M : Ledger = setMailbox a [] (purged a true 0 (withdrawWait a L)) in
-    Shows c s (setTask a (record { blocks = onlyIdle; outcome = plain; slot = task M a .slot; request = none }) M) d z w)
-    → Shows c s (terminate a L) d z w
+    ShowsAs tidy c s (setTask a (record { blocks = onlyIdle; outcome = plain; slot = task M a .slot; request = none }) M) d z w)
+    → ShowsAs tidy c s (terminate a L) d z w
 unfolding terminate purged withdrawWait setSemaphores setMailbox setTimers task
 terminated c s L d z w a h =
     moved (ap (λ (M : Ledger). setTask a (record { blocks = onlyIdle; outcome = plain; slot = task L a .slot; request = none }) (setMailbox a [] M)) (sym (removed-is a 0 (withdrawWait a L)))) h

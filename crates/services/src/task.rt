@@ -6,6 +6,7 @@ use tables::tasks::Outcome;
 use tables::tasks::Request;
 ghost use lib.ListN.{length};
 ghost use Rattle.tables.specs.Decode.{viewBlocks, viewOutcome};
+ghost use Rattle.tables.specs.Encoded.{Narrow};
 ghost use Rattle.tables.specs.Layout.{OneOf, Fits};
 ghost use Rattle.tables.specs.Shows.{Does, DoesWithTimers};
 ghost use Rattle.clock.specs.Held.{Holds};
@@ -23,7 +24,7 @@ pub fn set_suspended(tables: &mut [u8], shape: Shape, t: u8, on: bool)
 
 // Blocks, outcome and no open request, all at once.
 fn set_record(tables: &mut [u8], shape: Shape, t: u8, b: Blocks, o: Outcome)
-    requires { ⌜ Fits shape (length (now tables)) × OneOf (shape .tasks) t ⌝ }
+    requires { ⌜ Fits shape (length (now tables)) × OneOf (shape .tasks) t × Narrow o ⌝ }
     ensures { λ _. ⌜ Does shape (now (tables .entry)) (now (tables .exit)) (λ c L. setTask t (anew (viewBlocks b) (viewOutcome o (task L t .slot)) (task L t .slot)) L) ⌝ }
 {
     tables::blocks::store(tables, shape, t, b);

@@ -7,7 +7,7 @@ use native.Mathlib.Omega.{arith}
 use lib.ListN.{length, getD}
 use Rattle.tables.specs.declared.shape.Shape.{Shape}
 use Rattle.tables.specs.Layout.{regions}
-use Rattle.tables.specs.Shows.{tasksIn, semaphoresIn, mailboxesIn, queuesIn, timersOf, ticksIn, Of, Shows}
+use Rattle.tables.specs.Shows.{tasksIn, semaphoresIn, mailboxesIn, queuesIn, timersOf, ticksIn, Of, Shows, no-tidy}
 use Rattle.ledger.specs.Lists.{at}
 use Rattle.ledger.specs.Config.{Config}
 use Rattle.ledger.specs.Ledger.{Ledger, Queue, Timer, emptyQueue, queue, held}
@@ -70,5 +70,6 @@ shows-some c s d z w o r k h =
         queues = holders q;
         taken = λ n. omega (arith, nothing n);
         timers = dues (some c s d z w) refl (timersOf c w);
+        tidily = λ e. no-tidy e;
       };
     }

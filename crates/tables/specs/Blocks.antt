@@ -16,8 +16,8 @@ use Rattle.tables.specs.declared.blocks.Blocks.{Blocks}
 use Rattle.tables.specs.Layout.{OneOf, Fits, fitting, planesAt, bound, Regions, named, regions, but, byte-written, region-length, plane-at, few}
 use Rattle.tables.specs.Planes.{planeOf, has, blocksAt, NewBit, NewBlock}
 use Rattle.tables.specs.OneBit.{block-set}
-use Rattle.tables.specs.Decode.{viewBlocks, viewOutcome, viewRequest, viewTask, recordOf}
-use Rattle.tables.specs.Shows.{taskAt, Shows, Does}
+use Rattle.tables.specs.Decode.{viewBlocks, viewOutcome, viewRequest, viewTask, recordAs, recordOf}
+use Rattle.tables.specs.Shows.{taskAt, ShowsAs, Does}
 use Rattle.tables.specs.Items.{withTasks, task-shown}
 use Rattle.tables.specs.Stored.{shows-as, shown-task, task-in}
 use Rattle.tables.specs.SetTwice.{task-task, task-set}
@@ -72,15 +72,15 @@ block-read f d t i k =
     plane-at f d (16 * planeOf k + (t - 1) / 8) (omega (arith, plane-low k, few f)) ∙ ap (λ (x : ℕ). getD d x 0) e
 
 -- ---- in the memory
-module _ (c : Config) (s : Shape) (L : Ledger) (d z w : List ℕ) (h : Shows c s L d z w) (t : ℕ) (o : OneOf (s .tasks) t) where
+module _ {tidy : Bool} (c : Config) (s : Shape) (L : Ledger) (d z w : List ℕ) (h : ShowsAs tidy c s L d z w) (t : ℕ) (o : OneOf (s .tasks) t) where
   blocks-are : task L t .blocks ≡ viewBlocks (blocksAt (regions s d .blocks) (t - 1))
   unfolding recordOf viewTask
   blocks-are = ap (λ (k : ledger.Task). k .blocks) (shown-task c s L d z w h t o)
 
   -- one byte of the planes
   pub block-stored : (k : Block) (v : Bool) (y : ℕ) → NewBit ((t - 1) % 8) v (getD d (planesAt + 16 * planeOf k + (t - 1) / 8) 0) y
-      → Shows c s (setBlock k t v L) (set d (planesAt + 16 * planeOf k + (t - 1) / 8) y) z w
-  unfolding setBlocks taskAt viewTask recordOf regions named but bound withTasks
+      → ShowsAs tidy c s (setBlock k t v L) (set d (planesAt + 16 * planeOf k + (t - 1) / 8) y) z w
+  unfolding setBlocks taskAt viewTask recordOf recordAs regions named but bound withTasks
   block-stored k v y new =
       let l = h .of .laid in
       let p : Regions = regions s d in
@@ -94,16 +94,17 @@ module _ (c : Config) (s : Shape) (L : Ledger) (d z w : List ℕ) (h : Shows c s
       (subst (λ (q : ℕ). NewBit (i % 8) v q y) (sym (block-read f d t o k)) new) in
       let B : Blocks = withBlock k v (blocksAt (p .blocks) i) in
       let K : ledger.Task = task L t in
-      let g : Shows c s (setBlocks t (viewBlocks B) L) (set d (planesAt + a) y) z w =
+      let g : ShowsAs tidy c s (setBlocks t (viewBlocks B) L) (set d (planesAt + a) y) z w =
       shows-as c s L d z w (set d (planesAt + a) y) z (withTasks b (p .records) (p .waiting) p) h (length-set d (planesAt + a) y) refl
       (byte-written s l d (h .room) 1 a y (omega (arith, plane-low k)))
       (setBlocks t (viewBlocks B) L)
       (task-shown c L p z w (h .shown) b (p .records) (p .waiting) z t (record { blocks = viewBlocks B; outcome = K .outcome; slot = K .slot; request = K .request }) (omega arith, omega (arith, h .of .tasks))
       (ap (λ (q : ledger.Task). record { blocks = viewBlocks B; outcome = q .outcome; slot = q .slot; request = q .request }) (shown-task c s L d z w h t o)
       ∙ ap (λ (q : Blocks). viewTask c (recordOf (c .Q) q (rowAt 6 i (p .records))) (rowAt 16 i (p .waiting)) (rowAt 16 i z)) (new-blocks i v (p .blocks) b (omega arith) k x))
-      (λ j u ne. ap (λ (q : Blocks). viewTask c (recordOf (c .Q) q (rowAt 6 j (p .records))) (rowAt 16 j (p .waiting)) (rowAt 16 j z)) (old-blocks i v (p .blocks) b (omega arith) k x j (omega (arith, h .of .tasks)) ne))) in
-      subst (λ (M : Ledger). Shows c s M (set d (planesAt + 16 * planeOf k + i / 8) y) z w) (block-is k t v L (blocksAt (p .blocks) i) blocks-are)
-      (subst (λ (q : ℕ). Shows c s (setBlocks t (viewBlocks B) L) (set d q y) z w) m g)
+      (λ j u ne. ap (λ (q : Blocks). viewTask c (recordOf (c .Q) q (rowAt 6 j (p .records))) (rowAt 16 j (p .waiting)) (rowAt 16 j z)) (old-blocks i v (p .blocks) b (omega arith) k x j (omega (arith, h .of .tasks)) ne))
+      (λ q. let y = h .shown .tidily q .tasks in ((λ u j m r. x .others u j r (λ g f. omega (arith, h .of .tasks)) ∙ y .0 u j m r), y .1))) in
+      subst (λ (M : Ledger). ShowsAs tidy c s M (set d (planesAt + 16 * planeOf k + i / 8) y) z w) (block-is k t v L (blocksAt (p .blocks) i) blocks-are)
+      (subst (λ (q : ℕ). ShowsAs tidy c s (setBlocks t (viewBlocks B) L) (set d q y) z w) m g)
 
 -- ---- all of them, one after the other
 blocks-twice : (t : ℕ) (a b : ledger.Blocks) (L : Ledger) → OneOf (length (L .tasks)) t → setBlocks t a (setBlocks t b L) ≡ setBlocks t a L
@@ -130,14 +131,14 @@ pub blocks-stored : (s : Shape) (d d₁ d₂ d₃ d₄ : List ℕ) (t : ℕ) →
     → Does s d₂ d₃ (λ c L. setBlock Event t (b .event) L) → Does s d₃ d₄ (λ c L. setBlock Message t (b .message) L)
     → Does s d d₄ (λ c L. setBlocks t (viewBlocks b) L)
 unfolding viewBlocks setSuspended setEventWait setMessageWait
-blocks-stored s d d₁ d₂ d₃ d₄ t o b e₁ e₂ e₃ e₄ c L z w h =
+blocks-stored s d d₁ d₂ d₃ d₄ t o b e₁ e₂ e₃ e₄ tidy c L z w h =
     let u : OneOf (length (L .tasks)) t = task-in c s L d z w h t o in
     let k : ledger.Blocks = task L t .blocks in
     let f : ledger.Blocks → ledger.Blocks = λ x. record { idle = x .idle; suspended = b .suspended; eventWait = x .eventWait; messageWait = x .messageWait } in
     let g : ledger.Blocks → ledger.Blocks = λ x. record { idle = x .idle; suspended = x .suspended; eventWait = b .event; messageWait = x .messageWait } in
     let m : ledger.Blocks → ledger.Blocks = λ x. record { idle = x .idle; suspended = x .suspended; eventWait = x .eventWait; messageWait = b .message } in
     let i : ledger.Blocks = record { idle = b .idle; suspended = k .suspended; eventWait = k .eventWait; messageWait = k .messageWait } in
-    subst (λ (M : Ledger). Shows c s M d₄ z w)
+    subst (λ (M : Ledger). ShowsAs tidy c s M d₄ z w)
     (ap (λ (M : Ledger). setMessageWait t (b .message) (setEventWait t (b .event) M)) (then t f i L u)
     ∙ ap (λ (M : Ledger). setMessageWait t (b .message) M) (then t g (f i) L u) ∙ then t m (g (f i)) L u)
-    (e₄ c _ z w (e₃ c _ z w (e₂ c _ z w (e₁ c L z w h))))
+    (e₄ tidy c _ z w (e₃ tidy c _ z w (e₂ tidy c _ z w (e₁ tidy c L z w h))))

@@ -1,9 +1,9 @@
 -- What the bytes mean: any byte decodes to one of the program's items, and each of these is one of the ledger's.
 use mathlib.Core.Bool.{cond}
-use mathlib.Core.List.{List, [], _∷_}
+use mathlib.Core.List.{List, [], _∷_, _++_}
 use Prim.Native.Nat.{ℕ}
 use lib.Dec.{eqb, leb, ltb}
-use lib.ListN.{getD, take}
+use lib.ListN.{length, getD, take}
 use Rattle.tables.specs.declared.blocks.Blocks.{Blocks}
 use Rattle.tables.specs.declared.tasks.Outcome.{Outcome}
 use Rattle.tables.specs.declared.tasks.Outcome.the-variants.{Plain, Begin, Message, Entry, Refused, Semaphore, Woke}
@@ -113,6 +113,32 @@ viewSemaphore (Waiting t) = ledger.WAITING t
 
 unfoldable pub viewTask : Config → Task → (waiting slot : List ℕ) → ledger.Task
 viewTask c k e z = record { blocks = viewBlocks (k .blocks); outcome = viewOutcome (k .outcome) z; slot = z; request = viewRequest c (k .request) e }
+
+-- ---- the bytes that the program writes for the ledger's items: one value for one item
+
+-- an entry's bytes are the slot's, and those of an enqueue lie where they wait
+unfoldable pub outcomeAs : ledger.Outcome → List ℕ
+outcomeAs ledger.plain = 0 ∷ 0 ∷ 0 ∷ 0 ∷ []
+outcomeAs ledger.begin = 1 ∷ 0 ∷ 0 ∷ 0 ∷ []
+outcomeAs (ledger.message a b c) = 2 ∷ a ∷ b ∷ c ∷ []
+outcomeAs (ledger.entry e) = 3 ∷ length e ∷ 0 ∷ 0 ∷ []
+outcomeAs (ledger.refused a) = 4 ∷ a ∷ 0 ∷ 0 ∷ []
+outcomeAs (ledger.semaphore a) = 5 ∷ a ∷ 0 ∷ 0 ∷ []
+outcomeAs (ledger.woke a) = 6 ∷ a ∷ 0 ∷ 0 ∷ []
+
+unfoldable pub requestAs : ledger.Request → List ℕ
+requestAs ledger.none = 0 ∷ 0 ∷ []
+requestAs (ledger.receive a) = 1 ∷ a ∷ []
+requestAs (ledger.dequeue q) = 2 ∷ q ∷ []
+requestAs (ledger.enqueue q e) = 3 ∷ q ∷ []
+
+unfoldable pub recordAs : ledger.Task → List ℕ
+recordAs k = outcomeAs (k .outcome) ++ requestAs (k .request)
+
+unfoldable pub stateAs : ledger.Semaphore → ℕ
+stateAs ledger.PENDING = 0
+stateAs ledger.DONE = 255
+stateAs (ledger.WAITING t) = t
 
 -- ---- what lies in row i of the tasks' regions
 

@@ -1,7 +1,10 @@
 -- What a byte of the semaphores' region is on the ledgers that the memory shows: read, and stored.
+use mathlib.Core.Bool.{Bool}
 use mathlib.Core.Path.{_≡_, refl, sym, ap, _∙_, subst}
 use mathlib.Core.List.{List}
-use Prim.Native.Nat.{ℕ, _+_, _-_, _≤_}
+use Prim.Native.Nat.{ℕ, _+_, _-_, _<_, _≤_}
+use lib.Dec.{eqb}
+use borrow.Author.Tests.{eqb-true, eqb-false}
 use native.Mathlib.Omega.{arith}
 use lib.ListN.{length, getD, set, length-set}
 use lib.Seq.{getD-set-same, getD-set-other}
@@ -11,9 +14,9 @@ use Rattle.ledger.specs.Refusals.{isWaiting}
 use Rattle.tables.specs.declared.shape.Shape.{Shape}
 use Rattle.tables.specs.declared.semaphores.Semaphore as state
 use Rattle.tables.specs.Layout.{OneOf, Fits, bound, Regions, named, regions, but, byte-written, region-length, semaphore-at}
-use Rattle.tables.specs.Decode.{stateOf, stateByte, viewSemaphore}
-use Rattle.tables.specs.Encoded.{Waiter, state-back}
-use Rattle.tables.specs.Shows.{semaphoreCount, semaphoreAt, Shows, Tells}
+use Rattle.tables.specs.Decode.{stateOf, stateByte, viewSemaphore, stateAs}
+use Rattle.tables.specs.Encoded.{Waiter, case, state-back, state-as}
+use Rattle.tables.specs.Shows.{semaphoreCount, semaphoreAt, ShowsAs, Tells}
 use Rattle.tables.specs.Items.{withSemaphores, semaphore-is, semaphore-shown}
 use Rattle.tables.specs.Stored.{shows-as}
 
@@ -34,17 +37,23 @@ pub waiting-told : {s : Shape} {d : List ℕ} {x v : state.Semaphore} (b : ℕ) 
     → Tells s d (λ c L. isWaiting (semaphoreOf L b)) (isWaiting (viewSemaphore v))
 waiting-told b e q c L z w h = ap isWaiting (known b e q c L z w h)
 
-pub semaphore-stored : (c : Config) (s : Shape) (L : Ledger) (d z w : List ℕ) → Shows c s L d z w → (b : ℕ) → OneOf (s .semaphores) b → (x : state.Semaphore) → Waiter (s .tasks) x
-    → Shows c s (setSemaphore b (viewSemaphore x) L) (set d (s .semaphoreat + (b - 1)) (stateByte x)) z w
+pub semaphore-stored : {tidy : Bool} (c : Config) (s : Shape) (L : Ledger) (d z w : List ℕ) → ShowsAs tidy c s L d z w → (b : ℕ) → OneOf (s .semaphores) b → (x : state.Semaphore) → Waiter (s .tasks) x
+    → ShowsAs tidy c s (setSemaphore b (viewSemaphore x) L) (set d (s .semaphoreat + (b - 1)) (stateByte x)) z w
 unfolding semaphoreAt regions named but bound withSemaphores
 semaphore-stored c s L d z w h b (lo, hi) x q =
     let l = h .of .laid in
     let p : Regions = regions s d in
     let v : List ℕ = set (p .semaphores) (b - 1) (stateByte x) in
     let n : length (p .semaphores) ≡ s .waitingat - s .semaphoreat = region-length s l d (h .room) 3 in
+    let here : getD v (b - 1) 0 ≡ stateByte x = getD-set-same (p .semaphores) (b - 1) (stateByte x) 0 (omega arith) in
+    let new : viewSemaphore x ≡ viewSemaphore (stateOf (c .T) (getD v (b - 1) 0)) =
+    sym (ap (λ (y : ℕ). viewSemaphore (stateOf (c .T) y)) here ∙ ap viewSemaphore (state-back (c .T) x (omega (arith, h .of .tasks)) (subst (λ (k : ℕ). Waiter k x) (h .of .tasks) q))) in
+    let other : (j : ℕ) → j < semaphoreCount c → (j ≡ b - 1 → ⊥) → viewSemaphore (stateOf (c .T) (getD (p .semaphores) j 0)) ≡ viewSemaphore (stateOf (c .T) (getD v j 0)) =
+    λ j g ne. ap (λ (y : ℕ). viewSemaphore (stateOf (c .T) y)) (sym (getD-set-other (p .semaphores) (b - 1) j (stateByte x) 0 ne)) in
     shows-as c s L d z w (set d (s .semaphoreat + (b - 1)) (stateByte x)) z (withSemaphores v p) h (length-set d (s .semaphoreat + (b - 1)) (stateByte x)) refl
     (byte-written s l d (h .room) 3 (b - 1) (stateByte x) (omega arith))
     (setSemaphore b (viewSemaphore x) L)
-    (semaphore-shown c L p z w (h .shown) v b (viewSemaphore x) lo
-    (sym (ap (λ (y : ℕ). viewSemaphore (stateOf (c .T) y)) (getD-set-same (p .semaphores) (b - 1) (stateByte x) 0 (omega arith)) ∙ ap viewSemaphore (state-back (c .T) x (omega (arith, h .of .tasks)) (subst (λ (k : ℕ). Waiter k x) (h .of .tasks) q))))
-    (λ j g ne. ap (λ (y : ℕ). viewSemaphore (stateOf (c .T) y)) (sym (getD-set-other (p .semaphores) (b - 1) j (stateByte x) 0 ne))))
+    (semaphore-shown c L p z w (h .shown) v b (viewSemaphore x) lo new other
+    (λ e j g. case (eqb j (b - 1))
+    (λ a. subst (λ (i : ℕ). getD v i 0 ≡ stateAs (viewSemaphore (stateOf (c .T) (getD v i 0)))) (sym (eqb-true j (b - 1) a)) (here ∙ state-as x ∙ ap stateAs new))
+    (λ a. let ne = eqb-false j (b - 1) a in getD-set-other (p .semaphores) (b - 1) j (stateByte x) 0 ne ∙ h .shown .tidily e .semaphores j g ∙ ap stateAs (other j g ne))))

@@ -1,22 +1,25 @@
 -- Which ledgers the memory shows, and what it is for a function over the memory to do what the ledger does.
-use mathlib.Core.Path.{_≡_, sym, ap, _∙_, subst}
+use mathlib.Core.Path.{_≡_, refl, sym, ap, _∙_, subst}
+use mathlib.Core.Bool.{Bool, true, false, cond}
 use mathlib.Core.List.{List, map}
-use Prim.Native.Nat.{ℕ, suc, _+_, _-_, _*_, _≤_}
+use Prim.Native.Nat.{ℕ, suc, _+_, _-_, _*_, _%_, _<_, _≤_}
+use borrow.Author.Tests.{eqb-false}
 use lib.ListN.{length, getD, take, drop}
 use Rattle.rows.specs.Splice.{cut}
 use Rattle.rows.specs.Rows.{rowAt}
 use Rattle.rows.specs.Tab.{tab}
 use Rattle.rings.specs.Ring.{holds}
-use Rattle.messages.specs.Pending.{Pending, pendingIn, mailboxesOf}
+use Rattle.messages.specs.Pending.{Pending, addressed, pendingIn, mailboxesOf}
 use Rattle.timers.specs.Timers.{timersIn}
 use Rattle.tables.specs.declared.shape.Shape.{Shape}
+use Rattle.tables.specs.declared.blocks.Block.{Block}
 use Rattle.tables.specs.declared.blocks.Blocks.{Blocks}
 use Rattle.tables.specs.declared.tasks.Outcome.{Outcome}
 use Rattle.tables.specs.declared.tasks.Request.{Request}
 use Rattle.tables.specs.declared.tasks.Task.{Task}
 use Rattle.tables.specs.Layout.{OneOf, Laid, Fits, Regions, regions, record-at}
-use Rattle.tables.specs.Planes.{blocksAt}
-use Rattle.tables.specs.Decode.{outcomeOf, requestOf, stateOf, headOf, countOf, leftOf, viewSemaphore, viewTask, recordOf}
+use Rattle.tables.specs.Planes.{has, blocksAt}
+use Rattle.tables.specs.Decode.{outcomeOf, requestOf, stateOf, headOf, countOf, leftOf, viewSemaphore, viewTask, recordAs, stateAs, recordOf}
 use Rattle.ledger.specs.Lists.{sum}
 use Rattle.ledger.specs.Config as config
 use Rattle.ledger.specs.Config.{Config}
@@ -74,8 +77,36 @@ timersOf c w = timersIn (countOf (c .R) (getD w 0 0)) (drop 1 w)
 unfoldable pub ticksIn : Config → Regions → ℕ
 ticksIn c p = c .K - leftOf (c .K) (getD (p .clock) 0 0)
 
+-- ---- one value for one item: what the program writes, where other bytes would mean the same
+
+-- no task behind the last has a block, and each record has the bytes of what it means
+abbrev pub TidyTasks : Config → Regions → (z : List ℕ) → Type 0
+TidyTasks c p z = ((k : Block) (i : ℕ) → c .T ≤ i → i < 128 → has k (p .blocks) i ≡ false) × ((i : ℕ) → i < c .T → rowAt 6 i (p .records) ≡ recordAs (taskAt c p z i))
+
+abbrev pub TidySemaphores : Config → Regions → Type 0
+TidySemaphores c p = (i : ℕ) → i < semaphoreCount c → getD (p .semaphores) i 0 ≡ stateAs (semaphoreAt c p i)
+
+-- no more than there can be, and the receiver of each is one of the tasks
+abbrev pub TidyMessages : Config → Regions → Type 0
+TidyMessages c p = (getD (p .clock) 1 0 ≤ c .G) × (addressed (c .T) (getD (p .clock) 1 0) (p .messages) ≡ true)
+
+-- a ring begins at the number taken, modulo its depth
+abbrev pub TidyRings : Config → Ledger → Regions → Type 0
+TidyRings c L p =
+    ((i : ℕ) → i < c .Q → getD (p .rings) (i * 2) 0 ≡ queue L (suc i) .taken % shape c (suc i) .depth) × ((i : ℕ) → i < c .Q → getD (p .rings) (i * 2 + 1) 0 ≤ shape c (suc i) .depth)
+
+-- What stays free: the bytes of no enqueue that waits, of no entry that a ring holds, of no message and of no timer; and which record a message lies
+-- in, and on which clock the timers are due, which is link order
+pub record Tidy (c : Config) (L : Ledger) (p : Regions) (z w : List ℕ) : Type 0 where
+  pub ticks : OneOf (c .K) (getD (p .clock) 0 0)
+  pub messages : TidyMessages c p
+  pub tasks : TidyTasks c p z
+  pub semaphores : TidySemaphores c p
+  pub rings : TidyRings c L p
+  pub timers : getD w 0 0 ≤ c .R
+
 -- ---- the ledger L is shown: every item that demand 3 compares. Its history and N are what the memory can't show.
-pub record Shown (c : Config) (L : Ledger) (p : Regions) (z w : List ℕ) : Type 0 where
+pub record Shown (tidy : Bool) (c : Config) (L : Ledger) (p : Regions) (z w : List ℕ) : Type 0 where
   pub ticks : L .ticks ≡ ticksIn c p
   pub tasks : L .tasks ≡ tasksIn c p z
   pub semaphores : L .semaphores ≡ semaphoresIn c p
@@ -83,6 +114,7 @@ pub record Shown (c : Config) (L : Ledger) (p : Regions) (z w : List ℕ) : Type
   pub queues : map held (L .queues) ≡ queuesIn c p
   pub taken : (q : ℕ) → queue L q .taken ≤ length (queue L q .put)
   pub timers : map (timerLeft L) (L .timers) ≡ timersOf c w
+  pub tidily : tidy ≡ true → Tidy c L p z w
 
 -- the shape is the configuration's, and the configuration one that document 01 accepts
 pub record Of (c : Config) (s : Shape) : Type 0 where
@@ -99,33 +131,61 @@ pub record Of (c : Config) (s : Shape) : Type 0 where
   pub bodies : s .end ≡ s .bodyat + sum (map bytesOf (c .shapes))
 
 -- the tables d, the slots z and the timers' block w show the ledger L
-pub record Shows (c : Config) (s : Shape) (L : Ledger) (d z w : List ℕ) : Type 0 where
+pub record ShowsAs (tidy : Bool) (c : Config) (s : Shape) (L : Ledger) (d z w : List ℕ) : Type 0 where
   pub of : Of c s
   pub room : s .end ≤ length d
   pub slots : 16 * s .tasks ≤ length z
   pub counted : 11 + 10 * s .timers ≤ length w
-  pub shown : Shown c L (regions s d) z w
+  pub shown : Shown tidy c L (regions s d) z w
+
+-- whatever the bytes that are no item hold
+abbrev pub Shows : Config → Shape → Ledger → (d z w : List ℕ) → Type 0
+Shows c s L d z w = ShowsAs false c s L d z w
+
+pub no-tidy : {A : Type 0} → false ≡ true → A
+no-tidy e = absurd (eqb-false 0 1 refl (ap (λ (b : Bool). cond b 1 0) e))
+
+-- what is shown tidily is shown
+pub loosely : {tidy : Bool} {c : Config} {s : Shape} {L : Ledger} {d z w : List ℕ} → ShowsAs tidy c s L d z w → Shows c s L d z w
+loosely h =
+    let k = h .shown in
+    record {
+      of = h .of;
+      room = h .room;
+      slots = h .slots;
+      counted = h .counted;
+      shown = record {
+        ticks = k .ticks;
+        tasks = k .tasks;
+        semaphores = k .semaphores;
+        mailboxes = k .mailboxes;
+        queues = k .queues;
+        taken = k .taken;
+        timers = k .timers;
+        tidily = λ e. no-tidy e;
+      };
+    }
 
 -- ---- what a function does
 
 -- the tables went from d to d' as the ledger goes by f, whatever the slots and the timers are
 abbrev pub Does : Shape → (d d' : List ℕ) → (Config → Ledger → Ledger) → Type 0
-Does s d d' f = (c : Config) (L : Ledger) (z w : List ℕ) → Shows c s L d z w → Shows c s (f c L) d' z w
+Does s d d' f = (tidy : Bool) (c : Config) (L : Ledger) (z w : List ℕ) → ShowsAs tidy c s L d z w → ShowsAs tidy c s (f c L) d' z w
 
 -- where P holds of the ledger
 abbrev pub DoesIf : Shape → (d d' : List ℕ) → (Config → Ledger → Type 0) → (Config → Ledger → Ledger) → Type 0
-DoesIf s d d' P f = (c : Config) (L : Ledger) (z w : List ℕ) → P c L → Shows c s L d z w → Shows c s (f c L) d' z w
+DoesIf s d d' P f = (tidy : Bool) (c : Config) (L : Ledger) (z w : List ℕ) → P c L → ShowsAs tidy c s L d z w → ShowsAs tidy c s (f c L) d' z w
 
 -- the tables with the slots, from d, z to d', z'
 abbrev pub DoesWithSlotsIf : Shape → (d z d' z' : List ℕ) → (Config → Ledger → Type 0) → (Config → Ledger → Ledger) → Type 0
-DoesWithSlotsIf s d z d' z' P f = (c : Config) (L : Ledger) (w : List ℕ) → P c L → Shows c s L d z w → Shows c s (f c L) d' z' w
+DoesWithSlotsIf s d z d' z' P f = (tidy : Bool) (c : Config) (L : Ledger) (w : List ℕ) → P c L → ShowsAs tidy c s L d z w → ShowsAs tidy c s (f c L) d' z' w
 
 -- the tables with the timers, from d, w to d', w'
 abbrev pub DoesWithTimers : Shape → (d w d' w' : List ℕ) → (Config → Ledger → Ledger) → Type 0
-DoesWithTimers s d w d' w' f = (c : Config) (L : Ledger) (z : List ℕ) → Shows c s L d z w → Shows c s (f c L) d' z w'
+DoesWithTimers s d w d' w' f = (tidy : Bool) (c : Config) (L : Ledger) (z : List ℕ) → ShowsAs tidy c s L d z w → ShowsAs tidy c s (f c L) d' z w'
 
 abbrev pub DoesWithTimersIf : Shape → (d w d' w' : List ℕ) → (Config → Ledger → Type 0) → (Config → Ledger → Ledger) → Type 0
-DoesWithTimersIf s d w d' w' P f = (c : Config) (L : Ledger) (z : List ℕ) → P c L → Shows c s L d z w → Shows c s (f c L) d' z w'
+DoesWithTimersIf s d w d' w' P f = (tidy : Bool) (c : Config) (L : Ledger) (z : List ℕ) → P c L → ShowsAs tidy c s L d z w → ShowsAs tidy c s (f c L) d' z w'
 
 -- the value r is the ledger's
 abbrev pub Tells : {A : Type 0} → Shape → List ℕ → (Config → Ledger → A) → A → Type 0
@@ -135,8 +195,8 @@ abbrev pub TellsIf : {A : Type 0} → Shape → List ℕ → (Config → Ledger 
 TellsIf s d P f r = (c : Config) (L : Ledger) (z w : List ℕ) → P c L → Shows c s L d z w → r ≡ f c L
 
 -- what is shown is another name of the same ledger
-pub moved : {c : Config} {s : Shape} {L L' : Ledger} {d z w : List ℕ} → L ≡ L' → Shows c s L d z w → Shows c s L' d z w
-moved {c} {s} {d = d} {z = z} {w = w} e h = subst (λ (X : Ledger). Shows c s X d z w) e h
+pub moved : {tidy : Bool} {c : Config} {s : Shape} {L L' : Ledger} {d z w : List ℕ} → L ≡ L' → ShowsAs tidy c s L d z w → ShowsAs tidy c s L' d z w
+moved {tidy} {c} {s} {d = d} {z = z} {w = w} e h = subst (λ (X : Ledger). ShowsAs tidy c s X d z w) e h
 
 -- e has as many bytes as an entry of queue q
 abbrev pub AsWide : (q : ℕ) (e : List ℕ) → Config → Ledger → Type 0

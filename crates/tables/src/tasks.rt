@@ -10,7 +10,7 @@ ghost use lib.ListN.{length, getD};
 ghost use Rattle.rows.specs.Splice.{splice};
 ghost use Rattle.tables.specs.Decode.{outcomeOf, outcomeWritten, outcomeBytes, requestOf, requestKind, requestArgument, requestBytes, viewOutcome, viewRequest};
 ghost use Rattle.tables.specs.Layout.{OneOf, Fits, countAt};
-ghost use Rattle.tables.specs.Encoded.{AsksFor};
+ghost use Rattle.tables.specs.Encoded.{AsksFor, Narrow};
 ghost use Rattle.tables.specs.Shows.{recordIn, waitingIn, AsWide, Does, DoesIf, Tells};
 ghost use Rattle.ledger.specs.Ledger as ledger;
 ghost use Rattle.ledger.specs.Ledger.{setOutcome, setRequest, task};
@@ -213,7 +213,7 @@ fn put_request(row: &mut [u8], q: Request)
 
 // An entry is what the slot holds. The number of messages stays, and with it the room for one more.
 pub fn store_outcome(tables: &mut [u8], shape: Shape, t: u8, o: Outcome)
-    requires { ⌜ Fits shape (length (now tables)) × OneOf (shape .tasks) t ⌝ }
+    requires { ⌜ Fits shape (length (now tables)) × OneOf (shape .tasks) t × Narrow o ⌝ }
     ensures does { λ _. ⌜ Does shape (now (tables .entry)) (now (tables .exit)) (λ c L. setOutcome t (viewOutcome o (task L t .slot)) L) ⌝ }
     ensures count { λ _. ⌜ getD (now (tables .exit)) countAt 0 ≡ getD (now (tables .entry)) countAt 0 ⌝ }
 {

@@ -10,6 +10,7 @@ use Rattle.rows.specs.Splice.{cut}
 use Rattle.ledger.specs.Config.{Config, controller, configIn, configRefusal}
 use Rattle.ledger.specs.Ledger.{Ledger, fresh}
 use Rattle.ledger.specs.Session.{Items, items, step}
+use Rattle.tables.specs.Shows.{no-tidy}
 use Rattle.mailboxes.specs.Room.{soundIn}
 use Rattle.mailboxes.specs.Whole.{sound-same}
 use Rattle.configuration.specs.Block.{frameRule}
@@ -66,6 +67,7 @@ displays-both c l k m₁ m₂ e h g =
         queues = s .queues ∙ ap (λ (i : Items). i .queues) e;
         taken = s .taken;
         timers = s .timers ∙ ap (λ (i : Items). i .timers) e;
+        tidily = λ q. no-tidy q;
       };
     }
 

@@ -8,7 +8,7 @@ use Rattle.ledger.specs.Config.{Config}
 use Rattle.ledger.specs.Ledger.{Ledger}
 use Rattle.ledger.specs.Session.{step, runFrom}
 use Rattle.ledger.specs.Theorems.Once.{Once, once-step}
-use Rattle.mcx11.specs.Contract.{Memory, configOf, lentWell, Displays, OutsideStays}
+use Rattle.mcx11.specs.Contract.{Memory, configOf, lentWell, Displays, Tidily, OutsideStays}
 use Rattle.theorems.specs.Calls.{FrameCalls, none, call}
 use Rattle.mcx11.specs.Answer.{answer-is}
 use Rattle.theorems.specs.Numbers.{numbersFrom}
@@ -19,13 +19,14 @@ pub record FollowsLedger (c : Config) (l : Ledger) (m : Memory) (fs answered : L
   pub answers : answered ≡ runFrom c l fs .1
   pub numbers : returned ≡ numbersFrom c l fs
   pub shown : Displays c (runFrom c l fs .0) m'
+  pub tidy : Tidily c l m → Tidily c (runFrom c l fs .0) m'
   pub well : lentWell m' ≡ true
   pub outside : OutsideStays c m m'
 
 pub follows : {m m' : Memory} {fs answered : List (List ℕ)} {returned : List ℕ} (l : Ledger)
     → lentWell m ≡ true → Displays (configOf m) l m → Once (configOf m) (l .mailboxes) → FrameCalls m fs answered returned m' → FollowsLedger (configOf m) l m fs answered returned m'
 unfolding runFrom numbersFrom
-follows l w h o none = record { config = refl; answers = refl; numbers = refl; shown = h; well = w; outside = record { tables = λ i k. refl; slots = λ i k. refl; timers = λ i k. refl } }
+follows l w h o none = record { config = refl; answers = refl; numbers = refl; shown = h; tidy = λ t. t; well = w; outside = record { tables = λ i k. refl; slots = λ i k. refl; timers = λ i k. refl } }
 follows l w h o (call {f} {m} {m₁} {m'} {r} {fs} {answers} {numbers} s more) =
     let c = configOf m in
     let next = step c f l in
@@ -42,6 +43,7 @@ follows l w h o (call {f} {m} {m₁} {m'} {r} {fs} {answers} {numbers} s more) =
       answers = ap₂ _∷_ (answer-is m₁ (next .answered) (m .answer) (g .answered)) (rest .answers);
       numbers = ap₂ _∷_ (g .number) (rest .numbers);
       shown = rest .shown;
+      tidy = λ t. rest .tidy (g .tidy t);
       well = rest .well;
       outside = record { tables = λ i k. later .tables i k ∙ now .tables i k; slots = λ i k. later .slots i k ∙ now .slots i k; timers = λ i k. later .timers i k ∙ now .timers i k };
     }

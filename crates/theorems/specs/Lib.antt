@@ -4,4 +4,6 @@ pub mod Follows
 pub mod Same
 pub mod SomeLedger
 pub mod Agree
+pub mod OneValue
 pub mod Shams
+

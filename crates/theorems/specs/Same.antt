@@ -19,7 +19,7 @@ use Rattle.ledger.specs.Theorems.HandsOver.{Copy, HandsOver}
 use Rattle.ledger.specs.Theorems.HandedOver.{handed-over}
 use Rattle.ledger.specs.Theorems.Once.{Once, once-fresh}
 use Rattle.parts.specs.Parts.{keptFrame}
-use Rattle.mcx11.specs.Contract.{Memory, fullSize, configOf, lentWell, Displays, OutsideStays, OutsideSpared, answering, Configures}
+use Rattle.mcx11.specs.Contract.{Memory, fullSize, configOf, lentWell, Displays, Tidily, OutsideStays, OutsideSpared, answering, Configures}
 use Rattle.mcx11.specs.Kept.{begins-config}
 use Rattle.theorems.specs.Calls.{FrameCalls}
 use Rattle.mcx11.specs.Answer.{answerOf, answer-is}
@@ -38,6 +38,8 @@ pub record Same (g : List ℕ) (m₀ : Memory) (fs answered : List (List ℕ)) (
   -- the memory shows the ledger after the list: its bytes are, item by item, what the ledger keeps
   pub shown : Displays (configIn g) (run (configIn g) fs .0) m
   pub items : items (run (configIn g) fs .0) ≡ itemsIn (configIn g) m
+  -- and tidily: each item has the one value that the executive writes (OneValue)
+  pub tidy : Tidily (configIn g) (run (configIn g) fs .0) m
   -- it is lent well, so that the next frame doesn't meet 11 either
   pub well : lentWell m ≡ true
   -- it still holds the accepted frame
@@ -73,15 +75,16 @@ last-handed g m fs h d before f e =
     )
 
 whole : (g : List ℕ) (m₀ : Memory) (fs answered : List (List ℕ)) (returned : List ℕ) (m : Memory) → configRefusal g ≡ 0
-    → answered ≡ run (configIn g) fs .1 → returned ≡ numbers (configIn g) fs → Displays (configIn g) (run (configIn g) fs .0) m → lentWell m ≡ true
+    → answered ≡ run (configIn g) fs .1 → returned ≡ numbers (configIn g) fs → Displays (configIn g) (run (configIn g) fs .0) m → Tidily (configIn g) (run (configIn g) fs .0) m → lentWell m ≡ true
     → keptFrame (m .config) ≡ g → OutsideSpared g m₀ m → Same g m₀ fs answered returned m
-whole g m₀ fs answered returned m h a n d w k o =
+whole g m₀ fs answered returned m h a n d t w k o =
     record {
       answers = a ∙ session-is g fs h;
       numbers = n;
       none-11 = rw n (none-11 (configIn g) fs);
       shown = d;
       items = items-shown (configIn g) (run (configIn g) fs .0) m d;
+      tidy = t;
       well = w;
       frame = k;
       outside = o;
@@ -117,6 +120,7 @@ every-list {g} {m₀} {m₁} {m} {r₀} {fs} {answered} {returned} h full s more
     (ap₂ _∷_ (answer-is m₁ (answer 0 0 (fresh c)) (m₀ .answer) (a .answered)) (rest .answers))
     (ap₂ _∷_ (a .number) (rest .numbers))
     (rest .shown)
+    (rest .tidy (a .tidy))
     (rest .well)
     (ap keptFrame (rest .config) ∙ a .frame)
     (spares (a .outside) (rest .config) (rest .outside))

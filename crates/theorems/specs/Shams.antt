@@ -1,4 +1,4 @@
--- The shams that document 01 names, and those of a signal that tells whom it woke, refuted: no executive that meets the contracts behaves so, whatever memory it is lent.
+-- The shams that document 01 names, those of a signal that tells whom it woke, and one in the memory, refuted: no executive that meets the contracts behaves so, whatever memory it is lent.
 use Prim.Native.Nat.{ℕ}
 use mathlib.Core.Path.{_≡_, ap, _∙_}
 use mathlib.Core.Bool.{true}
@@ -6,13 +6,18 @@ use mathlib.Core.List.{List, [], _∷_}
 use native.Mathlib.Omega.{arith}
 use lib.ListN.{getD}
 use Rattle.ledger.specs.Lists.{byte}
-use Rattle.ledger.specs.Config.{configRefusal}
-use Rattle.ledger.specs.Session.{session}
+use Rattle.ledger.specs.Config.{Config, configIn, configRefusal}
+use Rattle.ledger.specs.Session.{run, session}
 use Rattle.ledger.specs.Shams.{twoTasks, takes, puts, delays, starts, ticks, waits, waitsOwn, signals, exits, startsOther, the-answers}
-use Rattle.mcx11.specs.Contract.{Memory, fullSize, Configures}
+use Rattle.tables.specs.Layout.{regions}
+use Rattle.tables.specs.Decode.{stateAs}
+use Rattle.tables.specs.Shows.{semaphoreCount}
+use Rattle.configuration.specs.Layout.{shapeOf}
+use Rattle.mcx11.specs.Contract.{Memory, fullSize, tablesPart, Configures}
 use Rattle.mcx11.specs.Answer.{answerOf}
 use Rattle.theorems.specs.Calls.{FrameCalls}
 use Rattle.theorems.specs.Same.{every-list}
+use Rattle.theorems.specs.OneValue.{Valued, one-value}
 
 -- some executive's answers to a configuration and frames: a call for each that meets the contract, on memory of full size
 pub record Played (g : List ℕ) (fs answers : List (List ℕ)) : Type 0 where
@@ -100,3 +105,14 @@ module _ (a : List (List ℕ)) where
   no-put-that-tells x h =
       let is : shows 4 3 ≡ 0 = of-session x (the-answers .wakingPut) 4 3 in
       omega (arith, h, is)
+
+  -- it keeps another byte for DONE than 255
+  abbrev firstSemaphore : Memory → ℕ
+  firstSemaphore m = let c = configIn twoTasks in getD (regions (shapeOf c) (tablesPart c m) .semaphores) 0 0
+
+  pub no-other-DONE : (x : Played twoTasks (signals ∷ []) a) → (firstSemaphore (x .after) ≡ 255 → ⊥) → ⊥
+  unfolding Valued stateAs semaphoreCount configIn
+  no-other-DONE x h =
+      let c : Config = configIn twoTasks in
+      let v : Valued c (run c (signals ∷ []) .0) (x .after) = one-value c (run c (signals ∷ []) .0) (x .after) (every-list (the-answers .accepted) (x .full) (x .configured) (x .fed) .tidy) in
+      h (v .semaphores 0 (omega arith) ∙ ap stateAs (the-answers .done))

@@ -9,6 +9,7 @@ use plain_executive::random::Random;
 
 use crate::lent::{Lent, SIZES};
 use crate::strange::strange;
+use crate::tidy::untidy;
 
 /// How a frame is fed to the memory.
 pub type Feed<'a> = &'a dyn Fn(&mut Lent, &[u8]) -> Number;
@@ -23,13 +24,15 @@ pub struct Difference {
     pub what: String,
 }
 
-/// Compared are, after the configuration and after every frame: the number, the answer, all items, the config block, and that
-/// the bytes are such as the program writes; of a refused frame, that it wrote its answer alone.
+/// Compared are, after the configuration and after every frame: the number, the answer, all items, the config block, that the
+/// bytes are such as the program writes, and that each is the one that is promised; of a refused frame, that it wrote its answer
+/// alone.
 pub fn difference(script: &Script, feed: Feed) -> Option<Difference> {
     let mut random = Random::new(script.configuration.len() as u64);
     let more = random.below(3);
     let mut memory = Lent::new(SIZES.map(|size| size + more), || random.byte());
     let mut other = Executive::configure(&script.configuration).expect("accepted");
+    other.keep_history();
     let number = memory.configure(&script.configuration);
     let found = unequal(number, &memory, &other, 0, other.answer(0, 0).bytes(), &script.configuration);
     if let Some(what) = found {
@@ -69,10 +72,12 @@ fn unequal(
     if memory.kept_frame() != configuration {
         return Some(format!("the config block: {:02X?}", memory.kept_frame()));
     }
-    unequal_items(&memory.items(other.configuration()), &other.items()).or_else(|| {
+    let strange = || {
         let strange = strange(memory, other.configuration());
         (!strange.is_empty()).then(|| format!("the memory holds what the program never writes: {strange:?}"))
-    })
+    };
+    let items = unequal_items(&memory.items(other.configuration()), &other.items());
+    items.or_else(strange).or_else(|| untidy(configuration, other, memory))
 }
 
 /// The first item that is not the other's.

@@ -157,7 +157,7 @@ pub fn kept_frame(config: &[u8]) -> &[u8] {
 }
 
 /// Where a row of the timers lies.
-pub fn timer_row(row: usize) -> usize {
+pub const fn timer_row(row: usize) -> usize {
     PART + 1 + 10 * row
 }
 

@@ -7,6 +7,7 @@ pub mod fence;
 pub mod lent;
 pub mod rules;
 pub mod strange;
+pub mod tidy;
 
 use plain_executive::numbers::Number;
 

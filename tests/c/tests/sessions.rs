@@ -128,12 +128,17 @@ fn every_item_is_compared() {
 }
 
 #[test]
-fn numbers_strange_bytes_and_refused_frames_are_compared() {
-    let faults: [(&str, Feed); 3] = [
+fn numbers_strange_and_promised_bytes_and_refused_frames_are_compared() {
+    let faults: [(&str, Feed); 4] = [
         ("the number", &|memory, frame| if memory.frame(frame) == 7 { 6 } else { 0 }),
         ("the memory holds what the program never writes", &|memory, frame| {
             let number = memory.frame(frame);
             memory.tables[PLANES] |= 0x10;
+            number
+        }),
+        ("byte 73 of tables: 01, promised is 00", &|memory, frame| {
+            let number = memory.frame(frame);
+            memory.tables[73] = 1; // the last of an outcome with one number
             number
         }),
         ("a refused frame wrote", &|memory, frame| {

@@ -2,6 +2,7 @@
 use denote.Ref.{now}
 use Prim.Native.Nat.{_+_}
 use native.Mathlib.Omega.{arith}
+use Rattle.tables.specs.Shows.{loosely}
 use Rattle.clock.specs.Held.{few, some-byte, records-in}
 use Rattle.clock.specs.Changed.{start-does}
 use borrow.Author.Needs.{needs}
@@ -17,7 +18,7 @@ same-length c = search needs
 returns : tie.Need-returns
 returns c =
     let n = c .before .before .count in
-    λ v el ep g L d z room h. absurd (omega (arith, c .if1 .taken, n .ensures .2 g L d z h, h .of .timers))
+    λ v el ep tidy g L d z room h. absurd (omega (arith, c .if1 .taken, n .ensures .2 g L d z (loosely h), h .of .timers))
 
 sub-insert : tie.Need-sub-insert
 sub-insert c = some-byte (c .before .before .before .before .before .pre)
@@ -53,7 +54,7 @@ returns-2 c =
     let a = s .args in
     let n = c .before .before .before .before .before .before .before .count in
     let i = c .before .before .before .insert in
-    λ v el ep g L d z room h. start-does (a .shape) (now (a .timers)) (s .pre) (n .result) (n .ensures .1) (i .last .0) (c .before .before .timers .given .1) (n .result + 1) (c .byte .result) (omega (arith, c .before .before .before .before .before .if1 .left)) (c .byte .ensures) (a .task) (a .semaphore) (a .left) (a .period) (i .ensures) g L d z v el ep h
+    λ v el ep tidy g L d z room h. start-does (a .shape) (now (a .timers)) (s .pre) (n .result) (n .ensures .1) (i .last .0) (c .before .before .timers .given .1) (n .result + 1) (c .byte .result) (omega (arith, c .before .before .before .before .before .if1 .left)) (c .byte .ensures) (a .task) (a .semaphore) (a .left) (a .period) (i .ensures) tidy g L d z v el ep h
 
 pub start-spec : {M : Type 1} → statement M
 start-spec =

@@ -27,7 +27,7 @@ returns c =
     let a = s .args in
     let l = c .before .before .ticks-left in
     let t = c .before .lent-tick in
-    (λ g L z w h. tick-tells g (a .shape) L (now (a .tables)) z w h (l .result) (t .result .left) (t .result .tock) (l .ensures .2) (t .ensures), λ g L z w h. rw (c .byte .ensures) (tick-does g (a .shape) L (now (a .tables)) z w h (l .result) (t .result .left) (t .result .tock) (l .ensures .2) (t .ensures)))
+    (λ g L z w h. tick-tells g (a .shape) L (now (a .tables)) z w h (l .result) (t .result .left) (t .result .tock) (l .ensures .2) (t .ensures), λ tidy g L z w h. rw (c .byte .ensures) (tick-does g (a .shape) L (now (a .tables)) z w h (l .result) (t .result .left) (t .result .tock) (l .ensures .2) (t .ensures)))
 
 pub tick-spec : {M : Type 1} → statement M
 tick-spec =

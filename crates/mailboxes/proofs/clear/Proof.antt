@@ -45,7 +45,7 @@ returns c =
     let a = s .args in
     let n = c .before .before .before .before .count in
     let r = c .before .before .remove-all in
-    λ g L z w h. clear-done g (a .shape) L (now (a .tables)) z w h (n .result) (n .ensures .0) (a .t) (s .pre .1) (r .last .0) (r .result) (n .ensures .1) (r .kept .0) (r .ensures)
+    λ tidy g L z w h. clear-done g (a .shape) L (now (a .tables)) z w h (n .result) (n .ensures .0) (a .t) (s .pre .1) (r .last .0) (r .result) (n .ensures .1) (r .kept .0) (r .ensures)
 
 pub clear-spec : {M : Type 1} → statement M
 clear-spec =

@@ -50,7 +50,7 @@ returns c =
     let a = s .args in
     let n = c .before .before .before .before .count in
     let i = c .before .before .insert in
-    λ g L z w h. insert-done g (a .shape) L (now (a .tables)) z w h (n .result) (n .ensures .0) (a .to) (s .pre .1) (a .number) (a .sender) (a .semaphore) (i .last .0) (omega (arith, n .ensures .0, s .pre .2)) (i .kept .0) (i .ensures)
+    λ tidy g L z w h. insert-done g (a .shape) L (now (a .tables)) z w h (n .result) (n .ensures .0) (a .to) (s .pre .1) (a .number) (a .sender) (a .semaphore) (i .last .0) (omega (arith, n .ensures .0, s .pre .2)) (i .kept .0) (i .ensures)
 
 pub insert-spec : {M : Type 1} → statement M
 insert-spec =

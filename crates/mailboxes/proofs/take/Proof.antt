@@ -39,7 +39,7 @@ returns c =
     let a = s .args in
     let n = c .before .before .before .before .count in
     let k = c .before .find in
-    ((λ g L z w h. take-none g (a .shape) L (now (a .tables)) z w h (n .result) (n .ensures .0) (a .t) (s .pre .1) (n .ensures .1) (a .from) (k .result) (k .ensures) (c .if1 .taken)), λ g L z w h. h)
+    ((λ g L z w h. take-none g (a .shape) L (now (a .tables)) z w h (n .result) (n .ensures .0) (a .t) (s .pre .1) (n .ensures .1) (a .from) (k .result) (k .ensures) (c .if1 .taken)), λ tidy g L z w h. h)
 
 sub-load : tie.Need-sub-load
 sub-load c = lies (c .before .before .before .before .before .before .before .pre .0) .start
@@ -96,7 +96,7 @@ returns-2 c =
     let p = c .before .before .before .before .load in
     let m = c .before .before .remove in (
       (λ g L z w h. take-some g (a .shape) L (now (a .tables)) z w h (n .result) (n .ensures .0) (a .t) (s .pre .1) (n .ensures .1) (a .from) (k .result) (k .ensures) (letter (p .result .number) (p .result .sender) (p .result .semaphore)) i (p .ensures)),
-      (λ g L z w h. take-done g (a .shape) L (now (a .tables)) z w h (n .result) (n .ensures .0) (a .t) (s .pre .1) (n .ensures .1) (a .from) (k .result) (k .ensures) (m .last .0) i (m .kept .0) (m .ensures)),
+      (λ tidy g L z w h. take-done g (a .shape) L (now (a .tables)) z w h (n .result) (n .ensures .0) (a .t) (s .pre .1) (n .ensures .1) (a .from) (k .result) (k .ensures) (m .last .0) i (m .kept .0) (m .ensures)),
     )
 
 pub take-spec : {M : Type 1} → statement M

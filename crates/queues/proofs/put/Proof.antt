@@ -21,7 +21,7 @@ same-length c = search needs
 
 returns : tie.Need-returns
 returns c = let s = c .before .before .before .before .before .before .before in
-    λ g L z w p h. absurd (omega (arith, not-full g (s .args .shape) L (now (s .args .tables)) z w h (s .args .q) (s .pre .2) (s .args .ring) (p .0) (p .1), c .before .count .ensures))
+    λ tidy g L z w p h. absurd (omega (arith, not-full g (s .args .shape) L (now (s .args .tables)) z w h (s .args .q) (s .pre .2) (s .args .ring) (p .0) (p .1), c .before .count .ensures))
 
 mul-end : tie.Need-mul-end
 mul-end c = search needs
@@ -70,7 +70,7 @@ same-length-2 c = search needs
 returns-2 : tie.Need-returns-2
 returns-2 c = let s = c .before .before .before .before .before .before .before .before .before .before .before .before .before in
     let a = s .args in
-    λ g L z w p h. put-done g (a .shape) L (now (a .tables)) z w h (a .q) (s .pre .2) (a .ring) (p .0) (now (a .entry)) _ _ _ (s .pre .3) (c .before .before .before .before .before .before .before .before .before .head .ensures) (c .before .before .before .before .before .before .before .count .ensures) (omega arith) (c .before .before .before .put .ensures .0)
+    λ tidy g L z w p h. put-done g (a .shape) L (now (a .tables)) z w h (a .q) (s .pre .2) (a .ring) (p .0) (now (a .entry)) _ _ _ (s .pre .3) (c .before .before .before .before .before .before .before .before .before .head .ensures) (c .before .before .before .before .before .before .before .count .ensures) (omega arith) (c .before .before .before .put .ensures .0)
 
 pub put-spec : {M : Type 1} → statement M
 put-spec =

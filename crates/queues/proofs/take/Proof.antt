@@ -24,7 +24,7 @@ returns : tie.Need-returns
 returns c =
     let s = c .before .before .before .before .before .before .before in
     let a = s .args in
-    λ e es g L w p h. absurd (omega (arith, held-length g (a .shape) L (now (a .tables)) (now (a .slots)) w h (a .q) (s .pre .2) (a .ring) (p .0), ap length (p .1), c .before .count .ensures))
+    λ e es tidy g L w p h. absurd (omega (arith, held-length g (a .shape) L (now (a .tables)) (now (a .slots)) w h (a .q) (s .pre .2) (a .ring) (p .0), ap length (p .1), c .before .count .ensures))
 
 mul-end : tie.Need-mul-end
 mul-end c = search needs
@@ -86,7 +86,7 @@ cast-t33 : tie.Need-cast-t33
 cast-t33 c = search needs
 
 store-outcome-requires : tie.Need-store-outcome-requires
-store-outcome-requires c κs = let s = c .before .before .before .before .before .before .before .before .before .before .before .before .before .before .before .before .before .before in (still-fits (s .pre .0) (omega arith), s .pre .3)
+store-outcome-requires c κs = let s = c .before .before .before .before .before .before .before .before .before .before .before .before .before .before .before .before .before .before in (still-fits (s .pre .0) (omega arith), s .pre .3, s .pre .1 .narrow)
 
 same-length-2 : tie.Need-same-length-2
 same-length-2 c = search needs
@@ -99,9 +99,9 @@ unfolding bodyIn
 returns-2 c =
     let s = c .before .before .before .before .before .before .before .before .before .before .before .before .before .before .before .before .before .before .before .before .before in
     let a = s .args in
-    λ e es g L w p h.
+    λ e es tidy g L w p h.
     take-done g (a .shape) L (now (a .tables)) (now (a .slots)) w h (a .t) (s .pre .3) e es _ _ _ _ _ _ (a .q) (s .pre .2) (a .ring) (p .0)
-    (p .1) (c .before .before .before .before .before .before .before .before .before .before .before .before .before .before .before .before .before .head .ensures) (c .before .before .before .before .before .before .before .before .before .before .before .before .before .before .before .count .ensures) (omega (arith, c .before .before .before .before .before .before .before .before .before .before .before .before .before .before .if1 .left)) (c .before .before .before .before .before .before .before .before .before .before .take-out .ensures .0) (c .before .before .before .before .before .before .before .before .before .before .take-out .ensures .1) (c .before .before .before .before .before .before .step-on .ensures) (λ M z w h. c .before .before .store-outcome .ensures .0 g M z w h)
+    (p .1) (c .before .before .before .before .before .before .before .before .before .before .before .before .before .before .before .before .before .head .ensures) (c .before .before .before .before .before .before .before .before .before .before .before .before .before .before .before .count .ensures) (omega (arith, c .before .before .before .before .before .before .before .before .before .before .before .before .before .before .if1 .left)) (c .before .before .before .before .before .before .before .before .before .before .take-out .ensures .0) (c .before .before .before .before .before .before .before .before .before .before .take-out .ensures .1) (c .before .before .before .before .before .before .step-on .ensures) (λ tidy M z w h. c .before .before .store-outcome .ensures .0 tidy g M z w h)
 
 pub take-spec : {M : Type 1} → statement M
 take-spec =

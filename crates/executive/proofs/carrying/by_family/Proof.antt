@@ -56,19 +56,19 @@ same-length-2 c = search needs
 
 returns : tie.Need-returns
 unfolding effect codeAt at
-returns c = let s = c .before .before .before .before .before .before .before .before .before .before .before .before .before in let g = configIn (now (s .args .config)) in let f = now (s .args .frame) in let l = s .pre .2 in let m = s .pre .3 in λ L fr h. by-code g (s .args .shape) (s .args .me) (s .args .a) (s .args .b) (256 * byte 3 f + byte 4 f) (drop 5 f) L (s .args .code) 16 (c .before .before .before .before .before .before .before .match .keys1) (c .before .before .before .before .tick .ensures g L _ h)
+returns c = let s = c .before .before .before .before .before .before .before .before .before .before .before .before .before in let g = configIn (now (s .args .config)) in let f = now (s .args .frame) in let l = s .pre .2 in let m = s .pre .3 in λ tidy L fr h. by-code g (s .args .shape) (s .args .me) (s .args .a) (s .args .b) (256 * byte 3 f + byte 4 f) (drop 5 f) L (s .args .code) 16 (c .before .before .before .before .before .before .before .match .keys1) (c .before .before .before .before .tick .ensures tidy g L _ h)
 
 same-length-3 : tie.Need-same-length-3
 same-length-3 c = search needs
 
 returns-2 : tie.Need-returns-2
-returns-2 c = let s = c .before .before .before .before .before .before .before .before .before .before .before in let g = configIn (now (s .args .config)) in let f = now (s .args .frame) in let l = s .pre .2 in let m = s .pre .3 in λ L fr h. c .before .before .serve .ensures (s .args .a) (256 * byte 3 f + byte 4 f) (drop 5 f) g L _ _ h
+returns-2 c = let s = c .before .before .before .before .before .before .before .before .before .before .before in let g = configIn (now (s .args .config)) in let f = now (s .args .frame) in let l = s .pre .2 in let m = s .pre .3 in λ tidy L fr h. c .before .before .serve .ensures (s .args .a) (256 * byte 3 f + byte 4 f) (drop 5 f) tidy g L _ _ h
 
 same-length-4 : tie.Need-same-length-4
 same-length-4 c = search needs
 
 returns-3 : tie.Need-returns-3
-returns-3 c = let s = c .before .before .before .before .before .before .before .before .before .before .before .before .before .before in let g = configIn (now (s .args .config)) in let f = now (s .args .frame) in let l = s .pre .2 in let m = s .pre .3 in λ L fr h. c .before .before .serve2 .ensures (drop 5 f) g L _ _ h
+returns-3 c = let s = c .before .before .before .before .before .before .before .before .before .before .before .before .before .before in let g = configIn (now (s .args .config)) in let f = now (s .args .frame) in let l = s .pre .2 in let m = s .pre .3 in λ tidy L fr h. c .before .before .serve2 .ensures (drop 5 f) tidy g L _ _ h
 
 same-length-5 : tie.Need-same-length-5
 same-length-5 c = search needs
@@ -77,7 +77,7 @@ same-length-6 : tie.Need-same-length-6
 same-length-6 c = search needs
 
 returns-4 : tie.Need-returns-4
-returns-4 c = let s = c .before .before .before .before .before .before .before .before .before .before .before .before .before .before .before .before in let g = configIn (now (s .args .config)) in let f = now (s .args .frame) in let l = s .pre .2 in let m = s .pre .3 in λ L fr h. c .before .before .before .before .serve3 .ensures (s .args .b) (256 * byte 3 f + byte 4 f) L _ h
+returns-4 c = let s = c .before .before .before .before .before .before .before .before .before .before .before .before .before .before .before .before in let g = configIn (now (s .args .config)) in let f = now (s .args .frame) in let l = s .pre .2 in let m = s .pre .3 in λ tidy L fr h. c .before .before .before .before .serve3 .ensures (s .args .b) (256 * byte 3 f + byte 4 f) tidy L _ h
 
 same-length-7 : tie.Need-same-length-7
 same-length-7 c = search needs
@@ -86,7 +86,7 @@ same-length-8 : tie.Need-same-length-8
 same-length-8 c = search needs
 
 returns-5 : tie.Need-returns-5
-returns-5 c = let s = c .before .before .before .before .before .before .before .before .before .before .before .before .before .before .before .before .before in let g = configIn (now (s .args .config)) in let f = now (s .args .frame) in let l = s .pre .2 in let m = s .pre .3 in λ L fr h. c .before .before .before .before .serve4 .ensures (s .args .me) (s .args .b) (256 * byte 3 f + byte 4 f) (drop 5 f) g L _ h
+returns-5 c = let s = c .before .before .before .before .before .before .before .before .before .before .before .before .before .before .before .before .before in let g = configIn (now (s .args .config)) in let f = now (s .args .frame) in let l = s .pre .2 in let m = s .pre .3 in λ tidy L fr h. c .before .before .before .before .serve4 .ensures (s .args .me) (s .args .b) (256 * byte 3 f + byte 4 f) (drop 5 f) tidy g L _ h
 
 same-length-9 : tie.Need-same-length-9
 same-length-9 c = search needs
@@ -95,14 +95,14 @@ same-length-10 : tie.Need-same-length-10
 same-length-10 c = search needs
 
 returns-6 : tie.Need-returns-6
-returns-6 c = let s = c .before .before .before .before .before .before .before .before .before .before .before .before .before .before .before .before .before .before .before .before in let g = configIn (now (s .args .config)) in let f = now (s .args .frame) in let l = s .pre .2 in let m = s .pre .3 in λ L fr h. c .before .before .before .before .serve5 .ensures (s .args .me) (drop 5 f) g L _ fr h
+returns-6 c = let s = c .before .before .before .before .before .before .before .before .before .before .before .before .before .before .before .before .before .before .before .before in let g = configIn (now (s .args .config)) in let f = now (s .args .frame) in let l = s .pre .2 in let m = s .pre .3 in λ tidy L fr h. c .before .before .before .before .serve5 .ensures (s .args .me) (drop 5 f) tidy g L _ fr h
 
 same-length-11 : tie.Need-same-length-11
 same-length-11 c = search needs
 
 returns-7 : tie.Need-returns-7
 unfolding effect codeAt at
-returns-7 c = let s = c .before .before .before .before .before .before .before .before .before .before .before .before .before .before .before in let g = configIn (now (s .args .config)) in let f = now (s .args .frame) in let l = s .pre .2 in let m = s .pre .3 in let n : s .args .code ≡ 16 → ⊥ = c .before .before .before .before .before .before .before .before .before .match .rest .1 in let k : s .args .code ≡ 17 = omega (arith, c .before .before .before .before .if5 .left, s .pre .1, n) in λ L fr h. by-code g (s .args .shape) (s .args .me) (s .args .a) (s .args .b) (256 * byte 3 f + byte 4 f) (drop 5 f) L (s .args .code) 17 k (moved (exit-is (s .args .b) L) (c .before .before .signal .ensures .0 g L _ _ h))
+returns-7 c = let s = c .before .before .before .before .before .before .before .before .before .before .before .before .before .before .before in let g = configIn (now (s .args .config)) in let f = now (s .args .frame) in let l = s .pre .2 in let m = s .pre .3 in let n : s .args .code ≡ 16 → ⊥ = c .before .before .before .before .before .before .before .before .before .match .rest .1 in let k : s .args .code ≡ 17 = omega (arith, c .before .before .before .before .if5 .left, s .pre .1, n) in λ tidy L fr h. by-code g (s .args .shape) (s .args .me) (s .args .a) (s .args .b) (256 * byte 3 f + byte 4 f) (drop 5 f) L (s .args .code) 17 k (moved (exit-is (s .args .b) L) (c .before .before .signal .ensures .0 tidy g L _ _ h))
 
 pub by-family-spec : {M : Type 1} → statement M
 by-family-spec =

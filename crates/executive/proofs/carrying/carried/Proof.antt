@@ -48,7 +48,7 @@ same-length-3 : tie.Need-same-length-3
 same-length-3 c = search needs
 
 returns : tie.Need-returns
-returns c = let s = c .before .before .before .before .before .before .before .before .before .before .before .before .before .before .before .before .before .before .before .before .before .before .before .before in let g = configIn (now (s .args .config)) in let f = now (s .args .frame) in let o = of (configuration (s .pre .3)) in let r = row-is f (s .args .code) (c .before .before .before .before .before .before .before .before .before .before .before .before .before .before .before .before .before .before .row .result) (s .pre .0) (s .pre .1) (s .pre .2) (c .before .before .before .before .before .before .before .before .before .before .before .before .before .before .before .before .before .before .row .ensures) in let k = good g (s .args .me) f (omega (arith, s .pre .4 .low, o .tasks)) (s .pre .4 .input) in let a = task-is g (s .args .me) r (c .before .before .before .before .before .before .before .before .before .before .before .before .before .before .before .before .meant-task .ensures) in let b = semaphore-is g (s .args .me) r a (c .before .before .before .before .before .before .before .before .before .before .before .before .before .before .meant-semaphore .ensures g o) in let m = meant-of o (s .args .me) f (now (s .args .tables)) k (s .pre .4 .room) (s .args .code) _ _ (s .pre .1) a b in let v = ap (λ u. u .service) (c .before .before .before .before .before .before .before .before .before .before .before .before .before .before .before .before .before .before .row .ensures) in λ L q acc h. let w = moved (ap (λ (t : Bool). cond t (setOutcome (s .args .me) plain L) L) v) (c .before .before .before .before .before .before .before .before .before .before .before .before .prepare .ensures .0 g L _ _ h) in moved (accept-is g (s .args .me) f L q (s .args .code) _ _ (s .pre .1) a b) (c .before .before .before .before .before .before .by-family .ensures (cond (fields (codeAt (s .args .code)) .service) (setOutcome (s .args .me) plain L) L) (free-is g (s .args .me) f L q (s .args .code) _ _ (s .pre .1) a b acc) w)
+returns c = let s = c .before .before .before .before .before .before .before .before .before .before .before .before .before .before .before .before .before .before .before .before .before .before .before .before in let g = configIn (now (s .args .config)) in let f = now (s .args .frame) in let o = of (configuration (s .pre .3)) in let r = row-is f (s .args .code) (c .before .before .before .before .before .before .before .before .before .before .before .before .before .before .before .before .before .before .row .result) (s .pre .0) (s .pre .1) (s .pre .2) (c .before .before .before .before .before .before .before .before .before .before .before .before .before .before .before .before .before .before .row .ensures) in let k = good g (s .args .me) f (omega (arith, s .pre .4 .low, o .tasks)) (s .pre .4 .input) in let a = task-is g (s .args .me) r (c .before .before .before .before .before .before .before .before .before .before .before .before .before .before .before .before .meant-task .ensures) in let b = semaphore-is g (s .args .me) r a (c .before .before .before .before .before .before .before .before .before .before .before .before .before .before .meant-semaphore .ensures g o) in let m = meant-of o (s .args .me) f (now (s .args .tables)) k (s .pre .4 .room) (s .args .code) _ _ (s .pre .1) a b in let v = ap (λ u. u .service) (c .before .before .before .before .before .before .before .before .before .before .before .before .before .before .before .before .before .before .row .ensures) in λ tidy L q acc h. let w = moved (ap (λ (t : Bool). cond t (setOutcome (s .args .me) plain L) L) v) (c .before .before .before .before .before .before .before .before .before .before .before .before .prepare .ensures .0 tidy g L _ _ h) in moved (accept-is g (s .args .me) f L q (s .args .code) _ _ (s .pre .1) a b) (c .before .before .before .before .before .before .by-family .ensures tidy (cond (fields (codeAt (s .args .code)) .service) (setOutcome (s .args .me) plain L) L) (free-is g (s .args .me) f L q (s .args .code) _ _ (s .pre .1) a b acc) w)
 
 pub carried-spec : {M : Type 1} → statement M
 carried-spec =

@@ -22,7 +22,7 @@ same-length-3 : tie.Need-same-length-3
 same-length-3 c = search needs
 
 returns : tie.Need-returns
-returns c = let t = c .before .before .before .before .settle in record { low = t .ensures .0; few = t .ensures .1; ends = λ L q a h. t .ensures .2 _ _ (c .before .before .before .before .before .before .before .before .before .before .before .before .before .carry-out .ensures L q a h) }
+returns c = let t = c .before .before .before .before .settle in record { low = t .ensures .0; few = t .ensures .1; ends = λ L q a h. t .ensures .2 _ _ _ (c .before .before .before .before .before .before .before .before .before .before .before .before .before .carry-out .ensures _ L q a h) }
 
 pub act-spec : {M : Type 1} → statement M
 act-spec =

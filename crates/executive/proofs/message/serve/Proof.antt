@@ -51,8 +51,8 @@ returns c =
     let k = c .before .before .before .before .match .keys1 in
     let x : ℕ = 256 * a .high + a .low in
     let q : a .low ≡ x = low-is (s .pre .0) (a .high) (a .low) (subst (λ (n : ℕ). MeansX (a .shape) n x) k (s .pre .6)) in
-    λ e g L z w h. by-code g (a .shape) (a .me) (a .a) (a .b) x e L (a .code) 4 k
-    (moved (ap (λ (n : ℕ). effect (codeAt 4) g (a .me) (a .a) (a .b) n e L) q) (c .before .before .send .ensures g L z w h))
+    λ e tidy g L z w h. by-code g (a .shape) (a .me) (a .a) (a .b) x e L (a .code) 4 k
+    (moved (ap (λ (n : ℕ). effect (codeAt 4) g (a .me) (a .a) (a .b) n e L) q) (c .before .before .send .ensures tidy g L z w h))
 
 same-length-2 : tie.Need-same-length-2
 same-length-2 c = search needs
@@ -65,15 +65,15 @@ returns-2 c =
     let k = c .before .before .before .before .match .keys2 in
     let x : ℕ = 256 * a .high + a .low in
     let q : a .low ≡ x = low-is (s .pre .0) (a .high) (a .low) (subst (λ (n : ℕ). MeansX (a .shape) n x) k (s .pre .6)) in
-    λ e g L z w h. by-code g (a .shape) (a .me) (a .a) (a .b) x e L (a .code) 5 k
-    (moved (ap (λ (n : ℕ). effect (codeAt 5) g (a .me) (a .a) (a .b) n e L) q) (c .before .before .sendw .ensures g L z w h))
+    λ e tidy g L z w h. by-code g (a .shape) (a .me) (a .a) (a .b) x e L (a .code) 5 k
+    (moved (ap (λ (n : ℕ). effect (codeAt 5) g (a .me) (a .a) (a .b) n e L) q) (c .before .before .sendw .ensures tidy g L z w h))
 
 same-length-3 : tie.Need-same-length-3
 same-length-3 c = search needs
 
 returns-3 : tie.Need-returns-3
 unfolding effect fields codeAt at
-returns-3 c = let s = c .before .before .before .before .before .before in let r = c .before .before .before .before .match .rest in let n1 : s .args .code ≡ 4 → ⊥ = r .0 .1 in let n2 : s .args .code ≡ 5 → ⊥ = r .1 in let k : s .args .code ≡ 6 = omega (arith, s .pre .1, s .pre .2, n1, n2) in λ e g L z w h. by-code g (s .args .shape) (s .args .me) (s .args .a) (s .args .b) (256 * s .args .high + s .args .low) e L (s .args .code) 6 k (c .before .before .receive .ensures g L z w h)
+returns-3 c = let s = c .before .before .before .before .before .before in let r = c .before .before .before .before .match .rest in let n1 : s .args .code ≡ 4 → ⊥ = r .0 .1 in let n2 : s .args .code ≡ 5 → ⊥ = r .1 in let k : s .args .code ≡ 6 = omega (arith, s .pre .1, s .pre .2, n1, n2) in λ e tidy g L z w h. by-code g (s .args .shape) (s .args .me) (s .args .a) (s .args .b) (256 * s .args .high + s .args .low) e L (s .args .code) 6 k (c .before .before .receive .ensures tidy g L z w h)
 
 pub serve-spec : {M : Type 1} → statement M
 serve-spec =

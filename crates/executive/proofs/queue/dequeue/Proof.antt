@@ -18,7 +18,7 @@ same-length-2 : tie.Need-same-length-2
 same-length-2 c = search needs
 
 returns : tie.Need-returns
-returns c = let a = c .before .before .before .before .before .before .before .before .before .before .before .args in λ L w h. c .before .before .before .before .dequeue .ensures (configIn (now (a .config))) L w (c .before .before .before .before .before .before .before .ring .ensures .0) h
+returns c = let a = c .before .before .before .before .before .before .before .before .before .before .before .args in λ tidy L w h. c .before .before .before .before .dequeue .ensures tidy (configIn (now (a .config))) L w (c .before .before .before .before .before .before .before .ring .ensures .0) h
 
 pub dequeue-spec : {M : Type 1} → statement M
 dequeue-spec =

@@ -34,7 +34,7 @@ same-length : tie.Need-same-length
 same-length c = search needs
 
 returns : tie.Need-returns
-returns c = let a = c .before .before .before .before .before .before .before .before .before .args in λ L z w h. let g = configIn (now (a .config)) in moved (ap (λ (y : List ℕ). services.issue g (a .me) (ledger.enqueue (a .q) y) L) (sixth (now (a .frame)))) (c .before .before .enqueue .ensures g L z w (c .before .before .before .before .before .ring .ensures .0) h)
+returns c = let a = c .before .before .before .before .before .before .before .before .before .args in λ tidy L z w h. let g = configIn (now (a .config)) in moved (ap (λ (y : List ℕ). services.issue g (a .me) (ledger.enqueue (a .q) y) L) (sixth (now (a .frame)))) (c .before .before .enqueue .ensures tidy g L z w (c .before .before .before .before .before .ring .ensures .0) h)
 
 pub enqueue-spec : {M : Type 1} → statement M
 enqueue-spec =

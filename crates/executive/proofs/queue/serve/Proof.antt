@@ -31,14 +31,14 @@ same-length-2 c = search needs
 
 returns : tie.Need-returns
 unfolding effect fields codeAt at
-returns c = let s = c .before .before .before .before .before .before .before .before .before .before .before .before in let g = configIn (now (s .args .config)) in let f = now (s .args .frame) in λ b x L w h. by-code g (s .args .shape) (s .args .me) (s .args .q) b x (drop 5 f) L (s .args .code) 7 (c .before .before .before .before .before .before .before .match .keys1) (c .before .before .before .before .dequeue .ensures L w h)
+returns c = let s = c .before .before .before .before .before .before .before .before .before .before .before .before in let g = configIn (now (s .args .config)) in let f = now (s .args .frame) in λ b x tidy L w h. by-code g (s .args .shape) (s .args .me) (s .args .q) b x (drop 5 f) L (s .args .code) 7 (c .before .before .before .before .before .before .before .match .keys1) (c .before .before .before .before .dequeue .ensures tidy L w h)
 
 same-length-3 : tie.Need-same-length-3
 same-length-3 c = search needs
 
 returns-2 : tie.Need-returns-2
 unfolding effect fields codeAt at
-returns-2 c = let s = c .before .before .before .before .before .before .before .before .before in let g = configIn (now (s .args .config)) in let f = now (s .args .frame) in let r = c .before .before .before .before .match .rest in let n1 : s .args .code ≡ 7 → ⊥ = r .1 in let e : s .args .code ≡ 8 = omega (arith, s .pre .3, s .pre .4, n1) in λ b x L w h. by-code g (s .args .shape) (s .args .me) (s .args .q) b x (drop 5 f) L (s .args .code) 8 e (c .before .before .enqueue .ensures L _ w h)
+returns-2 c = let s = c .before .before .before .before .before .before .before .before .before in let g = configIn (now (s .args .config)) in let f = now (s .args .frame) in let r = c .before .before .before .before .match .rest in let n1 : s .args .code ≡ 7 → ⊥ = r .1 in let e : s .args .code ≡ 8 = omega (arith, s .pre .3, s .pre .4, n1) in λ b x tidy L w h. by-code g (s .args .shape) (s .args .me) (s .args .q) b x (drop 5 f) L (s .args .code) 8 e (c .before .before .enqueue .ensures tidy L _ w h)
 
 pub serve-spec : {M : Type 1} → statement M
 serve-spec =

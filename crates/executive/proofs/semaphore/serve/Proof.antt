@@ -29,21 +29,21 @@ same-length c = search needs
 
 returns : tie.Need-returns
 unfolding effect fields codeAt at
-returns c = let s = c .before .before .before .before .before .before in λ a x e g L z w h. by-code g (s .args .shape) (s .args .me) a (s .args .b) x e L (s .args .code) 1 (c .before .before .before .before .match .keys1) (c .before .before .wait .ensures g L z w h)
+returns c = let s = c .before .before .before .before .before .before in λ a x e tidy g L z w h. by-code g (s .args .shape) (s .args .me) a (s .args .b) x e L (s .args .code) 1 (c .before .before .before .before .match .keys1) (c .before .before .wait .ensures tidy g L z w h)
 
 same-length-2 : tie.Need-same-length-2
 same-length-2 c = search needs
 
 returns-2 : tie.Need-returns-2
 unfolding effect fields codeAt at
-returns-2 c = let s = c .before .before .before .before .before .before in λ a x e g L z w h. by-code g (s .args .shape) (s .args .me) a (s .args .b) x e L (s .args .code) 2 (c .before .before .before .before .match .keys2) (c .before .before .signal-by .ensures g L z w h)
+returns-2 c = let s = c .before .before .before .before .before .before in λ a x e tidy g L z w h. by-code g (s .args .shape) (s .args .me) a (s .args .b) x e L (s .args .code) 2 (c .before .before .before .before .match .keys2) (c .before .before .signal-by .ensures tidy g L z w h)
 
 same-length-3 : tie.Need-same-length-3
 same-length-3 c = search needs
 
 returns-3 : tie.Need-returns-3
 unfolding effect fields codeAt at viewSemaphore
-returns-3 c = let s = c .before .before .before .before .before .before in let r = c .before .before .before .before .match .rest in let n1 : s .args .code ≡ 1 → ⊥ = r .0 .1 in let n2 : s .args .code ≡ 2 → ⊥ = r .1 in let k : s .args .code ≡ 3 = omega (arith, s .pre .1, s .pre .2, n1, n2) in λ a x e g L z w h. by-code g (s .args .shape) (s .args .me) a (s .args .b) x e L (s .args .code) 3 k (c .before .before .store .ensures g L z w h)
+returns-3 c = let s = c .before .before .before .before .before .before in let r = c .before .before .before .before .match .rest in let n1 : s .args .code ≡ 1 → ⊥ = r .0 .1 in let n2 : s .args .code ≡ 2 → ⊥ = r .1 in let k : s .args .code ≡ 3 = omega (arith, s .pre .1, s .pre .2, n1, n2) in λ a x e tidy g L z w h. by-code g (s .args .shape) (s .args .me) a (s .args .b) x e L (s .args .code) 3 k (c .before .before .store .ensures tidy g L z w h)
 
 pub serve-spec : {M : Type 1} → statement M
 serve-spec =

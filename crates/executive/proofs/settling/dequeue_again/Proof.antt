@@ -6,7 +6,7 @@ use Rattle.tables.specs.Decode.{viewOutcome, viewRequest}
 use Rattle.ledger.specs.Config.{configIn}
 use Rattle.ledger.specs.Ledger.{setRequest, none}
 use Rattle.ledger.specs.Session.{refused21}
-use Rattle.tables.specs.Shows.{moved}
+use Rattle.tables.specs.Shows.{loosely, moved}
 use Rattle.executive.specs.Meeting.{again-yes, again-no}
 use borrow.Author.Needs.{needs}
 use Rattle.executive.proofs.settling.dequeue_again.Statement.{statement}
@@ -22,7 +22,7 @@ take-waits-requires : tie.Need-take-waits-requires
 take-waits-requires c κs = let s = c .before .before .before .before .before .before .before .before .before in (still-fits (s .pre .0) (omega arith), s .pre .4)
 
 store-outcome-requires : tie.Need-store-outcome-requires
-store-outcome-requires c κs = let s = c .before .before .before .before .before .before .before .before .before .before .before .before in (still-fits (s .pre .0) (omega arith), s .pre .3)
+store-outcome-requires c κs = let s = c .before .before .before .before .before .before .before .before .before .before .before .before in (still-fits (s .pre .0) (omega arith), s .pre .3, tt)
 
 same-length : tie.Need-same-length
 same-length c = search needs
@@ -31,11 +31,11 @@ returns : tie.Need-returns
 unfolding viewOutcome viewRequest refused21
 returns c =
     let a = c .before .before .before .before .before .before .before .before .before .before .before .before .before .before .before .args in
-    λ L w h.
+    λ tidy L w h.
     let g = configIn (now (a .config)) in
     let M = setRequest (a .t) none L in
-    let k = c .before .before .before .before .before .before .before .before .before .store-request .ensures g L (now (a .slots)) w h in
-    moved (again-yes g (a .t) _ M _ (c .before .before .before .before .before .take-waits .ensures g M (now (a .slots)) w (c .before .before .before .before .before .before .before .before .before .before .before .ring .ensures .0) k) (c .before .before .before .before .if1 .taken)) (c .before .before .store-outcome .ensures .0 g M (now (a .slots)) w k)
+    let k = c .before .before .before .before .before .before .before .before .before .store-request .ensures tidy g L (now (a .slots)) w h in
+    moved (again-yes g (a .t) _ M _ (c .before .before .before .before .before .take-waits .ensures g M (now (a .slots)) w (c .before .before .before .before .before .before .before .before .before .before .before .ring .ensures .0) (loosely k)) (c .before .before .before .before .if1 .taken)) (c .before .before .store-outcome .ensures .0 tidy g M (now (a .slots)) w k)
 
 dequeue-requires : tie.Need-dequeue-requires
 dequeue-requires c κs = let s = c .before .before .before .before .before .before .before .before .before .before .before .before .before in (still-fits (s .pre .0) (omega arith), c .before .before .before .before .before .before .before .before .before .ring .ensures .1, s .pre .4, s .pre .3, s .pre .2)
@@ -50,11 +50,11 @@ returns-2 : tie.Need-returns-2
 unfolding viewRequest refused21
 returns-2 c =
     let a = c .before .before .before .before .before .before .before .before .before .before .before .before .before .before .before .before .before .before .args in
-    λ L w h.
+    λ tidy L w h.
     let g = configIn (now (a .config)) in
     let M = setRequest (a .t) none L in
-    let k = c .before .before .before .before .before .before .before .before .before .before .before .before .store-request .ensures g L (now (a .slots)) w h in
-    moved (again-no g (a .t) _ M _ (c .before .before .before .before .before .before .before .before .take-waits .ensures g M (now (a .slots)) w (c .before .before .before .before .before .before .before .before .before .before .before .before .before .before .ring .ensures .0) k) (c .before .before .before .before .before .before .before .if1 .left)) (c .before .before .before .before .dequeue .ensures g M w (c .before .before .before .before .before .before .before .before .before .before .before .before .before .before .ring .ensures .0) k)
+    let k = c .before .before .before .before .before .before .before .before .before .before .before .before .store-request .ensures tidy g L (now (a .slots)) w h in
+    moved (again-no g (a .t) _ M _ (c .before .before .before .before .before .before .before .before .take-waits .ensures g M (now (a .slots)) w (c .before .before .before .before .before .before .before .before .before .before .before .before .before .before .ring .ensures .0) (loosely k)) (c .before .before .before .before .before .before .before .if1 .left)) (c .before .before .before .before .dequeue .ensures tidy g M w (c .before .before .before .before .before .before .before .before .before .before .before .before .before .before .ring .ensures .0) k)
 
 pub dequeue-again-spec : {M : Type 1} → statement M
 dequeue-again-spec =

@@ -13,7 +13,7 @@ use Rattle.ledger.specs.Ledger as ledger
 use Rattle.ledger.specs.Ledger.{setRequest, none}
 use Rattle.ledger.specs.Session.{refused21}
 use Rattle.ledger.specs.Services as services
-use Rattle.tables.specs.Shows.{moved}
+use Rattle.tables.specs.Shows.{loosely, moved}
 use Rattle.executive.specs.Meeting.{again-yes, again-no, entry-is, entry-long}
 use borrow.Author.Needs.{needs}
 use Rattle.executive.proofs.settling.enqueue_again.Statement.{statement}
@@ -35,7 +35,7 @@ put-waits-requires : tie.Need-put-waits-requires
 put-waits-requires c κs = let s = c .before .before .before .before .before .before .before .before .before .before .before .before in (still-fits (s .pre .0) (omega arith), s .pre .3)
 
 store-outcome-requires : tie.Need-store-outcome-requires
-store-outcome-requires c κs = let s = c .before .before .before .before .before .before .before .before .before .before .before .before .before .before .before in (still-fits (s .pre .0) (omega arith), s .pre .2)
+store-outcome-requires c κs = let s = c .before .before .before .before .before .before .before .before .before .before .before .before .before .before .before in (still-fits (s .pre .0) (omega arith), s .pre .2, tt)
 
 same-length : tie.Need-same-length
 same-length c = search needs
@@ -44,11 +44,11 @@ returns : tie.Need-returns
 unfolding viewOutcome viewRequest refused21
 returns c =
     let a = c .before .before .before .before .before .before .before .before .before .before .before .before .before .before .before .before .before .before .args in
-    λ L z w h.
+    λ tidy L z w h.
     let g = configIn (now (a .config)) in
     let M = setRequest (a .t) none L in
-    let k = c .before .before .before .before .before .before .before .before .before .store-request .ensures g L z w h in
-    moved (again-yes g (a .t) _ M _ (c .before .before .before .before .before .put-waits .ensures g M z w (c .before .before .before .before .before .before .before .before .before .before .before .before .before .before .before .ring .ensures .0) k) (c .before .before .before .before .if1 .taken)) (c .before .before .store-outcome .ensures .0 g M z w k)
+    let k = c .before .before .before .before .before .before .before .before .before .store-request .ensures tidy g L z w h in
+    moved (again-yes g (a .t) _ M _ (c .before .before .before .before .before .put-waits .ensures g M z w (c .before .before .before .before .before .before .before .before .before .before .before .before .before .before .before .ring .ensures .0) (loosely k)) (c .before .before .before .before .if1 .taken)) (c .before .before .store-outcome .ensures .0 tidy g M z w k)
 
 sub-enqueue : tie.Need-sub-enqueue
 sub-enqueue c = search needs
@@ -71,13 +71,13 @@ returns-2 c =
     let s = c .before .before .before .before .before .before .before .before .before .before .before .before .before .before .before .before .before .before .before .before in
     let a = s .args in
     let r = c .before .before .before .before .before .before .before .before .before .before .before .before .before .before .before .before .before .ring in
-    λ L z w h.
+    λ tidy L z w h.
     let g = configIn (now (a .config)) in
     let M = setRequest (a .t) none L in
-    let k = c .before .before .before .before .before .before .before .before .before .before .before .store-request .ensures g L z w h in
+    let k = c .before .before .before .before .before .before .before .before .before .before .before .store-request .ensures tidy g L z w h in
     let x = entry-is _ _ _ _ (c .before .before .before .before .before .before .before .before .before .before .before .before .before .before .load-waiting .ensures) (ap (λ y. y .width) (r .ensures .0) ∙ width-is g (a .shape) (a .q) (s .pre .3 .0)) in
-    moved (ap (λ (y : List ℕ). services.issue g (a .t) (ledger.enqueue (a .q) y) M) x ∙ again-no g (a .t) _ M _ (c .before .before .before .before .before .before .before .put-waits .ensures g M z w (r .ensures .0) k) (c .before .before .before .before .before .before .if1 .left))
-    (c .before .before .enqueue .ensures g M z w (r .ensures .0) k)
+    moved (ap (λ (y : List ℕ). services.issue g (a .t) (ledger.enqueue (a .q) y) M) x ∙ again-no g (a .t) _ M _ (c .before .before .before .before .before .before .before .put-waits .ensures g M z w (r .ensures .0) (loosely k)) (c .before .before .before .before .before .before .if1 .left))
+    (c .before .before .enqueue .ensures tidy g M z w (r .ensures .0) k)
 
 pub enqueue-again-spec : {M : Type 1} → statement M
 enqueue-again-spec =

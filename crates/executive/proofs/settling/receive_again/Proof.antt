@@ -22,9 +22,9 @@ returns : tie.Need-returns
 unfolding viewRequest
 returns c =
     let a = c .before .before .before .before .before .before .before .before .before .args in
-    λ g L z w h.
+    λ tidy g L z w h.
     let M = setRequest (a .t) none L in
-    moved (receive-again g (a .t) (a .from) M) (c .before .before .receive .ensures g M z w (c .before .before .before .before .before .before .store-request .ensures g L z w h))
+    moved (receive-again g (a .t) (a .from) M) (c .before .before .receive .ensures tidy g M z w (c .before .before .before .before .before .before .store-request .ensures tidy g L z w h))
 
 pub receive-again-spec : {M : Type 1} → statement M
 receive-again-spec =

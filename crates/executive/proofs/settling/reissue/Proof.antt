@@ -46,7 +46,7 @@ unfolding viewRequest
 returns c =
     let s = c .before .before .before .before .before .before .before in
     let a = s .args in
-    λ L w h e o. let g = configIn (now (a .config)) in
+    λ tidy L w h e o. let g = configIn (now (a .config)) in
     turn-none g (a .shape) L (now (a .tables)) (now (a .slots)) w h (a .running) _ _ (s .pre .3) (ap (λ k. k .request) (c .before .before .load .ensures .0)) (c .enum-told .given .1) e refl o
 
 same-length-2 : tie.Need-same-length-2
@@ -57,8 +57,8 @@ unfolding viewRequest
 returns-2 c =
     let s = c .before .before .before .before .before .before .before .before .before .before .before .before in
     let a = s .args in
-    λ L w h e o. let g = configIn (now (a .config)) in
-    turn-open g (a .shape) L (now (a .tables)) (now (a .slots)) w h (a .running) _ _ (s .pre .3) (ap (λ k. k .request) (c .before .before .before .before .before .before .before .load .ensures .0)) (c .before .before .before .before .before .request .given .1) e (c .before .before .receive-again .ensures g L (now (a .slots)) w h)
+    λ tidy L w h e o. let g = configIn (now (a .config)) in
+    turn-open g (a .shape) L (now (a .tables)) (now (a .slots)) w h (a .running) _ _ (s .pre .3) (ap (λ k. k .request) (c .before .before .before .before .before .before .before .load .ensures .0)) (c .before .before .before .before .before .request .given .1) e (c .before .before .receive-again .ensures tidy g L (now (a .slots)) w h)
 
 same-length-3 : tie.Need-same-length-3
 same-length-3 c = search needs
@@ -71,8 +71,8 @@ unfolding viewRequest
 returns-3 c =
     let s = c .before .before .before .before .before .before .before .before .before .before .before .before .before .before .before in
     let a = s .args in
-    λ L w h e o. let g = configIn (now (a .config)) in
-    turn-open g (a .shape) L (now (a .tables)) (now (a .slots)) w h (a .running) _ _ (s .pre .3) (ap (λ k. k .request) (c .before .before .before .before .before .before .before .before .before .before .load .ensures .0)) (c .before .before .before .before .before .before .before .before .request2 .given .1) e (c .before .before .before .before .dequeue-again .ensures L w h)
+    λ tidy L w h e o. let g = configIn (now (a .config)) in
+    turn-open g (a .shape) L (now (a .tables)) (now (a .slots)) w h (a .running) _ _ (s .pre .3) (ap (λ k. k .request) (c .before .before .before .before .before .before .before .before .before .before .load .ensures .0)) (c .before .before .before .before .before .before .before .before .request2 .given .1) e (c .before .before .before .before .dequeue-again .ensures tidy L w h)
 
 same-length-5 : tie.Need-same-length-5
 same-length-5 c = search needs
@@ -82,8 +82,8 @@ unfolding viewRequest
 returns-4 c =
     let s = c .before .before .before .before .before .before .before .before .before .before .before .before in
     let a = s .args in
-    λ L w h e o. let g = configIn (now (a .config)) in
-    turn-open g (a .shape) L (now (a .tables)) (now (a .slots)) w h (a .running) _ _ (s .pre .3) (ap (λ k. k .request) (c .before .before .before .before .before .before .before .load .ensures .0)) (c .before .before .before .before .before .request3 .given .1) e (c .before .before .enqueue-again .ensures L (now (a .slots)) w h)
+    λ tidy L w h e o. let g = configIn (now (a .config)) in
+    turn-open g (a .shape) L (now (a .tables)) (now (a .slots)) w h (a .running) _ _ (s .pre .3) (ap (λ k. k .request) (c .before .before .before .before .before .before .before .load .ensures .0)) (c .before .before .before .before .before .request3 .given .1) e (c .before .before .enqueue-again .ensures tidy L (now (a .slots)) w h)
 
 pub reissue-spec : {M : Type 1} → statement M
 reissue-spec =

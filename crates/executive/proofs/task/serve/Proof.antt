@@ -32,14 +32,14 @@ same-length c = search needs
 
 returns : tie.Need-returns
 unfolding effect fields codeAt at
-returns c = let s = c .before .before .before .before .before .before .before in λ self b x e g L z h. by-code g (s .args .shape) self (s .args .a) b x e L (s .args .code) 9 (c .before .before .before .before .match .keys1) (c .before .before .set-suspended .ensures g L z _ h)
+returns c = let s = c .before .before .before .before .before .before .before in λ self b x e tidy g L z h. by-code g (s .args .shape) self (s .args .a) b x e L (s .args .code) 9 (c .before .before .before .before .match .keys1) (c .before .before .set-suspended .ensures tidy g L z _ h)
 
 same-length-2 : tie.Need-same-length-2
 same-length-2 c = search needs
 
 returns-2 : tie.Need-returns-2
 unfolding effect fields codeAt at
-returns-2 c = let s = c .before .before .before .before .before .before .before in λ self b x e g L z h. by-code g (s .args .shape) self (s .args .a) b x e L (s .args .code) 10 (c .before .before .before .before .match .keys2) (c .before .before .set-suspended2 .ensures g L z _ h)
+returns-2 c = let s = c .before .before .before .before .before .before .before in λ self b x e tidy g L z h. by-code g (s .args .shape) self (s .args .a) b x e L (s .args .code) 10 (c .before .before .before .before .match .keys2) (c .before .before .set-suspended2 .ensures tidy g L z _ h)
 
 same-length-3 : tie.Need-same-length-3
 same-length-3 c = search needs
@@ -49,14 +49,14 @@ same-length-4 c = search needs
 
 returns-3 : tie.Need-returns-3
 unfolding effect fields codeAt at
-returns-3 c = let s = c .before .before .before .before .before .before .before .before .before .before in λ self b x e g L z h. by-code g (s .args .shape) self (s .args .a) b x e L (s .args .code) 11 (c .before .before .before .before .before .before .before .match .keys3) (c .before .before .before .before .terminate .ensures g L z h)
+returns-3 c = let s = c .before .before .before .before .before .before .before .before .before .before in λ self b x e tidy g L z h. by-code g (s .args .shape) self (s .args .a) b x e L (s .args .code) 11 (c .before .before .before .before .before .before .before .match .keys3) (c .before .before .before .before .terminate .ensures tidy g L z h)
 
 same-length-5 : tie.Need-same-length-5
 same-length-5 c = search needs
 
 returns-4 : tie.Need-returns-4
 unfolding effect fields codeAt at
-returns-4 c = let s = c .before .before .before .before .before .before .before in let r = c .before .before .before .before .match .rest in let n1 : s .args .code ≡ 9 → ⊥ = r .0 .0 .1 in let n2 : s .args .code ≡ 10 → ⊥ = r .0 .1 in let n3 : s .args .code ≡ 11 → ⊥ = r .1 in let k : s .args .code ≡ 12 = omega (arith, s .pre .2, s .pre .3, n1, n2, n3) in λ self b x e g L z h. by-code g (s .args .shape) self (s .args .a) b x e L (s .args .code) 12 k (c .before .before .execute .ensures g L z _ h)
+returns-4 c = let s = c .before .before .before .before .before .before .before in let r = c .before .before .before .before .match .rest in let n1 : s .args .code ≡ 9 → ⊥ = r .0 .0 .1 in let n2 : s .args .code ≡ 10 → ⊥ = r .0 .1 in let n3 : s .args .code ≡ 11 → ⊥ = r .1 in let k : s .args .code ≡ 12 = omega (arith, s .pre .2, s .pre .3, n1, n2, n3) in λ self b x e tidy g L z h. by-code g (s .args .shape) self (s .args .a) b x e L (s .args .code) 12 k (c .before .before .execute .ensures tidy g L z _ h)
 
 pub serve-spec : {M : Type 1} → statement M
 serve-spec =

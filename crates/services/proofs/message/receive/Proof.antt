@@ -24,7 +24,7 @@ enum-known-r : tie.Need-enum-known-r
 enum-known-r c = search needs
 
 store-outcome-requires : tie.Need-store-outcome-requires
-store-outcome-requires c κs = let s = c .before .before .before .before .before .before .before .before .before in (still-fits (s .pre .0) (omega arith), s .pre .1)
+store-outcome-requires c κs = let s = c .before .before .before .before .before .before .before .before .before in (still-fits (s .pre .0) (omega arith), s .pre .1, tt)
 
 same-length : tie.Need-same-length
 same-length c = search needs
@@ -33,7 +33,7 @@ returns : tie.Need-returns
 unfolding viewRequest
 returns c =
     let a = c .before .before .before .before .before .before .before .before .before .before .before .before .before .before .before .args in
-    λ g L z w h. received-none g (a .shape) L (now (a .tables)) z w h (a .t) (a .from) _ (c .before .before .before .before .before .before .before .before .enum-told .given .1) (c .before .before .before .before .before .before .before .before .before .before .before .before .take .ensures) (c .before .before .before .before .before .before .set .ensures) (c .before .before .store-request .ensures)
+    λ tidy g L z w h. received-none g (a .shape) L (now (a .tables)) z w h (a .t) (a .from) _ (c .before .before .before .before .before .before .before .before .enum-told .given .1) (c .before .before .before .before .before .before .before .before .before .before .before .before .take .ensures) (c .before .before .before .before .before .before .set .ensures) (c .before .before .store-request .ensures)
 
 same-length-2 : tie.Need-same-length-2
 same-length-2 c = search needs
@@ -42,7 +42,7 @@ returns-2 : tie.Need-returns-2
 unfolding viewOutcome
 returns-2 c =
     let a = c .before .before .before .before .before .before .before .before .before .before .before .before .args in
-    λ g L z w h. received-one g (a .shape) L (now (a .tables)) z w h (a .t) (a .from) _ _ _ _ (c .before .before .before .before .before .r .given .1) (c .before .before .before .before .before .before .before .before .before .take .ensures) (c .before .before .store-outcome .ensures .0)
+    λ tidy g L z w h. received-one g (a .shape) L (now (a .tables)) z w h (a .t) (a .from) _ _ _ _ (c .before .before .before .before .before .r .given .1) (c .before .before .before .before .before .before .before .before .before .take .ensures) (c .before .before .store-outcome .ensures .0)
 
 pub receive-spec : {M : Type 1} → statement M
 receive-spec =

@@ -17,7 +17,7 @@ set-requires : tie.Need-set-requires
 set-requires c κs = let s = c .before .before .before .before .before .before in (still-fits (s .pre .0) (omega arith), s .pre .2)
 
 store-outcome-requires : tie.Need-store-outcome-requires
-store-outcome-requires c κs = let s = c .before .before .before .before .before .before .before .before .before .before in (still-fits (s .pre .0) (omega arith), s .pre .1)
+store-outcome-requires c κs = let s = c .before .before .before .before .before .before .before .before .before .before in (still-fits (s .pre .0) (omega arith), s .pre .1, tt)
 
 same-length : tie.Need-same-length
 same-length c = search needs
@@ -26,10 +26,10 @@ returns : tie.Need-returns
 unfolding ledger.send viewOutcome
 returns c =
     let a = c .before .before .before .before .before .before .before .before .before .before .before .before .before .args in
-    λ g L z w h.
+    λ tidy g L z w h.
     let m : Message = record { number = a .x; sender = a .t; semaphore = a .b } in
     let L₁ = setMailbox (a .a) (insertBy (λ m. m .sender) m (mailbox L (a .a))) L in
-    c .before .before .store-outcome .ensures .0 g (setMessageWait (a .a) false L₁) z w (c .before .before .before .before .before .before .set .ensures g L₁ z w (c .before .before .before .before .before .before .before .before .before .before .insert .ensures g L z w h))
+    c .before .before .store-outcome .ensures .0 tidy g (setMessageWait (a .a) false L₁) z w (c .before .before .before .before .before .before .set .ensures tidy g L₁ z w (c .before .before .before .before .before .before .before .before .before .before .insert .ensures tidy g L z w h))
 
 pub send-spec : {M : Type 1} → statement M
 send-spec =

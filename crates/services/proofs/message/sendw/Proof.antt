@@ -18,7 +18,7 @@ same-length c = search needs
 returns : tie.Need-returns
 returns c =
     let a = c .before .before .before .before .before .before .before .before .before .args in
-    λ g L z w h. c .before .before .wait-for .ensures g (ledger.send (a .t) (a .a) (a .b) (a .x) L) z w (c .before .before .before .before .before .before .send .ensures g L z w h)
+    λ tidy g L z w h. c .before .before .wait-for .ensures tidy g (ledger.send (a .t) (a .a) (a .b) (a .x) L) z w (c .before .before .before .before .before .before .send .ensures tidy g L z w h)
 
 pub sendw-spec : {M : Type 1} → statement M
 sendw-spec = tie.close (tie.spec send-requires wait-for-requires same-length returns)

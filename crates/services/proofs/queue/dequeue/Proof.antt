@@ -31,7 +31,7 @@ unfolding viewRequest
 returns c =
     let s = c .before .before .before .before .before .before .before .before .before .before .before .before .before .before in
     let a = s .args in
-    λ g L w er h. dequeue-empty g (a .shape) L (now (a .tables)) (now (a .slots)) w h (a .q) (s .pre .2) (a .ring) er (a .t) _ _ (c .before .before .before .before .before .before .before .before .before .before .before .not-full .ensures .0) (c .before .before .before .before .before .before .before .before .before .count .ensures) (c .before .before .before .before .before .before .before .before .if1 .taken)
+    λ tidy g L w er h. dequeue-empty g (a .shape) L (now (a .tables)) (now (a .slots)) w h (a .q) (s .pre .2) (a .ring) er (a .t) _ _ (c .before .before .before .before .before .before .before .before .before .before .before .not-full .ensures .0) (c .before .before .before .before .before .before .before .before .before .count .ensures) (c .before .before .before .before .before .before .before .before .if1 .taken)
     (c .before .before .before .before .before .before .wait-for .ensures) (c .before .before .store-request .ensures)
 
 take-requires : tie.Need-take-requires
@@ -50,8 +50,8 @@ returns-2 : tie.Need-returns-2
 returns-2 c =
     let s = c .before .before .before .before .before .before .before .before .before .before .before .before .before .before .before .before .before in
     let a = s .args in
-    λ g L w er h. dequeue-taken g (a .shape) L (now (a .tables)) (now (a .slots)) w h (a .q) (s .pre .2) (a .ring) er (a .t) _ _ (c .before .before .before .before .before .before .before .before .before .before .before .before .before .before .not-full .ensures .0) (c .before .before .before .before .before .before .before .before .before .before .before .before .count .ensures) (c .before .before .before .before .before .before .before .before .before .before .before .if1 .left)
-    (λ e es eh. c .before .before .before .before .before .before .before .before .take .ensures e es g L w (er, eh) h) (c .before .before .wake .ensures)
+    λ tidy g L w er h. dequeue-taken g (a .shape) L (now (a .tables)) (now (a .slots)) w h (a .q) (s .pre .2) (a .ring) er (a .t) _ _ (c .before .before .before .before .before .before .before .before .before .before .before .before .before .before .not-full .ensures .0) (c .before .before .before .before .before .before .before .before .before .before .before .before .count .ensures) (c .before .before .before .before .before .before .before .before .before .before .before .if1 .left)
+    (λ e es eh. c .before .before .before .before .before .before .before .before .take .ensures e es tidy g L w (er, eh) h) (c .before .before .wake .ensures)
 
 pub dequeue-spec : {M : Type 1} → statement M
 dequeue-spec =

@@ -28,8 +28,8 @@ returns : tie.Need-returns
 returns c =
     let s = c .before .before .before .before .before .before .before .before .before .before .before .before .before .before .before in
     let a = s .args in
-    λ g L z w er h. enqueue-full g (a .shape) L (now (a .tables)) z w h (a .q) (s .pre .2) (a .ring) er (a .t) _ _ (c .before .before .before .before .before .before .before .before .before .before .before .before .not-full .ensures .0) (c .before .before .before .before .before .before .before .before .before .before .count .ensures) (now (a .entry)) (c .before .before .before .before .before .before .before .before .if1 .taken)
-    (c .before .before .before .before .before .before .wait-for .ensures) (λ M k. c .before .before .store-enqueue .ensures g M z w (s .pre .4 ∙ ap (λ r. r .width) er ∙ width-is g (a .shape) (a .q) (s .pre .2 .0)) k)
+    λ tidy g L z w er h. enqueue-full g (a .shape) L (now (a .tables)) z w h (a .q) (s .pre .2) (a .ring) er (a .t) _ _ (c .before .before .before .before .before .before .before .before .before .before .before .before .not-full .ensures .0) (c .before .before .before .before .before .before .before .before .before .before .count .ensures) (now (a .entry)) (c .before .before .before .before .before .before .before .before .if1 .taken)
+    (c .before .before .before .before .before .before .wait-for .ensures) (λ tidy M k. c .before .before .store-enqueue .ensures tidy g M z w (s .pre .4 ∙ ap (λ r. r .width) er ∙ width-is g (a .shape) (a .q) (s .pre .2 .0)) k)
 
 put-requires : tie.Need-put-requires
 put-requires c κs = search needs
@@ -47,8 +47,8 @@ returns-2 : tie.Need-returns-2
 returns-2 c =
     let s = c .before .before .before .before .before .before .before .before .before .before .before .before .before .before .before in
     let a = s .args in
-    λ g L z w er h. enqueue-put g (a .shape) L (now (a .tables)) z w h (a .q) (s .pre .2) (a .ring) er (a .t) _ _ (c .before .before .before .before .before .before .before .before .before .before .before .before .not-full .ensures .0) (c .before .before .before .before .before .before .before .before .before .before .count .ensures) (now (a .entry)) (c .before .before .before .before .before .before .before .before .if1 .left)
-    (λ l. c .before .before .before .before .before .before .put .ensures g L z w (er, l) h) (c .before .before .wake .ensures)
+    λ tidy g L z w er h. enqueue-put g (a .shape) L (now (a .tables)) z w h (a .q) (s .pre .2) (a .ring) er (a .t) _ _ (c .before .before .before .before .before .before .before .before .before .before .before .before .not-full .ensures .0) (c .before .before .before .before .before .before .before .before .before .before .count .ensures) (now (a .entry)) (c .before .before .before .before .before .before .before .before .if1 .left)
+    (λ l. c .before .before .before .before .before .before .put .ensures tidy g L z w (er, l) h) (c .before .before .wake .ensures)
 
 pub enqueue-spec : {M : Type 1} → statement M
 enqueue-spec =

@@ -12,7 +12,7 @@ signal-requires : tie.Need-signal-requires
 signal-requires c κs = search needs
 
 store-outcome-requires : tie.Need-store-outcome-requires
-store-outcome-requires c κs = let s = c .before .before .before .before .before .before in (still-fits (s .pre .0) (omega arith), s .pre .1)
+store-outcome-requires c κs = let s = c .before .before .before .before .before .before in (still-fits (s .pre .0) (omega arith), s .pre .1, tt)
 
 same-length : tie.Need-same-length
 same-length c = search needs

@@ -77,7 +77,7 @@ returns-3 c =
     let l = c .before .before .before .before .before .before .before .before .before .before .before .load in
     let m = c .before .before .before .before .before .before .before .before .before .s .given .1 in (
       signal-arm (a .shape) (now (a .tables)) (a .b) _ _ (l .ensures .0) m
-          (λ g L z w h. c .before .before .set .ensures g (setSemaphore (a .b) PENDING L) z w (c .before .before .before .before .before .before .store3 .ensures g L z w h)),
+          (λ tidy g L z w h. c .before .before .set .ensures tidy g (setSemaphore (a .b) PENDING L) z w (c .before .before .before .before .before .before .store3 .ensures tidy g L z w h)),
       signal-told (a .shape) (now (a .tables)) (a .b) _ _ (l .ensures .0) m _ (λ L. refl),
     )
 

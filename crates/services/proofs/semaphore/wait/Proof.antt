@@ -12,7 +12,7 @@ waited-requires : tie.Need-waited-requires
 waited-requires c κs = search needs
 
 store-outcome-requires : tie.Need-store-outcome-requires
-store-outcome-requires c κs = let s = c .before .before .before .before .before .before in (still-fits (s .pre .0) (omega arith), s .pre .2)
+store-outcome-requires c κs = let s = c .before .before .before .before .before .before in (still-fits (s .pre .0) (omega arith), s .pre .2, tt)
 
 same-length : tie.Need-same-length
 same-length c = search needs
@@ -21,7 +21,7 @@ returns : tie.Need-returns
 unfolding ledger.wait viewOutcome
 returns c =
     let a = c .before .before .before .before .before .before .before .before .before .args in
-    λ g L z w h. c .before .before .store-outcome .ensures .0 g (ledger.waited (semaphoreOf L (a .b)) (a .t) (a .b) L) z w (c .before .before .before .before .before .before .waited .ensures g L z w h)
+    λ tidy g L z w h. c .before .before .store-outcome .ensures .0 tidy g (ledger.waited (semaphoreOf L (a .b)) (a .t) (a .b) L) z w (c .before .before .before .before .before .before .waited .ensures tidy g L z w h)
 
 pub wait-spec : {M : Type 1} → statement M
 wait-spec = tie.close (tie.spec waited-requires store-outcome-requires same-length returns)

@@ -21,7 +21,7 @@ returns : tie.Need-returns
 unfolding waitFor viewSemaphore
 returns c =
     let a = c .before .before .before .before .before .before .before .before .before .args in
-    λ g L z w h. c .before .before .set .ensures g (setSemaphore (a .b) (WAITING (a .t)) L) z w (c .before .before .before .before .before .before .store .ensures g L z w h)
+    λ tidy g L z w h. c .before .before .set .ensures tidy g (setSemaphore (a .b) (WAITING (a .t)) L) z w (c .before .before .before .before .before .before .store .ensures tidy g L z w h)
 
 pub wait-for-spec : {M : Type 1} → statement M
 wait-for-spec = tie.close (tie.spec store-requires set-requires same-length returns)

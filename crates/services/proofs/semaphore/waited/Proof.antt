@@ -56,7 +56,7 @@ returns-3 c =
     let s = c .before .before .before .before .before in
     let a = s .args in
     let l = c .before .before .load in
-    waited-arm (a .shape) (now (a .tables)) (a .b) _ _ (l .ensures .0) (c .enum-told3 .given .1) (a .t) (λ g L z w h. h)
+    waited-arm (a .shape) (now (a .tables)) (a .b) _ _ (l .ensures .0) (c .enum-told3 .given .1) (a .t) (λ tidy g L z w h. h)
 
 pub waited-spec : {M : Type 1} → statement M
 waited-spec =

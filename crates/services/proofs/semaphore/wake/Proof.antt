@@ -31,7 +31,7 @@ returns c =
     let s = c .before .before .before .before .before in
     let a = s .args in
     let l = c .before .before .load in
-    wake-arm (a .shape) (now (a .tables)) (a .b) _ _ (l .ensures .0) (c .enum-told .given .1) (λ g L z w h. h)
+    wake-arm (a .shape) (now (a .tables)) (a .b) _ _ (l .ensures .0) (c .enum-told .given .1) (λ tidy g L z w h. h)
 
 same-length-2 : tie.Need-same-length-2
 same-length-2 c = search needs
@@ -42,7 +42,7 @@ returns-2 c =
     let s = c .before .before .before .before .before in
     let a = s .args in
     let l = c .before .before .load in
-    wake-arm (a .shape) (now (a .tables)) (a .b) _ _ (l .ensures .0) (c .enum-told2 .given .1) (λ g L z w h. h)
+    wake-arm (a .shape) (now (a .tables)) (a .b) _ _ (l .ensures .0) (c .enum-told2 .given .1) (λ tidy g L z w h. h)
 
 same-length-3 : tie.Need-same-length-3
 same-length-3 c = search needs

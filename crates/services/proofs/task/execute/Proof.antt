@@ -12,7 +12,7 @@ withdraw-requires : tie.Need-withdraw-requires
 withdraw-requires c κs = search needs
 
 set-record-requires : tie.Need-set-record-requires
-set-record-requires c κs = let s = c .before .before .before .before .before .before in (still-fits (s .pre .0) (omega arith), s .pre .1)
+set-record-requires c κs = let s = c .before .before .before .before .before .before in (still-fits (s .pre .0) (omega arith), s .pre .1, tt)
 
 same-length : tie.Need-same-length
 same-length c = search needs
@@ -21,7 +21,7 @@ returns : tie.Need-returns
 unfolding ledger.execute ledger.withdrawWait setSemaphores task viewBlocks viewOutcome
 returns c =
     let a = c .before .before .before .before .before .before .before .before .before .args in
-    λ g L z w h. c .before .before .set-record .ensures g (ledger.withdrawWait (a .a) L) z w (c .before .before .before .before .before .before .withdraw .ensures g L z w h)
+    λ tidy g L z w h. c .before .before .set-record .ensures tidy g (ledger.withdrawWait (a .a) L) z w (c .before .before .before .before .before .before .withdraw .ensures tidy g L z w h)
 
 pub execute-spec : {M : Type 1} → statement M
 execute-spec = tie.close (tie.spec withdraw-requires set-record-requires same-length returns)

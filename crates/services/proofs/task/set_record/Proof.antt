@@ -13,7 +13,7 @@ store-requires : tie.Need-store-requires
 store-requires c κs = search needs
 
 store-outcome-requires : tie.Need-store-outcome-requires
-store-outcome-requires c κs = let s = c .before .before .before .before .before .before in (still-fits (s .pre .0) (omega arith), s .pre .1)
+store-outcome-requires c κs = let s = c .before .before .before .before .before .before in (still-fits (s .pre .0) (omega arith), s .pre .1, s .pre .2)
 
 store-request-requires : tie.Need-store-request-requires
 store-request-requires c κs = let s = c .before .before .before .before .before .before .before .before .before .before in (still-fits (s .pre .0) (omega arith), s .pre .1, tt)
@@ -26,10 +26,10 @@ unfolding viewRequest
 returns c =
     let s = c .before .before .before .before .before .before .before .before .before .before .before .before .before in
     let a = s .args in
-    λ g L z w h.
+    λ tidy g L z w h.
     let L₁ = setBlocks (a .t) (viewBlocks (a .b)) L in
     let L₂ = setOutcome (a .t) (viewOutcome (a .o) (task L₁ (a .t) .slot)) L₁ in
-    record-set g (a .shape) L (now (a .tables)) z w h (a .t) (s .pre .1) (viewBlocks (a .b)) (viewOutcome (a .o)) _ (c .before .before .store-request .ensures g L₂ z w (c .before .before .before .before .before .before .store-outcome .ensures .0 g L₁ z w (c .before .before .before .before .before .before .before .before .before .before .store .ensures g L z w h)))
+    record-set g (a .shape) L (now (a .tables)) z w h (a .t) (s .pre .1) (viewBlocks (a .b)) (viewOutcome (a .o)) _ (c .before .before .store-request .ensures tidy g L₂ z w (c .before .before .before .before .before .before .store-outcome .ensures .0 tidy g L₁ z w (c .before .before .before .before .before .before .before .before .before .before .store .ensures tidy g L z w h)))
 
 pub set-record-spec : {M : Type 1} → statement M
 set-record-spec =

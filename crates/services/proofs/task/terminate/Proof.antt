@@ -22,7 +22,7 @@ clear-requires : tie.Need-clear-requires
 clear-requires c κs = let s = c .before .before .before .before .before .before .before .before .before .before .before in (still-fits (s .pre .0) (omega arith), s .pre .2)
 
 set-record-requires : tie.Need-set-record-requires
-set-record-requires c κs = let s = c .before .before .before .before .before .before .before .before .before .before .before .before .before .before .before in (still-fits (s .pre .0) (omega arith), s .pre .2)
+set-record-requires c κs = let s = c .before .before .before .before .before .before .before .before .before .before .before .before .before .before .before in (still-fits (s .pre .0) (omega arith), s .pre .2, tt)
 
 same-length : tie.Need-same-length
 same-length c = search needs
@@ -34,11 +34,11 @@ returns : tie.Need-returns
 unfolding viewBlocks viewOutcome
 returns c =
     let a = c .before .before .before .before .before .before .before .before .before .before .before .before .before .before .before .before .before .before .args in
-    λ g L z h.
+    λ tidy g L z h.
     let L₁ = ledger.withdrawWait (a .a) L in
     let L₂ = purged (a .a) true 0 L₁ in
     let L₃ = setMailbox (a .a) [] L₂ in
-    terminated g (a .shape) L _ z _ (a .a) (c .before .before .set-record .ensures g L₃ z _ (c .before .before .before .before .before .before .clear .ensures g L₂ z _ (c .before .before .before .before .before .before .before .before .before .before .purge .ensures g L₁ _ z (c .before .before .before .before .before .before .before .before .before .before .before .before .before .before .withdraw .ensures g L z _ h))))
+    terminated g (a .shape) L _ z _ (a .a) (c .before .before .set-record .ensures tidy g L₃ z _ (c .before .before .before .before .before .before .clear .ensures tidy g L₂ z _ (c .before .before .before .before .before .before .before .before .before .before .purge .ensures tidy g L₁ _ z (c .before .before .before .before .before .before .before .before .before .before .before .before .before .before .withdraw .ensures tidy g L z _ h))))
 
 pub terminate-spec : {M : Type 1} → statement M
 terminate-spec =

@@ -20,7 +20,7 @@ same-length-2 c = search needs
 returns : tie.Need-returns
 returns c =
     let a = c .before .before .before .before .before .before .before .before .before .before .args in
-    λ v ev ep g L z l h. c .before .before .wait-for .ensures g (ledger.startTimer (a .a) (a .b) v L) z _ (c .before .before .before .before .before .before .start .ensures v ev ep g L (now (a .tables)) z l h)
+    λ v ev ep tidy g L z l h. c .before .before .wait-for .ensures tidy g (ledger.startTimer (a .a) (a .b) v L) z _ (c .before .before .before .before .before .before .start .ensures v ev ep tidy g L (now (a .tables)) z l h)
 
 pub delay-spec : {M : Type 1} → statement M
 delay-spec =

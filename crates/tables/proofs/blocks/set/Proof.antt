@@ -38,7 +38,7 @@ returns c =
     let s = c .before .before .before .before in
     let a = s .args in
     let e = c .before .before .plane-of .ensures .0 in
-    λ g L z w h. rw e (block-stored g (a .shape) L (now (a .tables)) z w h (a .t) (s .pre .1) (a .k) (a .on) (c .put-bit .result) (rw e at (c .put-bit .ensures)))
+    λ tidy g L z w h. rw e (block-stored g (a .shape) L (now (a .tables)) z w h (a .t) (s .pre .1) (a .k) (a .on) (c .put-bit .result) (rw e at (c .put-bit .ensures)))
 
 pub set-spec : {M : Type 1} → statement M
 set-spec =

@@ -26,7 +26,7 @@ returns : tie.Need-returns
 returns c =
     let e = c .before .before .before in
     let a = e .args in
-    λ g L z w h. rw (c .state-byte .ensures) (semaphore-stored g (a .shape) L (now (a .tables)) z w h (a .b) (e .pre .1) (a .s) (e .pre .2))
+    λ tidy g L z w h. rw (c .state-byte .ensures) (semaphore-stored g (a .shape) L (now (a .tables)) z w h (a .b) (e .pre .1) (a .s) (e .pre .2))
 
 pub store-spec : {M : Type 1} → statement M
 store-spec =

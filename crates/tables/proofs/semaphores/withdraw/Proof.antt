@@ -26,7 +26,7 @@ returns : tie.Need-returns
 returns c =
     let s = c .before .before .before .before .before in
     let a = s .args in
-    λ g L z w h. withdrawn g (a .shape) L (now (a .tables)) z w h (a .t) (s .pre .1) (c .before .before .clear-all .last .0) (c .before .before .clear-all .ensures)
+    λ tidy g L z w h. withdrawn g (a .shape) L (now (a .tables)) z w h (a .t) (s .pre .1) (c .before .before .clear-all .last .0) (c .before .before .clear-all .ensures)
 
 pub withdraw-spec : {M : Type 1} → statement M
 withdraw-spec =

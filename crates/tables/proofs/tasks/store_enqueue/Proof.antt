@@ -28,7 +28,7 @@ returns : tie.Need-returns
 returns c =
     let s = c .before .before .before .before .before .before .before .before .before .before .before in
     let a = s .args in
-    λ g L z w el h. enqueue-waits g (a .shape) L (now (a .tables)) z w h (a .t) (s .pre .1) (now (a .entry)) (s .pre .3) (a .q) _ _ el (c .before .before .before .before .before .before .copy-in .ensures) (c .before .before .store-request .ensures)
+    λ tidy g L z w el h. enqueue-waits g (a .shape) L (now (a .tables)) z w h (a .t) (s .pre .1) (now (a .entry)) (s .pre .3) (a .q) _ _ el (c .before .before .before .before .before .before .copy-in .ensures) (c .before .before .store-request .ensures)
 
 pub store-enqueue-spec : {M : Type 1} → statement M
 store-enqueue-spec =

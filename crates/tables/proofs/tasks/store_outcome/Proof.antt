@@ -41,7 +41,7 @@ returns c =
     let p = c .before .before .put-outcome in
     let at : ℕ = a .shape .recordat + (a .t - 1) * 6 in
     let i = record-in (e .pre .0) (a .t) (e .pre .1) in (
-      (λ g L z w h. outcome-lent g (a .shape) L (now (a .tables)) z w h (a .t) (e .pre .1) (p .last .0) (a .o) (p .ensures)),
+      (λ tidy g L z w h. outcome-lent g (a .shape) L (now (a .tables)) z w h (a .t) (e .pre .1) (p .last .0) (a .o) (e .pre .2) (p .ensures)),
       before-stays at (at + 6 - at) countAt (now (a .tables)) (p .last .0) (omega (arith, laid (e .pre .0) .records)) (omega (arith, i)),
     )
 

@@ -37,7 +37,7 @@ returns : tie.Need-returns
 returns c =
     let e = c .before .before .before .before .before .before in
     let a = e .args in
-    λ g L z w h. request-lent g (a .shape) L (now (a .tables)) z w h (a .t) (e .pre .1) (c .before .before .put-request .last .0) (a .q) (e .pre .2) (c .before .before .put-request .ensures)
+    λ tidy g L z w h. request-lent g (a .shape) L (now (a .tables)) z w h (a .t) (e .pre .1) (c .before .before .put-request .last .0) (a .q) (e .pre .2) (c .before .before .put-request .ensures)
 
 pub store-request-spec : {M : Type 1} → statement M
 store-request-spec =

@@ -1,0 +1,206 @@
+-- One value for one item: where a memory shows a ledger tidily, each byte that is no free one is a function of that ledger. So two lists of calls
+-- for the same frames, from one configuration on the same memory, leave the same bytes but for the free ones.
+use Prim.Native.Nat.{ℕ, zero, suc, _+_, _-_, _*_, _%_, _<_, _≤_}
+use mathlib.Core.Path.{_≡_, refl, sym, ap, _∙_}
+use mathlib.Core.Bool.{Bool, true, false}
+use mathlib.Core.List.{List, [], _∷_}
+use native.Mathlib.Nat.{add-zero, mod-lt}
+use native.Mathlib.Omega.{arith}
+use lib.Dec.{ltb}
+use borrow.Author.Tests.{le-leb, ne-eqb, lt-ltb, ltb-true, ltb-false}
+use lib.ListN.{length, getD, length-map}
+use Rattle.rows.specs.Splice.{cut}
+use Rattle.rows.specs.Rows.{rowAt}
+use Rattle.rows.specs.Tab.{tab-get, tab-length}
+use Rattle.rings.specs.Ring.{wrapOf, gather}
+use Rattle.rings.specs.Laws.{holds-length}
+use Rattle.ledger.specs.Config.{Config, configIn, configRefusal}
+use Rattle.ledger.specs.Ledger as ledger
+use Rattle.ledger.specs.Ledger.{Ledger, queue, held}
+use Rattle.ledger.specs.Services.{shape}
+use Rattle.ledger.specs.Session.{timerLeft, run}
+use Rattle.messages.specs.Lying.{lying}
+use Rattle.timers.specs.Loops.{length-timers}
+use Rattle.tables.specs.declared.shape.Shape.{Shape}
+use Rattle.tables.specs.declared.blocks.Block.{Block}
+use Rattle.tables.specs.declared.blocks.Block.the-variants.{Idle, Suspended, Event, Message}
+use Rattle.tables.specs.Layout.{countAt, Regions, regions}
+use Rattle.tables.specs.Planes.{has, blocksAt}
+use Rattle.tables.specs.Decode.{headOf, leftOf, countOf, viewBlocks, viewTask, recordAs, recordOf, stateAs}
+use Rattle.tables.specs.Shows.{taskAt, tasksIn, semaphoreCount, semaphoreAt, semaphoresIn, begins, heldAt, timersOf, ticksIn, ShowsAs}
+use Rattle.tables.specs.Items.{queue-is}
+use Rattle.mailboxes.specs.Mail.{counter}
+use Rattle.mailboxes.specs.Whole.{counted-shown}
+use Rattle.configuration.specs.Layout.{shapeOf}
+use Rattle.mcx11.specs.Contract.{Memory, fullSize, tablesPart, slotsPart, timersPart, Tidily, Configures}
+use Rattle.theorems.specs.Calls.{FrameCalls}
+use Rattle.theorems.specs.Same.{every-list}
+
+-- whether a task of the ledger has a block
+abbrev hasBlock : Block → ledger.Task → Bool
+hasBlock Idle t = t .blocks .idle
+hasBlock Suspended t = t .blocks .suspended
+hasBlock Event t = t .blocks .eventWait
+hasBlock Message t = t .blocks .messageWait
+
+-- the task in row i; behind the last there is the null task, which has no block
+abbrev taskOf : Ledger → ℕ → ledger.Task
+taskOf L i = getD (L .tasks) i ledger.nullTask
+
+-- place k of the ring in row i, counted from where the ring begins
+abbrev placeAt : Config → Regions → (i k : ℕ) → List ℕ
+placeAt c p i k =
+    let s = shape c (suc i) in
+    rowAt (s .width) (wrapOf (s .depth) (getD (p .rings) (i * 2) 0 + k)) (cut (p .bodies) (begins c i) (begins c i + s .depth * s .width))
+
+-- the bytes of the tables' regions p, of the slots z and of the timers' block w, by the ledger. A plane's bytes bit by bit
+pub record OneValue (c : Config) (L : Ledger) (p : Regions) (z w : List ℕ) : Type 0 where
+  -- the ticks left in the tock, and the number of messages
+  pub ticks : getD (p .clock) 0 0 ≡ c .K - L .ticks
+  pub messages : getD (p .clock) 1 0 ≡ lying (L .mailboxes)
+  pub blocks : (k : Block) (i : ℕ) → i < 128 → has k (p .blocks) i ≡ hasBlock k (taskOf L i)
+  pub records : (i : ℕ) → i < c .T → rowAt 6 i (p .records) ≡ recordAs (taskOf L i)
+  pub semaphores : (i : ℕ) → i < semaphoreCount c → getD (p .semaphores) i 0 ≡ stateAs (getD (L .semaphores) i ledger.PENDING)
+  -- where a ring begins, how many entries it holds, and these
+  pub heads : (i : ℕ) → i < c .Q → getD (p .rings) (i * 2) 0 ≡ queue L (suc i) .taken % shape c (suc i) .depth
+  pub counts : (i : ℕ) → i < c .Q → getD (p .rings) (i * 2 + 1) 0 ≡ length (held (queue L (suc i)))
+  pub entries : (i : ℕ) → i < c .Q → (k : ℕ) → k < length (held (queue L (suc i))) → placeAt c p i k ≡ getD (held (queue L (suc i))) k []
+  pub slots : (i : ℕ) → i < c .T → rowAt 16 i z ≡ taskOf L i .slot
+  -- the number of timers
+  pub timers : getD w 0 0 ≡ length (L .timers)
+
+gather-at : {A : Type 0} (f : ℕ → A) (i n k : ℕ) (v : A) → k < n → getD (gather f i n) k v ≡ f (i + k)
+gather-at f i zero k v h = absurd (omega arith)
+gather-at f i (suc n) zero v h = ap f (sym (add-zero i))
+gather-at f i (suc n) (suc k) v h = let e : suc i + k ≡ i + suc k = omega arith in gather-at f (suc i) n k v (omega arith) ∙ ap f e
+
+null-none : (k : Block) → hasBlock k ledger.nullTask ≡ false
+null-none Idle = refl
+null-none Suspended = refl
+null-none Event = refl
+null-none Message = refl
+
+get-past : {A : Type 0} (l : List A) (i : ℕ) (v : A) → length l ≤ i → getD l i v ≡ v
+get-past [] i v h = refl
+get-past (x ∷ l) zero v h = absurd (omega arith)
+get-past (x ∷ l) (suc i) v h = get-past l i v (omega arith)
+
+module _ (c : Config) (s : Shape) (L : Ledger) (d z w : List ℕ) (h : ShowsAs true c s L d z w) where
+  abbrev p : Regions
+  p = regions s d
+
+  ticks-are : getD (p .clock) 0 0 ≡ c .K - L .ticks
+  unfolding ticksIn
+  ticks-are =
+      let x : ℕ = getD (p .clock) 0 0 in
+      let o = h .shown .tidily refl .ticks in
+      let e : leftOf (c .K) x ≡ x = rw (ne-eqb x 0 (λ q. omega (arith, o)), le-leb x (c .K) (o .1)) in
+      omega (arith, h .shown .ticks, o)
+
+  messages-are : getD (p .clock) 1 0 ≡ lying (L .mailboxes)
+  messages-are =
+      let x : ℕ = getD d countAt 0 in
+      let e : getD (p .clock) 1 0 ≡ x = counter c s L d z w h in
+      let few : x ≤ s .messages = omega (arith, h .shown .tidily refl .messages .0, h .of .messages) in
+      let n : countOf (s .messages) x ≡ x = rw (le-leb x (s .messages) few) in
+      e ∙ sym n ∙ counted-shown c s L d z w h
+
+  task-are : (i : ℕ) → i < c .T → taskOf L i ≡ taskAt c p z i
+  unfolding tasksIn
+  task-are i l = ap (λ (x : List ledger.Task). getD x i ledger.nullTask) (h .shown .tasks) ∙ tab-get (c .T) i (taskAt c p z) ledger.nullTask l
+
+  tasks-length : length (L .tasks) ≡ c .T
+  unfolding tasksIn
+  tasks-length = ap length (h .shown .tasks) ∙ tab-length (c .T) (taskAt c p z)
+
+  has-are : (k : Block) (i : ℕ) → has k (p .blocks) i ≡ hasBlock k (taskAt c p z i)
+  unfolding taskAt viewTask viewBlocks recordOf blocksAt
+  has-are Idle i = refl
+  has-are Suspended i = refl
+  has-are Event i = refl
+  has-are Message i = refl
+
+  blocks-are : (k : Block) (i : ℕ) → i < 128 → has k (p .blocks) i ≡ hasBlock k (taskOf L i)
+  blocks-are k i l = go (ltb i (c .T)) refl
+    where
+      go : (b : Bool) → ltb i (c .T) ≡ b → has k (p .blocks) i ≡ hasBlock k (taskOf L i)
+      go true e = has-are k i ∙ ap (hasBlock k) (sym (task-are i (ltb-true i (c .T) e)))
+      go false e =
+          let g : c .T ≤ i = ltb-false i (c .T) e in
+          h .shown .tidily refl .tasks .0 k i g l ∙ sym (null-none k) ∙ ap (hasBlock k) (sym (get-past (L .tasks) i ledger.nullTask (omega (arith, tasks-length))))
+
+  slot-are : (i : ℕ) → rowAt 16 i z ≡ taskAt c p z i .slot
+  unfolding taskAt viewTask
+  slot-are i = refl
+
+  semaphore-are : (i : ℕ) → i < semaphoreCount c → getD (L .semaphores) i ledger.PENDING ≡ semaphoreAt c p i
+  unfolding semaphoresIn
+  semaphore-are i l = ap (λ (x : List ledger.Semaphore). getD x i ledger.PENDING) (h .shown .semaphores) ∙ tab-get (semaphoreCount c) i (semaphoreAt c p) ledger.PENDING l
+
+  module _ (i : ℕ) (l : i < c .Q) where
+    abbrev deep : ℕ
+    deep = shape c (suc i) .depth
+
+    held-are : held (queue L (suc i)) ≡ heldAt c p i
+    held-are = let e : suc i - 1 ≡ i = omega arith in queue-is c L p z w (h .shown) (suc i) (omega arith, omega arith) ∙ ap (heldAt c p) e
+
+    head-is : headOf deep (getD (p .rings) (i * 2) 0) ≡ getD (p .rings) (i * 2) 0
+    head-is =
+        let e = h .shown .tidily refl .rings .0 i l in
+        rw (lt-ltb (getD (p .rings) (i * 2) 0) deep (omega (arith, e, mod-lt (queue L (suc i) .taken) (h .of .depths (suc i) (omega arith) (omega arith) .0))))
+
+    count-is : countOf deep (getD (p .rings) (i * 2 + 1) 0) ≡ getD (p .rings) (i * 2 + 1) 0
+    count-is = rw (le-leb (getD (p .rings) (i * 2 + 1) 0) deep (h .shown .tidily refl .rings .1 i l))
+
+    count-are : getD (p .rings) (i * 2 + 1) 0 ≡ length (held (queue L (suc i)))
+    unfolding heldAt
+    count-are = sym (ap length held-are ∙ holds-length (shape c (suc i) .width) deep _ _ _ ∙ count-is)
+
+    entry-are : (k : ℕ) → k < length (held (queue L (suc i))) → placeAt c p i k ≡ getD (held (queue L (suc i))) k []
+    unfolding heldAt
+    entry-are k n =
+        let b : List ℕ = cut (p .bodies) (begins c i) (begins c i + deep * shape c (suc i) .width) in
+        let f : ℕ → List ℕ = λ j. rowAt (shape c (suc i) .width) (wrapOf deep j) b in
+        sym (ap (λ (x : List (List ℕ)). getD x k []) held-are
+        ∙ gather-at f (headOf deep (getD (p .rings) (i * 2) 0)) (countOf deep (getD (p .rings) (i * 2 + 1) 0)) k [] (omega (arith, count-is, count-are))
+        ∙ ap (λ (x : ℕ). f (x + k)) head-is)
+
+  timers-are : getD w 0 0 ≡ length (L .timers)
+  unfolding timersOf
+  timers-are =
+      let x : ℕ = getD w 0 0 in
+      let n : countOf (c .R) x ≡ x = rw (le-leb x (c .R) (h .shown .tidily refl .timers)) in
+      sym (sym (length-map (L .timers) (timerLeft L)) ∙ ap length (h .shown .timers) ∙ length-timers (countOf (c .R) x) _ ∙ n)
+
+  pub values : OneValue c L p z w
+  values =
+      record {
+        ticks = ticks-are;
+        messages = messages-are;
+        blocks = blocks-are;
+        records = λ i l. h .shown .tidily refl .tasks .1 i l ∙ ap recordAs (sym (task-are i l));
+        semaphores = λ i l. h .shown .tidily refl .semaphores i l ∙ ap stateAs (sym (semaphore-are i l));
+        heads = h .shown .tidily refl .rings .0;
+        counts = count-are;
+        entries = entry-are;
+        slots = λ i l. slot-are i ∙ ap (λ (t : ledger.Task). t .slot) (sym (task-are i l));
+        timers = timers-are;
+      }
+
+-- ---- of a memory, and of two
+
+unfoldable pub Valued : Config → Ledger → Memory → Type 0
+Valued c l m = OneValue c l (regions (shapeOf c) (tablesPart c m)) (slotsPart c m) (timersPart c m)
+
+pub one-value : (c : Config) (l : Ledger) (m : Memory) → Tidily c l m → Valued c l m
+unfolding Tidily Valued
+one-value c l m h = values c (shapeOf c) l (tablesPart c m) (slotsPart c m) (timersPart c m) h
+
+-- two executives that meet the contracts: after the same configuration, on the same memory, and the same frames, each byte of both memories that is
+-- no free one is the same function of the same ledger
+pub both-valued : {g : List ℕ} {m₀ m₁ m₂ m m' : Memory} {r₁ r₂ : ℕ} {fs answered₁ answered₂ : List (List ℕ)} {returned₁ returned₂ : List ℕ}
+    → configRefusal g ≡ 0 → fullSize m₀ ≡ true → Configures g m₀ m₁ r₁ → FrameCalls m₁ fs answered₁ returned₁ m → Configures g m₀ m₂ r₂ → FrameCalls m₂ fs answered₂ returned₂ m'
+    → let c = configIn g in Valued c (run c fs .0) m × Valued c (run c fs .0) m'
+both-valued {g} {m = m} {m' = m'} {fs = fs} h full s₁ more₁ s₂ more₂ =
+    let c = configIn g in
+    (one-value c (run c fs .0) m (every-list h full s₁ more₁ .tidy), one-value c (run c fs .0) m' (every-list h full s₂ more₂ .tidy))
