@@ -68,6 +68,10 @@ upright floor (t ∷ ts) = (floor ≤ t .due) × upright (t .due) ts
 abbrev pub Upright : ℕ → List ℕ → Type 0
 Upright n d = upright (le4 d 6) (recordsIn n d)
 
+-- from n rows in d to m rows in d'
+abbrev pub StaysUpright : (n : ℕ) (d : List ℕ) (m : ℕ) (d' : List ℕ) → Type 0
+StaysUpright n d m d' = Upright n d → Upright m d'
+
 -- ---- tests and changes of one timer
 
 abbrev pub tocksLeft : TimerLeft → ℕ
