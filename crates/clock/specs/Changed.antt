@@ -1,6 +1,6 @@
 -- The records were lent and came back as other bytes, and the count was stored: what that is on the ledgers that the block shows.
 use mathlib.Core.Path.{_≡_, refl, sym, ap, _∙_}
-use mathlib.Core.Bool.{Bool, not, _&&_, _||_}
+use mathlib.Core.Bool.{Bool, true, not, _&&_, _||_}
 use mathlib.Core.List.{List, map}
 use Prim.Native.Nat.{ℕ, suc, _-_, _<_, _≤_}
 use native.Mathlib.Omega.{arith}
@@ -16,7 +16,7 @@ use Rattle.ledger.specs.Ledger.{Timer, Ledger, setTimers, setClock}
 use Rattle.ledger.specs.Services.{insertTimer, startTimer}
 use Rattle.ledger.specs.Refusals.{haveTimer}
 use Rattle.ledger.specs.Session.{timerLeft}
-use Rattle.timers.specs.Timers.{timer, timersIn, tocksLeft, startedFor, stays, tocked, dueIn, firstDue, takenDue}
+use Rattle.timers.specs.Timers.{timer, timersIn, tocksLeft, startedFor, stays, tocked, dueIn, firstDue, takenDue, StaysUpright}
 use Rattle.timers.specs.Loops.{length-timers}
 use Rattle.timers.specs.Lists.{keep-map}
 use Rattle.timers.specs.Shown.{shown-length, shown-have, shown-start}
@@ -25,8 +25,8 @@ use Rattle.tables.specs.declared.shape.Shape.{Shape}
 use Rattle.tables.specs.Decode.{countOf}
 use Rattle.tables.specs.Shows.{ShowsAs}
 use Rattle.tables.specs.Stored.{before-stays}
-use Rattle.clock.specs.Held.{Holds, some-byte, heldIn, lent, held-same, held-counted}
-use Rattle.clock.specs.Does.{DoesTimers, TellsTimers, purged, held-shown, timers-stored}
+use Rattle.clock.specs.Held.{Holds, some-byte, heldIn, UprightIn, lent, held-same, held-counted, lent-upright, same-upright, counted-upright}
+use Rattle.clock.specs.Does.{DoesTimers, TellsTimers, purged, held-shown, tidy-count, tidy-upright, timers-stored}
 use Rattle.clock.specs.Tocks.{tock-does}
 
 module _ (s : Shape) (w : List ℕ) (h : Holds s (length w)) (n : ℕ) (counts : n ≡ countOf (s .timers) (getD w 0 0)) where
@@ -48,13 +48,14 @@ module _ (s : Shape) (w : List ℕ) (h : Holds s (length w)) (n : ℕ) (counts :
     pub pass-due : (r : ℕ) → r ≡ dueIn (timersIn n ys) → r ≡ dueIn (heldIn s (putMid 1 (length w - 1) w ys))
     pass-due r e = e ∙ ap dueIn (sym (held-same s w h n counts ys))
 
-    pub pass-does : timersIn n ys ≡ map tocked (timersIn n (cut w 1 (length w))) → DoesTimers s w (putMid 1 (length w - 1) w ys) (λ c L. setClock (suc (L .N)) (L .ticks) L)
-    pass-does e tidy c L d z g =
+    pub pass-does : timersIn n ys ≡ map tocked (timersIn n (cut w 1 (length w))) → StaysUpright n (cut w 1 (length w)) n ys → DoesTimers s w (putMid 1 (length w - 1) w ys) (λ c L. setClock (suc (L .N)) (L .ticks) L)
+    pass-does e neat tidy c L d z g =
         tock-does c s L d z w (putMid 1 (length w - 1) w ys) g kept (held-same s w h n counts ys ∙ e ∙ ap (map tocked) (lent s w h n counts))
         (before-stays 1 (length w - 1) 0 w ys (omega arith) (some-byte h))
+        (λ q. let f = tidy-count c s L d z w g q in same-upright s w h n counts ys f (neat (lent-upright s w h n counts f (tidy-upright c s L d z w g q))))
 
     -- ---- and another count
-    module _ (m x : ℕ) (f : m ≤ s .timers) (byte : x ≡ m) where
+    module _ (m x : ℕ) (f : m ≤ s .timers) (byte : x ≡ m) (neat : StaysUpright n (cut w 1 (length w)) m ys) where
       abbrev after : List ℕ
       after = set (putMid 1 (length w - 1) w ys) 0 x
 
@@ -67,19 +68,22 @@ module _ (s : Shape) (w : List ℕ) (h : Holds s (length w)) (n : ℕ) (counts :
       after-count : getD after 0 0 ≤ s .timers
       after-count = omega (arith, getD-set-same (putMid 1 (length w - 1) w ys) 0 x 0 (omega (arith, kept, some-byte h)))
 
+      after-upright : {tidy : Bool} (c : Config) (L : Ledger) (d z : List ℕ) → ShowsAs tidy c s L d z w → tidy ≡ true → UprightIn after
+      after-upright c L d z g q = rw byte (counted-upright s w h n counts ys m (neat (lent-upright s w h n counts (tidy-count c s L d z w g q) (tidy-upright c s L d z w g q))))
+
       pub start-does : (a b left p : ℕ) → timersIn m ys ≡ insertBy tocksLeft (timer a b left p) (timersIn n (cut w 1 (length w)))
           → (tidy : Bool) (c : Config) (L : Ledger) (d z : List ℕ) (v : TockValue) → tocks v ≡ left → period v ≡ p → ShowsAs tidy c s L d z w → ShowsAs tidy c s (startTimer a b v L) d z after
       unfolding startTimer insertTimer setTimers timerLeft
       start-does a b left p e tidy c L d z v el ep g =
           timers-stored c s L d z w g after _ after-length
-          (shown-start L (held-shown c s L d z w g) a b v ∙ rw (el, ep, ← lent s w h n counts) (sym (after-held ∙ e))) after-count
+          (shown-start L (held-shown c s L d z w g) a b v ∙ rw (el, ep, ← lent s w h n counts) (sym (after-held ∙ e))) after-count (after-upright c L d z g)
 
       pub purge-does : (a : ℕ) (all : Bool) (b : ℕ) → timersIn m ys ≡ keep (stays a all b) (timersIn n (cut w 1 (length w))) → DoesTimers s w after (λ c L. purged a all b L)
       unfolding purged timerLeft
       purge-does a all b e tidy c L d z g =
           timers-stored c s L d z w g after _ after-length
           (keep-map (timerLeft L) (λ (t : Timer). not (eqb (t .task) a && (all || eqb (t .semaphore) b))) (stays a all b) (λ t. refl) (L .timers)
-          ∙ ap (keep (stays a all b)) (held-shown c s L d z w g ∙ sym (lent s w h n counts)) ∙ sym (after-held ∙ e)) after-count
+          ∙ ap (keep (stays a all b)) (held-shown c s L d z w g ∙ sym (lent s w h n counts)) ∙ sym (after-held ∙ e)) after-count (after-upright c L d z g)
 
       module _ (e : timersIn m ys ≡ takenDue (timersIn n (cut w 1 (length w)))) where
         taken : heldIn s after ≡ takenDue (heldIn s w)
@@ -90,4 +94,4 @@ module _ (s : Shape) (w : List ℕ) (h : Holds s (length w)) (n : ℕ) (counts :
 
         pub due-does : DoesTimers s w after (λ c L. takeDue L)
         unfolding takeDue setTimers timerLeft
-        due-does tidy c L d z g = timers-stored c s L d z w g after _ after-length (shown-take L (held-shown c s L d z w g) ∙ sym taken) after-count
+        due-does tidy c L d z g = timers-stored c s L d z w g after _ after-length (shown-take L (held-shown c s L d z w g) ∙ sym taken) after-count (after-upright c L d z g)

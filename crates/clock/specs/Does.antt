@@ -18,7 +18,7 @@ use Rattle.tables.specs.Decode.{countOf}
 use Rattle.tables.specs.Layout.{regions}
 use Rattle.tables.specs.Shows.{timersOf, Of, ShowsAs, Shows}
 use Rattle.tables.specs.Items.{timers-shown}
-use Rattle.clock.specs.Held.{heldIn}
+use Rattle.clock.specs.Held.{heldIn, UprightIn}
 
 -- the timers' block went from w to w' as the ledger goes by f, whatever the tables and the slots are
 abbrev pub DoesTimers : Shape → (w w' : List ℕ) → (Config → Ledger → Ledger) → Type 0
@@ -60,13 +60,21 @@ module _ {tidy : Bool} (c : Config) (s : Shape) (L : Ledger) (d z w : List ℕ) 
   pub held-shown : map (timerLeft L) (L .timers) ≡ heldIn s w
   held-shown = h .shown .timers ∙ sym (held-of (h .of) w)
 
+  -- what is shown tidily has no more timers than there can be, in order
+  pub tidy-count : tidy ≡ true → getD w 0 0 ≤ s .timers
+  tidy-count q = omega (arith, h .shown .tidily q .timers .0, h .of .timers)
+
+  pub tidy-upright : tidy ≡ true → UprightIn w
+  tidy-upright q = h .shown .tidily q .timers .1
+
   -- other bytes, which hold the timers v
-  pub timers-stored : (w' : List ℕ) (v : List Timer) → length w' ≡ length w → map (timerLeft L) v ≡ heldIn s w' → getD w' 0 0 ≤ s .timers → ShowsAs tidy c s (setTimers v L) d z w'
-  timers-stored w' v e new few =
+  pub timers-stored : (w' : List ℕ) (v : List Timer) → length w' ≡ length w → map (timerLeft L) v ≡ heldIn s w' → getD w' 0 0 ≤ s .timers → (tidy ≡ true → UprightIn w')
+      → ShowsAs tidy c s (setTimers v L) d z w'
+  timers-stored w' v e new few neat =
       record {
         of = h .of;
         room = h .room;
         slots = h .slots;
         counted = omega (arith, h .counted);
-        shown = timers-shown c L (regions s d) z w (h .shown) w' v (new ∙ held-of (h .of) w') (λ q. omega (arith, h .of .timers));
+        shown = timers-shown c L (regions s d) z w (h .shown) w' v (new ∙ held-of (h .of) w') (λ q. (omega (arith, h .of .timers), neat q));
       }

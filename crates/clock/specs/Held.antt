@@ -1,5 +1,5 @@
 -- The block `timers`: a byte that counts the timers, and their rows behind it, lent as a part of the block: ten bytes of a clock, and ten for each timer.
-use mathlib.Core.Path.{_≡_, refl}
+use mathlib.Core.Path.{_≡_, refl, _∙_}
 use mathlib.Core.List.{List, [], _∷_, append-nil}
 use Prim.Native.Nat.{ℕ, suc, _+_, _-_, _*_, _≤_}
 use native.Mathlib.Omega.{arith}
@@ -10,7 +10,7 @@ use borrow.Rule.Slice.PartMut.{putMid}
 use Rattle.rows.specs.Splice.{cut}
 use Rattle.rows.specs.Laws.{length-cut}
 use Rattle.ledger.specs.Session.{TimerLeft}
-use Rattle.timers.specs.Timers.{timersIn}
+use Rattle.timers.specs.Timers.{timersIn, Upright}
 use Rattle.tables.specs.declared.shape.Shape.{Shape}
 use Rattle.tables.specs.Decode.{countOf}
 
@@ -35,6 +35,10 @@ still-holds (holding a b) e = holding (omega arith) b
 unfoldable pub heldIn : Shape → List ℕ → List TimerLeft
 heldIn s w = timersIn (countOf (s .timers) (getD w 0 0)) (drop 1 w)
 
+-- the rows of as many timers as the count says are in order
+abbrev pub UprightIn : List ℕ → Type 0
+UprightIn w = Upright (getD w 0 0) (drop 1 w)
+
 -- the part behind the count, which is lent, and the block when it is back
 part : (w : List ℕ) → cut w 1 (length w) ≡ drop 1 w
 part [] = refl
@@ -56,6 +60,13 @@ module _ (s : Shape) (w : List ℕ) (h : Holds s (length w)) (n : ℕ) (counts :
   unfolding heldIn
   lent = rw (part w, counts)
 
+  -- a count that is no more than there can be
+  counted-is : getD w 0 0 ≤ s .timers → n ≡ getD w 0 0
+  counted-is f = counts ∙ rw (le-leb (getD w 0 0) (s .timers) f)
+
+  pub lent-upright : getD w 0 0 ≤ s .timers → UprightIn w → Upright n (cut w 1 (length w))
+  lent-upright f u = rw (part w, counted-is f) u
+
   module _ (ys : List ℕ) where
     -- the part is other bytes, the count the same
     pub held-same : heldIn s (putMid 1 (length w - 1) w ys) ≡ timersIn n ys
@@ -66,3 +77,9 @@ module _ (s : Shape) (w : List ℕ) (h : Holds s (length w)) (n : ℕ) (counts :
     pub held-counted : (m : ℕ) → m ≤ s .timers → heldIn s (set (putMid 1 (length w - 1) w ys) 0 m) ≡ timersIn m ys
     unfolding heldIn
     held-counted m f = rw (back w ys (omega (arith, space h)), le-leb m (s .timers) f)
+
+    pub same-upright : getD w 0 0 ≤ s .timers → Upright n ys → UprightIn (putMid 1 (length w - 1) w ys)
+    same-upright f u = rw (back w ys (omega (arith, space h))) (rw (counted-is f) at u)
+
+    pub counted-upright : (m : ℕ) → Upright m ys → UprightIn (set (putMid 1 (length w - 1) w ys) 0 m)
+    counted-upright m u = rw (back w ys (omega (arith, space h))) u

@@ -19,7 +19,7 @@ use Rattle.tables.specs.declared.shape.Shape.{Shape}
 use Rattle.tables.specs.Layout.{Regions, regions}
 use Rattle.tables.specs.Shows.{ShowsAs, loosely, Does, Tells}
 use Rattle.tables.specs.Items.{withMessages, clock-shown}
-use Rattle.clock.specs.Held.{heldIn}
+use Rattle.clock.specs.Held.{heldIn, UprightIn}
 use Rattle.clock.specs.Does.{DoesTimers, TellsTimers, held-of, held-shown}
 
 -- the clock goes on by a tick, and no timer is worked off yet
@@ -47,10 +47,10 @@ drained-times (suc n) M l shown e =
     ∙ drained-times n (signal (nextDue M .semaphore) (takeDue M) .ledger) (takenDue l) (shown-signal (takeDue M) (shown-take M shown) (nextDue M .semaphore)) (omega (arith, one-fewer l (omega arith)))
 
 -- ---- a tock has passed for the timers of the block
-pub tock-does : {tidy : Bool} (c : Config) (s : Shape) (L : Ledger) (d z w w' : List ℕ) → ShowsAs tidy c s L d z w → length w' ≡ length w → heldIn s w' ≡ map tocked (heldIn s w) → getD w' 0 0 ≡ getD w 0 0
+pub tock-does : {tidy : Bool} (c : Config) (s : Shape) (L : Ledger) (d z w w' : List ℕ) → ShowsAs tidy c s L d z w → length w' ≡ length w → heldIn s w' ≡ map tocked (heldIn s w) → getD w' 0 0 ≡ getD w 0 0 → (tidy ≡ true → UprightIn w')
     → ShowsAs tidy c s (setClock (suc (L .N)) (L .ticks) L) d z w'
 unfolding setClock timerLeft withMessages
-tock-does c s L d z w w' h e new same =
+tock-does c s L d z w w' h e new same neat =
     let p : Regions = regions s d in
     record {
       of = h .of;
@@ -58,7 +58,7 @@ tock-does c s L d z w w' h e new same =
       slots = h .slots;
       counted = omega (arith, h .counted);
       shown = clock-shown c L p z w (h .shown) (p .clock) w' (suc (L .N)) (L .ticks) refl (h .shown .ticks)
-          (shown-tock L (held-shown c s L d z w h) ∙ sym new ∙ held-of (h .of) w') (λ q. h .shown .tidily q .ticks) (λ q. subst (λ (x : ℕ). x ≤ c .R) (sym same) (h .shown .tidily q .timers));
+          (shown-tock L (held-shown c s L d z w h) ∙ sym new ∙ held-of (h .of) w') (λ q. h .shown .tidily q .ticks) (λ q. (subst (λ (x : ℕ). x ≤ c .R) (sym same) (h .shown .tidily q .timers .0), neat q));
     }
 
 -- ---- both ways of a tick, from what is known of the tables and of the timers' block

@@ -13,7 +13,8 @@ use Rattle.rows.specs.Rows.{rowAt, getD-row, length-row, drop-elems}
 use Rattle.rows.specs.Tab.{tab, tab-ext, tab-of, map-tab}
 use Rattle.messages.specs.Pending.{addressed, pendingIn, mailboxesOf}
 use Rattle.messages.specs.Mailboxes.{mailboxes-none}
-use Rattle.timers.specs.Records.{none-in}
+use Rattle.timers.specs.Timers.{Upright}
+use Rattle.timers.specs.Records.{none-in, none-upright}
 use Rattle.ledger.specs.Lists.{all}
 use Rattle.ledger.specs.Config.{Config}
 use Rattle.ledger.specs.Ledger as ledger
@@ -211,7 +212,7 @@ module _ (c : Config) (s : Shape) (o : Of c s) (d z w : List ℕ)
               in-rings (i * 2) (omega (arith, o .queues)) ∙ sym (mod-eq-of-lt (o .depths (suc i) (omega arith) (omega arith) .0)) ∙ ap (λ (n : ℕ). n % shape c (suc i) .depth) (sym e)),
           λ i h. omega (arith, in-rings (i * 2 + 1) (omega (arith, o .queues))),
         );
-        timers = omega (arith, none);
+        timers = (omega (arith, none), subst (λ (n : ℕ). Upright n (drop 1 w)) (sym none) (none-upright (drop 1 w)));
       }
 
   fresh-shown : {tidy : Bool} → s .end ≤ length d → Shown tidy c (fresh c) p z w

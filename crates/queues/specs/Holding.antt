@@ -108,11 +108,11 @@ module _ {tidy : Bool} (c : Config) (s : Shape) (o : Of c s) (L : Ledger) (p : R
   rings-as r b v head count same q =
       let o = h .tidily q .rings in (
         (λ j l. case (eqb j i)
-        (λ g. subst (λ (k : ℕ). getD r (k * 2) 0 ≡ queue (setQueue (suc i) v L) (suc k) .taken % shape c (suc k) .depth) (sym (eqb-true j i g)) (head q ∙ ap (λ (x : Queue). x .taken % deep) (sym (queue-new v))))
-        (λ g. let ne = eqb-false j i g in same j l ne .0 ∙ o .0 j l ∙ ap (λ (x : Queue). x .taken % shape c (suc j) .depth) (sym (queue-old v j ne)))),
+            (λ g. subst (λ (k : ℕ). getD r (k * 2) 0 ≡ queue (setQueue (suc i) v L) (suc k) .taken % shape c (suc k) .depth) (sym (eqb-true j i g)) (head q ∙ ap (λ (x : Queue). x .taken % deep) (sym (queue-new v))))
+            (λ g. let ne = eqb-false j i g in same j l ne .0 ∙ o .0 j l ∙ ap (λ (x : Queue). x .taken % shape c (suc j) .depth) (sym (queue-old v j ne)))),
         (λ j l. case (eqb j i)
-        (λ g. subst (λ (k : ℕ). getD r (k * 2 + 1) 0 ≤ shape c (suc k) .depth) (sym (eqb-true j i g)) count)
-        (λ g. omega (arith, same j l (eqb-false j i g) .1, o .1 j l))),
+            (λ g. subst (λ (k : ℕ). getD r (k * 2 + 1) 0 ≤ shape c (suc k) .depth) (sym (eqb-true j i g)) count)
+            (λ g. omega (arith, same j l (eqb-false j i g) .1, o .1 j l))),
       )
 
   -- where a tidy ring begins

@@ -117,7 +117,7 @@ module _ {tidy : Bool} (c : Config) (s : Shape) (L : Ledger) (d z w : List ℕ) 
         let i : ℕ = t - 1 in (
           y .0,
           λ j l. y .1 j l ∙ as-long (recordOf (c .Q) (blocksAt (p .blocks) j) (rowAt 6 j (p .records))) (rowAt 16 j (p .waiting)) (rowAt 16 j z) (rowAt 16 j stored)
-          (length-row 16 j z (omega (arith, h .slots, row-fits 16 j (s .tasks) (omega (arith, h .of .tasks)))) ∙ sym (length-row 16 j stored (omega (arith, h .slots, stored-length, row-fits 16 j (s .tasks) (omega (arith, h .of .tasks)))))),
+              (length-row 16 j z (omega (arith, h .slots, row-fits 16 j (s .tasks) (omega (arith, h .of .tasks)))) ∙ sym (length-row 16 j stored (omega (arith, h .slots, stored-length, row-fits 16 j (s .tasks) (omega (arith, h .of .tasks)))))),
         ))
 
   -- what the store of an entry outcome does from bytes d₁ on

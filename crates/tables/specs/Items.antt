@@ -14,7 +14,7 @@ use Rattle.ledger.specs.Ledger.{Ledger, Task, Semaphore, Message, Queue, Timer,
 use Rattle.ledger.specs.Session.{timerLeft}
 use Rattle.tables.specs.Layout.{OneOf, Regions}
 use Rattle.tables.specs.Decode.{countOf, leftOf}
-use Rattle.tables.specs.Shows.{taskAt, tasksIn, semaphoreCount, semaphoreAt, semaphoresIn, heldAt, queuesIn, pendingOf, mailboxesIn, timersOf, ticksIn, TidyTasks, TidySemaphores, TidyMessages, TidyRings, Shown}
+use Rattle.tables.specs.Shows.{taskAt, tasksIn, semaphoreCount, semaphoreAt, semaphoresIn, heldAt, queuesIn, pendingOf, mailboxesIn, timersOf, ticksIn, TidyTasks, TidySemaphores, TidyMessages, TidyRings, TidyTimers, Shown}
 
 -- ---- regions of which some are new
 
@@ -133,9 +133,9 @@ module _ {tidy : Bool} (c : Config) (L : Ledger) (p : Regions) (z w : List ℕ) 
 
   -- ---- timers and the clock
 
-  pub timers-shown : (w' : List ℕ) (v : List Timer) → map (timerLeft L) v ≡ timersOf c w' → (tidy ≡ true → getD w' 0 0 ≤ c .R) → Shown tidy c (setTimers v L) p z w'
+  pub timers-shown : (w' : List ℕ) (v : List Timer) → map (timerLeft L) v ≡ timersOf c w' → (tidy ≡ true → TidyTimers c w') → Shown tidy c (setTimers v L) p z w'
   unfolding setTimers queue timerLeft
-  timers-shown w' v new few =
+  timers-shown w' v new neat =
       record {
         ticks = h .ticks;
         tasks = h .tasks;
@@ -144,14 +144,14 @@ module _ {tidy : Bool} (c : Config) (L : Ledger) (p : Regions) (z w : List ℕ) 
         queues = h .queues;
         taken = h .taken;
         timers = new;
-        tidily = λ q. let o = h .tidily q in record { ticks = o .ticks; messages = o .messages; tasks = o .tasks; semaphores = o .semaphores; rings = o .rings; timers = few q };
+        tidily = λ q. let o = h .tidily q in record { ticks = o .ticks; messages = o .messages; tasks = o .tasks; semaphores = o .semaphores; rings = o .rings; timers = neat q };
       }
 
   pub clock-shown : (k w' : List ℕ) (N ticks : ℕ) → getD k 1 0 ≡ getD (p .clock) 1 0 → ticks ≡ ticksIn c (withMessages k (p .messages) p)
-      → map (timerLeft (setClock N ticks L)) (L .timers) ≡ timersOf c w' → (tidy ≡ true → OneOf (c .K) (getD k 0 0)) → (tidy ≡ true → getD w' 0 0 ≤ c .R)
+      → map (timerLeft (setClock N ticks L)) (L .timers) ≡ timersOf c w' → (tidy ≡ true → OneOf (c .K) (getD k 0 0)) → (tidy ≡ true → TidyTimers c w')
       → Shown tidy c (setClock N ticks L) (withMessages k (p .messages) p) z w'
   unfolding setClock tasksIn taskAt semaphoresIn semaphoreAt queuesIn heldAt pendingOf mailboxesIn queue timerLeft withMessages
-  clock-shown k w' N ticks same new left one few =
+  clock-shown k w' N ticks same new left one neat =
       let e : pendingIn (c .T) (countOf (c .G) (getD (p .clock) 1 0)) (p .messages) ≡ pendingIn (c .T) (countOf (c .G) (getD k 1 0)) (p .messages) = ap (λ (n : ℕ). pendingIn (c .T) (countOf (c .G) n) (p .messages)) (sym same) in
       record {
         ticks = new;
@@ -161,5 +161,5 @@ module _ {tidy : Bool} (c : Config) (L : Ledger) (p : Regions) (z w : List ℕ) 
         queues = h .queues;
         taken = h .taken;
         timers = left;
-        tidily = λ q. let o = h .tidily q in record { ticks = one q; messages = subst (λ (n : ℕ). (n ≤ c .G) × (addressed (c .T) n (p .messages) ≡ true)) (sym same) (o .messages); tasks = o .tasks; semaphores = o .semaphores; rings = o .rings; timers = few q };
+        tidily = λ q. let o = h .tidily q in record { ticks = one q; messages = subst (λ (n : ℕ). (n ≤ c .G) × (addressed (c .T) n (p .messages) ≡ true)) (sym same) (o .messages); tasks = o .tasks; semaphores = o .semaphores; rings = o .rings; timers = neat q };
       }

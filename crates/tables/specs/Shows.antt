@@ -10,7 +10,7 @@ use Rattle.rows.specs.Rows.{rowAt}
 use Rattle.rows.specs.Tab.{tab}
 use Rattle.rings.specs.Ring.{holds}
 use Rattle.messages.specs.Pending.{Pending, addressed, pendingIn, mailboxesOf}
-use Rattle.timers.specs.Timers.{timersIn}
+use Rattle.timers.specs.Timers.{timersIn, Upright}
 use Rattle.tables.specs.declared.shape.Shape.{Shape}
 use Rattle.tables.specs.declared.blocks.Block.{Block}
 use Rattle.tables.specs.declared.blocks.Blocks.{Blocks}
@@ -95,15 +95,19 @@ abbrev pub TidyRings : Config → Ledger → Regions → Type 0
 TidyRings c L p =
     ((i : ℕ) → i < c .Q → getD (p .rings) (i * 2) 0 ≡ queue L (suc i) .taken % shape c (suc i) .depth) × ((i : ℕ) → i < c .Q → getD (p .rings) (i * 2 + 1) 0 ≤ shape c (suc i) .depth)
 
--- What stays free: the bytes of no enqueue that waits, of no entry that a ring holds, of no message and of no timer; and which record a message lies
--- in, and on which clock the timers are due, which is link order
+-- no more than there can be, in order of the times at which they are due
+abbrev pub TidyTimers : Config → (w : List ℕ) → Type 0
+TidyTimers c w = (getD w 0 0 ≤ c .R) × Upright (getD w 0 0) (drop 1 w)
+
+-- What stays free: the bytes of no enqueue that waits, of no entry that a ring holds, of no message and of no timer (the rows behind the number);
+-- which record a message lies in, which is link order; and the ten bytes of the timers' clock, so at which time it begins
 pub record Tidy (c : Config) (L : Ledger) (p : Regions) (z w : List ℕ) : Type 0 where
   pub ticks : OneOf (c .K) (getD (p .clock) 0 0)
   pub messages : TidyMessages c p
   pub tasks : TidyTasks c p z
   pub semaphores : TidySemaphores c p
   pub rings : TidyRings c L p
-  pub timers : getD w 0 0 ≤ c .R
+  pub timers : TidyTimers c w
 
 -- ---- the ledger L is shown: every item that demand 3 compares. Its history and N are what the memory can't show.
 pub record Shown (tidy : Bool) (c : Config) (L : Ledger) (p : Regions) (z w : List ℕ) : Type 0 where

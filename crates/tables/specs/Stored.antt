@@ -110,11 +110,11 @@ module _ {tidy : Bool} (c : Config) (s : Shape) (L : Ledger) (d z w : List ℕ) 
       let o = h .shown .tidily q .tasks in (
         o .0,
         λ j l. case (eqb j (t - 1))
-        (λ g. subst (λ (i : ℕ). rowAt 6 i r ≡ recordAs (viewTask c (recordOf (c .Q) (blocksAt (here .blocks) i) (rowAt 6 i r)) (rowAt 16 i e) (rowAt 16 i z'))) (sym (eqb-true j (t - 1) g)) new)
-        (λ g.
-        let ne = eqb-false j (t - 1) g in
-        let b : j < s .tasks = omega (arith, h .of .tasks) in
-        or j b ne ∙ o .1 j l ∙ (λ x. recordAs (viewTask c (recordOf (c .Q) (blocksAt (here .blocks) j) (sym (or j b ne) x)) (sym (oe j b ne) x) (sym (oz j b ne) x)))),
+            (λ g. subst (λ (i : ℕ). rowAt 6 i r ≡ recordAs (viewTask c (recordOf (c .Q) (blocksAt (here .blocks) i) (rowAt 6 i r)) (rowAt 16 i e) (rowAt 16 i z'))) (sym (eqb-true j (t - 1) g)) new)
+            (λ g.
+            let ne = eqb-false j (t - 1) g in
+            let b : j < s .tasks = omega (arith, h .of .tasks) in
+            or j b ne ∙ o .1 j l ∙ (λ x. recordAs (viewTask c (recordOf (c .Q) (blocksAt (here .blocks) j) (sym (or j b ne) x)) (sym (oe j b ne) x) (sym (oz j b ne) x)))),
       )
 
   pub rows-shown : (r e z' : List ℕ) → Only 6 (here .records) r → Only 16 (here .waiting) e → Only 16 z z' → (tidy ≡ true → Neat r e z')

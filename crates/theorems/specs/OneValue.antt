@@ -3,14 +3,15 @@
 use Prim.Native.Nat.{ℕ, zero, suc, _+_, _-_, _*_, _%_, _<_, _≤_}
 use mathlib.Core.Path.{_≡_, refl, sym, ap, _∙_}
 use mathlib.Core.Bool.{Bool, true, false}
-use mathlib.Core.List.{List, [], _∷_}
+use mathlib.Core.List.{List, [], _∷_, map}
 use native.Mathlib.Nat.{add-zero, mod-lt}
 use native.Mathlib.Omega.{arith}
 use lib.Dec.{ltb}
 use borrow.Author.Tests.{le-leb, ne-eqb, lt-ltb, ltb-true, ltb-false}
-use lib.ListN.{length, getD, length-map}
+use lib.ListN.{length, getD, drop, length-map, List·getD-map}
 use Rattle.rows.specs.Splice.{cut}
 use Rattle.rows.specs.Rows.{rowAt}
+use Rattle.rows.specs.Four.{le4}
 use Rattle.rows.specs.Tab.{tab-get, tab-length}
 use Rattle.rings.specs.Ring.{wrapOf, gather}
 use Rattle.rings.specs.Laws.{holds-length}
@@ -18,8 +19,13 @@ use Rattle.ledger.specs.Config.{Config, configIn, configRefusal}
 use Rattle.ledger.specs.Ledger as ledger
 use Rattle.ledger.specs.Ledger.{Ledger, queue, held}
 use Rattle.ledger.specs.Services.{shape}
-use Rattle.ledger.specs.Session.{timerLeft, run}
+use Rattle.ledger.specs.Session.{TimerLeft, timerLeft, run}
+use Rattle.ledger.specs.Theorems.Parts.{Every, nil, cons}
+use Rattle.ledger.specs.Theorems.Sound.{Bytes, sound}
+use Rattle.ledger.specs.Theorems.Sound.Timers.{SoundTimer}
 use Rattle.messages.specs.Lying.{lying}
+use Rattle.timers.specs.Timers.{timer, leftAt, recordAt, timersIn, noTimer, noEntry}
+use Rattle.timers.specs.Records.{row-upright}
 use Rattle.timers.specs.Loops.{length-timers}
 use Rattle.tables.specs.declared.shape.Shape.{Shape}
 use Rattle.tables.specs.declared.blocks.Block.{Block}
@@ -53,6 +59,16 @@ placeAt c p i k =
     let s = shape c (suc i) in
     rowAt (s .width) (wrapOf (s .depth) (getD (p .rings) (i * 2) 0 + k)) (cut (p .bodies) (begins c i) (begins c i + s .depth * s .width))
 
+-- timer k of the ledger, and the record of its row in the timers' block; the time of the clock there
+abbrev timerOf : Ledger → ℕ → ledger.Timer
+timerOf L k = getD (L .timers) k noEntry
+
+abbrev timerAt : (w : List ℕ) → ℕ → ledger.Timer
+timerAt w k = recordAt (drop 1 w) k
+
+abbrev timeIn : (w : List ℕ) → ℕ
+timeIn w = le4 (drop 1 w) 2
+
 -- the bytes of the tables' regions p, of the slots z and of the timers' block w, by the ledger. A plane's bytes bit by bit
 pub record OneValue (c : Config) (L : Ledger) (p : Regions) (z w : List ℕ) : Type 0 where
   -- the ticks left in the tock, and the number of messages
@@ -68,6 +84,9 @@ pub record OneValue (c : Config) (L : Ledger) (p : Regions) (z w : List ℕ) : T
   pub slots : (i : ℕ) → i < c .T → rowAt 16 i z ≡ taskOf L i .slot
   -- the number of timers
   pub timers : getD w 0 0 ≡ length (L .timers)
+  -- each in its row, in order. It is due at the clock's time and the tocks left, where some are left
+  pub rows : (k : ℕ) → k < length (L .timers) → (timerAt w k .task ≡ timerOf L k .task) × (timerAt w k .semaphore ≡ timerOf L k .semaphore) × (timerAt w k .period ≡ timerOf L k .period)
+  pub due : (k : ℕ) → k < length (L .timers) → L .N < timerOf L k .due → timerAt w k .due ≡ timeIn w + (timerOf L k .due - L .N)
 
 gather-at : {A : Type 0} (f : ℕ → A) (i n k : ℕ) (v : A) → k < n → getD (gather f i n) k v ≡ f (i + k)
 gather-at f i zero k v h = absurd (omega arith)
@@ -165,12 +184,35 @@ module _ (c : Config) (s : Shape) (L : Ledger) (d z w : List ℕ) (h : ShowsAs t
         ∙ gather-at f (headOf deep (getD (p .rings) (i * 2) 0)) (countOf deep (getD (p .rings) (i * 2 + 1) 0)) k [] (omega (arith, count-is, count-are))
         ∙ ap (λ (x : ℕ). f (x + k)) head-is)
 
+  number-is : countOf (c .R) (getD w 0 0) ≡ getD w 0 0
+  number-is = rw (le-leb (getD w 0 0) (c .R) (h .shown .tidily refl .timers .0))
+
   timers-are : getD w 0 0 ≡ length (L .timers)
   unfolding timersOf
   timers-are =
-      let x : ℕ = getD w 0 0 in
-      let n : countOf (c .R) x ≡ x = rw (le-leb x (c .R) (h .shown .tidily refl .timers)) in
-      sym (sym (length-map (L .timers) (timerLeft L)) ∙ ap length (h .shown .timers) ∙ length-timers (countOf (c .R) x) _ ∙ n)
+      sym (sym (length-map (L .timers) (timerLeft L)) ∙ ap length (h .shown .timers) ∙ length-timers (countOf (c .R) (getD w 0 0)) _ ∙ number-is)
+
+  timer-are : (k : ℕ) → k < length (L .timers) → timerLeft L (timerOf L k) ≡ leftAt (timerAt w k .due - timeIn w) (timerAt w k)
+  unfolding timersOf timerLeft
+  timer-are k l =
+      let z : 0 - L .N ≡ 0 = omega arith in
+      sym (List·getD-map (timerLeft L) (L .timers) k noEntry)
+      ∙ ap (λ (x : ℕ). getD (map (timerLeft L) (L .timers)) k (timer 0 0 x 0)) z
+      ∙ ap (λ (x : List TimerLeft). getD x k noTimer) (h .shown .timers)
+      ∙ ap (λ (n : ℕ). getD (timersIn n (drop 1 w)) k noTimer) number-is
+      ∙ row-upright (getD w 0 0) k (drop 1 w) (h .shown .tidily refl .timers .1) (omega (arith, timers-are))
+
+  row-are : (k : ℕ) → k < length (L .timers) → (timerAt w k .task ≡ timerOf L k .task) × (timerAt w k .semaphore ≡ timerOf L k .semaphore) × (timerAt w k .period ≡ timerOf L k .period)
+  unfolding timerLeft
+  row-are k l =
+      let e = timer-are k l in
+      (sym (ap (λ (t : TimerLeft). t .task) e), sym (ap (λ (t : TimerLeft). t .semaphore) e), sym (ap (λ (t : TimerLeft). t .period) e))
+
+  due-are : (k : ℕ) → k < length (L .timers) → L .N < timerOf L k .due → timerAt w k .due ≡ timeIn w + (timerOf L k .due - L .N)
+  unfolding timerLeft
+  due-are k l later =
+      let e : timerOf L k .due - L .N ≡ timerAt w k .due - timeIn w = ap (λ (t : TimerLeft). t .left) (timer-are k l) in
+      omega arith
 
   pub values : OneValue c L p z w
   values =
@@ -185,6 +227,8 @@ module _ (c : Config) (s : Shape) (L : Ledger) (d z w : List ℕ) (h : ShowsAs t
         entries = entry-are;
         slots = λ i l. slot-are i ∙ ap (λ (t : ledger.Task). t .slot) (sym (task-are i l));
         timers = timers-are;
+        rows = row-are;
+        due = due-are;
       }
 
 -- ---- of a memory, and of two
@@ -204,3 +248,19 @@ pub both-valued : {g : List ℕ} {m₀ m₁ m₂ m m' : Memory} {r₁ r₂ : ℕ
 both-valued {g} {m = m} {m' = m'} {fs = fs} h full s₁ more₁ s₂ more₂ =
     let c = configIn g in
     (one-value c (run c fs .0) m (every-list h full s₁ more₁ .tidy), one-value c (run c fs .0) m' (every-list h full s₂ more₂ .tidy))
+
+-- ---- frames of bytes: each timer is due after N, so some tocks are left
+
+every-at : {A : Type 0} {P : A → Type 0} {l : List A} → Every P l → (k : ℕ) (v : A) → k < length l → P (getD l k v)
+every-at nil k v h = absurd (omega arith)
+every-at (cons p ps) zero v h = p
+every-at (cons p ps) (suc k) v h = every-at ps k v (omega arith)
+
+pub due-valued : {g : List ℕ} {m₀ m₁ m : Memory} {r : ℕ} {fs answered : List (List ℕ)} {returned : List ℕ}
+    → configRefusal g ≡ 0 → fullSize m₀ ≡ true → Configures g m₀ m₁ r → FrameCalls m₁ fs answered returned m → Every Bytes fs
+    → let c = configIn g in let l = run c fs .0 in let w = timersPart c m in (k : ℕ) → k < length (l .timers) → timerAt w k .due ≡ timeIn w + (timerOf l k .due - l .N)
+unfolding Valued
+due-valued {g} {m = m} {fs = fs} h full s more bytes k i =
+    let c = configIn g in
+    let l = run c fs .0 in
+    one-value c l m (every-list h full s more .tidy) .due k i (every-at (sound g h bytes .timers .each) k noEntry i .later)

@@ -10,15 +10,19 @@ use Rattle.ledger.specs.Ledger.{Timer}
 use Rattle.rows.specs.Splice.{splice}
 use Rattle.rows.specs.Rows.{rowsOf, insertAt, removeAt}
 use Rattle.rows.specs.Four.{le4, bytes4}
-use Rattle.timers.specs.Timers.{timer, entry, untilDue, shownBy, recordsIn, recordAt, timersIn, tocksLeft, noEntry, dueAt, settledBy, handedOn, Keeps, allFrom, reached, Leaves, Lowered}
+use Rattle.timers.specs.Timers.{timer, entry, untilDue, shownBy, recordsIn, recordAt, timersIn, tocksLeft, noEntry, dueAt, settledBy, handedOn, Keeps, allFrom, reached, Leaves, Lowered, upright, Upright, StaysUpright}
 use Rattle.timers.specs.Order.{from-fewer, from-settled}
 use Rattle.timers.specs.Reading.{shown-settled, shown-insert, shown-remove}
+use Rattle.timers.specs.Upright.{upright-lower, upright-settled, upright-insert, upright-remove, upright-handed}
 use Rattle.timers.specs.Records.{length-records, record-at, time-set, floor-set, record-removed}
 
 -- what is kept says what is meant
 pub kept-shown : (n : ℕ) (d : List ℕ) (time floor : ℕ) (l : List Timer) → Keeps n d time floor l → timersIn n d ≡ shownBy time floor l
 unfolding timersIn
 kept-shown n d time floor l k = ap₂ (λ (x y : ℕ). shownBy x y (recordsIn n d)) (k .0) (k .1) ∙ ap (shownBy time floor) (k .2)
+
+pub kept-upright : (n : ℕ) (d : List ℕ) (time floor : ℕ) (l : List Timer) → Keeps n d time floor l → upright floor l → Upright n d
+kept-upright n d time floor l k u = subst (upright (le4 d 6)) (sym (k .2)) (subst (λ (x : ℕ). upright x l) (sym (k .1)) u)
 
 -- ---- `time_before` sets the clock back
 
@@ -40,14 +44,23 @@ module _ (n time floor : ℕ) (d d₁ d₂ d₃ : List ℕ) (room : n * 10 + 10 
   pub back-time : 0 ≡ le4 d₃ 2
   back-time = sym (lowered .0 ∙ at-zero .0)
 
+  back-floor : floor ≡ le4 d 6
+  back-floor = f ∙ at-zero .1 ∙ settled .1
+
   pub back-same : timersIn n d₃ ≡ timersIn n d
   unfolding timersIn
   back-same =
-      let e : floor ≡ le4 d 6 = f ∙ at-zero .1 ∙ settled .1 in
       kept-shown n d₃ (le4 d₂ 2) (floor - time) (recordsIn n d₂) lowered
       ∙ ap₂ (λ (x : ℕ) (l : List Timer). shownBy x (floor - time) l) (at-zero .0) (at-zero .2 ∙ settled .2)
       ∙ shown-settled time 0 floor (floor - time) time 0 (back-at time floor) (recordsIn n d)
-      ∙ ap₂ (λ (x y : ℕ). shownBy x y (recordsIn n d)) t e
+      ∙ ap₂ (λ (x y : ℕ). shownBy x y (recordsIn n d)) t back-floor
+
+  pub back-upright : StaysUpright n d n d₃
+  back-upright u =
+      let l : List Timer = map (settledBy time 0) (recordsIn n d) in
+      let e : untilDue time 0 (le4 d 6) ≡ floor - time = omega (arith, back-floor) in
+      kept-upright n d₃ (le4 d₂ 2) (floor - time) l (lowered .0, lowered .1, lowered .2 ∙ at-zero .2 ∙ settled .2)
+      (subst (λ (x : ℕ). upright x l) e (upright-settled time 0 (le4 d 6) (recordsIn n d) u))
 
 -- ---- `lower`
 
@@ -72,6 +85,13 @@ module _ (n due floor : ℕ) (d d₁ d₂ : List ℕ) (room : n * 10 + 10 ≤ le
             ∙ ap (λ (y : ℕ). shownBy (le4 d 2) y l) f,
       )
 
+  pub lower-upright : StaysUpright n d n d₂
+  lower-upright u =
+      let m : List Timer = map (settledBy 0 floor) (recordsIn n d) in
+      let k = floor-set n d₁ room due fits d₂ stored in
+      kept-upright n d₂ (le4 d₁ 2) due m (k .0, k .1, k .2 ∙ settled .2)
+      (upright-lower (untilDue 0 floor (le4 d 6)) due m (upright-settled 0 floor (le4 d 6) (recordsIn n d) u) (omega (arith, before)))
+
 -- ---- `insert`
 
 pub insert-done : (n at t s left p time due : ℕ) (d d₁ d₂ : List ℕ) → timersIn n d₁ ≡ timersIn n d → time ≡ le4 d₁ 2 → due ≡ time + left → le4 d₁ 6 ≤ due
@@ -83,6 +103,12 @@ insert-done n at t s left p time due d d₁ d₂ same et ed low h r a k =
     kept-shown (n + 1) d₂ (le4 d₁ 2) (le4 d₁ 6) (insertAt at (entry t s due p) (recordsIn n d₁)) k
     ∙ shown-insert (le4 d₁ 2) (le4 d₁ 6) left due (omega arith) low t s p at (recordsIn n d₁) (rw length-records h) r a
     ∙ ap (insertBy tocksLeft (timer t s left p)) same
+
+pub insert-upright : (n at t s p due : ℕ) (d₁ d₂ : List ℕ) → le4 d₁ 6 ≤ due → at ≤ n → reached due at (recordsIn n d₁) → allFrom (suc due) (drop at (recordsIn n d₁))
+    → Leaves (n + 1) d₁ d₂ (insertAt at (entry t s due p) (recordsIn n d₁)) → StaysUpright n d₁ (n + 1) d₂
+insert-upright n at t s p due d₁ d₂ low h r a k u =
+    kept-upright (n + 1) d₂ (le4 d₁ 2) (le4 d₁ 6) (insertAt at (entry t s due p) (recordsIn n d₁)) k
+    (upright-insert (le4 d₁ 6) due t s p at (recordsIn n d₁) u low (rw length-records h) r a)
 
 -- ---- `hand_on` and `remove`
 
@@ -111,3 +137,11 @@ remove-done n k d d₁ d₂ h w e =
     let l : List Timer = removeAt k (handedOn k (recordsIn n d)) in
     kept-shown (n - 1) d₂ (le4 d 2) (le4 d 6) l (r .0 ∙ w .0, r .1 ∙ w .1, r .2 ∙ ap (removeAt k) (w .2))
     ∙ shown-remove (le4 d 2) (le4 d 6) k (recordsIn n d) (rw length-records h)
+
+pub remove-upright : (n k : ℕ) (d d₁ d₂ : List ℕ) → k < n → Leaves n d d₁ (handedOn k (recordsIn n d))
+    → rowsOf 10 (n + 1 - 1) d₂ ≡ removeAt (k + 1) (rowsOf 10 (n + 1) d₁) → StaysUpright n d (n - 1) d₂
+remove-upright n k d d₁ d₂ h w e u =
+    let r = record-removed n k d₁ d₂ (omega arith) e in
+    let l : List Timer = recordsIn n d in
+    kept-upright (n - 1) d₂ (le4 d 2) (le4 d 6) (removeAt k l) (r .0 ∙ w .0, r .1 ∙ w .1, r .2 ∙ ap (removeAt k) (w .2 ∙ upright-handed (le4 d 6) k l u (rw length-records h)))
+    (upright-remove (le4 d 6) k l u)

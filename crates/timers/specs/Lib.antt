@@ -4,6 +4,8 @@ pub mod Timers
 pub mod Order
 pub mod Reading
 pub mod Due
+-- Rows in order: each timer is due at its own row's time, and what keeps them so.
+pub mod Upright
 -- The bytes of the rows, and the loops and calls over them.
 pub mod Bytes
 pub mod Records

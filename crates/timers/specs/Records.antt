@@ -6,12 +6,14 @@ use native.Mathlib.Numerals.{add-one}
 use native.Mathlib.Omega.{arith}
 use lib.ListN.{length, getD, take, drop, set, length-map, List·getD-map}
 use Rattle.ledger.specs.Ledger.{Timer}
+use Rattle.ledger.specs.Session.{TimerLeft}
 use Rattle.rows.specs.Splice.{splice}
 use Rattle.rows.specs.Laws.{length-splice}
 use Rattle.rows.specs.Rows.{rowsOf, rowAt, rows-set, insertAt, removeAt, getD-rows, length-rows, map-set, map-insertAt, splice-row, length-row}
 use Rattle.rows.specs.First.{map-removeAt}
 use Rattle.rows.specs.Four.{le4, bytes4}
-use Rattle.timers.specs.Timers.{rowOf, entry, entryOf, recordsIn, recordAt, timersIn, shownBy, noEntry, dueAt, Keeps, Leaves}
+use Rattle.timers.specs.Timers.{rowOf, timer, entry, entryOf, leftAt, recordsIn, recordAt, timersIn, shownBy, noTimer, noEntry, dueAt, Keeps, Leaves, upright, Upright}
+use Rattle.timers.specs.Upright.{upright-shown}
 use Rattle.timers.specs.Bytes.{clockAt, clock-at, row-at, row-due, row-period, row-entry}
 
 pub length-records : (n : ℕ) (d : List ℕ) → length (recordsIn n d) ≡ n
@@ -121,3 +123,18 @@ record-replaced n k t s x p d d' row hx hp er e =
 pub none-in : (d : List ℕ) → timersIn 0 d ≡ []
 unfolding timersIn recordsIn shownBy
 none-in d = refl
+
+pub none-upright : (d : List ℕ) → Upright 0 d
+unfolding recordsIn upright
+none-upright d = tt
+
+-- of rows in order, each says when its own timer is due
+pub row-upright : (n k : ℕ) (d : List ℕ) → Upright n d → k < n → getD (timersIn n d) k noTimer ≡ leftAt (recordAt d k .due - le4 d 2) (recordAt d k)
+unfolding timersIn
+row-upright n k d u h =
+    let f : Timer → TimerLeft = λ t. leftAt (t .due - le4 d 2) t in
+    let z : 0 ≡ 0 - le4 d 2 = omega arith in
+    ap (λ (l : List TimerLeft). getD l k noTimer) (upright-shown (le4 d 2) (le4 d 6) (recordsIn n d) u)
+    ∙ ap (λ (x : ℕ). getD (map f (recordsIn n d)) k (timer 0 0 x 0)) z
+    ∙ List·getD-map f (recordsIn n d) k noEntry
+    ∙ ap f (record-at n k d h)

@@ -60,6 +60,18 @@ shownBy time floor (t ∷ ts) = leftAt (untilDue time floor (lowest (t .due) ts)
 unfoldable pub timersIn : ℕ → List ℕ → List TimerLeft
 timersIn n d = shownBy (le4 d 2) (le4 d 6) (recordsIn n d)
 
+-- ---- rows in order: none keeps a time before the floor, or before that of the one in front of it
+unfoldable pub upright : (floor : ℕ) → List Timer → Type 0
+upright floor [] = Unit {0}
+upright floor (t ∷ ts) = (floor ≤ t .due) × upright (t .due) ts
+
+abbrev pub Upright : ℕ → List ℕ → Type 0
+Upright n d = upright (le4 d 6) (recordsIn n d)
+
+-- from n rows in d to m rows in d'
+abbrev pub StaysUpright : (n : ℕ) (d : List ℕ) (m : ℕ) (d' : List ℕ) → Type 0
+StaysUpright n d m d' = Upright n d → Upright m d'
+
 -- ---- tests and changes of one timer
 
 abbrev pub tocksLeft : TimerLeft → ℕ

@@ -13,11 +13,12 @@ use Rattle.ledger.specs.Session.{TimerLeft}
 use Rattle.rows.specs.Splice.{splice}
 use Rattle.rows.specs.Rows.{removeAt, rowsOf, insertAt}
 use Rattle.rows.specs.Four.{le4, bytes4}
-use Rattle.timers.specs.Timers.{timer, leftAt, shownBy, recordsIn, recordAt, timersIn, tocksLeft, tocked, isDue, dueIn, firstDue, putAgain, takenDue, Keeps, allFrom, reached, rowOf, entry, handedOn, Placed}
+use Rattle.timers.specs.Timers.{timer, leftAt, shownBy, recordsIn, recordAt, timersIn, tocksLeft, tocked, isDue, dueIn, firstDue, putAgain, takenDue, Keeps, allFrom, reached, rowOf, entry, handedOn, Placed, StaysUpright}
 use Rattle.timers.specs.Reading.{shown-tock, shown-floor, shown-first, shown-insert, shown-remove}
 use Rattle.timers.specs.Due.{floor-none, due-count, due-some, due-first, due-rest, due-before}
 use Rattle.timers.specs.Records.{length-records, record-at, time-set, floor-set, record-replaced}
-use Rattle.timers.specs.Ends.{kept-shown}
+use Rattle.timers.specs.Upright.{upright-floor, upright-insert, upright-remove}
+use Rattle.timers.specs.Ends.{kept-shown, kept-upright}
 
 -- ---- `pass`
 
@@ -34,6 +35,9 @@ module _ (n time time' : ℕ) (d d₁ d₂ : List ℕ) (room : n * 10 + 10 ≤ l
       ∙ ap (λ (x : ℕ). shownBy x (le4 d₁ 6) (recordsIn n d₁)) e
       ∙ shown-tock (le4 d₁ 2) (le4 d₁ 6) (recordsIn n d₁)
       ∙ ap (map tocked) same
+
+  pub pass-upright : StaysUpright n d₁ n d₂
+  pass-upright u = kept-upright n d₂ time' (le4 d₁ 6) (recordsIn n d₁) later-on u
 
   -- before the floor
   pub pass-none : time' < le4 d₂ 6 → 0 ≡ dueIn (timersIn n d₂)
@@ -57,6 +61,12 @@ module _ (n time time' : ℕ) (d d₁ d₂ : List ℕ) (room : n * 10 + 10 ≤ l
       let e : timersIn n d₃ ≡ timersIn n d₂ =
       kept-shown n d₃ (le4 d₂ 2) first (recordsIn n d₂) k ∙ shown-floor (le4 d₂ 2) (le4 d₂ 6) first (recordsIn n d₂) (omega (arith, later-on .0)) a in
       (p .0, pass-some at first past p ∙ ap dueIn (sym e), e ∙ pass-tocks)
+
+-- the floor goes up to a time before which none is due
+pub quiet-upright : (n time at first : ℕ) (d d' : List ℕ) → n * 10 + 10 ≤ length d → at ≡ 0 → Placed n time d at first → first < 2 ^ 32 → d' ≡ splice d 6 (bytes4 first) → StaysUpright n d n d'
+quiet-upright n time at first d d' room z p small up u =
+    let a : allFrom first (recordsIn n d) = subst (λ (i : ℕ). allFrom first (drop i (recordsIn n d))) z (p .3) in
+    kept-upright n d' (le4 d 2) first (recordsIn n d) (floor-set n d room first small d' up) (upright-floor (le4 d 6) first (recordsIn n d) u a)
 
 -- ---- `put_again`
 
@@ -102,6 +112,15 @@ module _ (n left time due : ℕ) (d d₁ : List ℕ) (some : 0 < dueIn (timersIn
         → rowsOf 10 (n + 1) d₂ ≡ insertAt at row (removeAt 1 (rowsOf 10 (n + 1) d₁)) → timersIn n d₂ ≡ insertBy tocksLeft (timer a b left p) (removeAt 0 (timersIn n d))
     again-done zero h r from e = absurd (behind-now .1 from)
     again-done (suc k) h r from e = again-next k h r from e
+
+    pub again-upright : (at : ℕ) → at ≤ n → reached due at (recordsIn n d₁) → allFrom (suc due) (drop at (recordsIn n d₁))
+        → rowsOf 10 (n + 1) d₂ ≡ insertAt at row (removeAt 1 (rowsOf 10 (n + 1) d₁)) → StaysUpright n d₁ n d₂
+    again-upright zero h r from e u = absurd (behind-now .1 from)
+    again-upright (suc k) h r from e u =
+        let l : List Timer = recordsIn n d₁ in
+        let long : suc k ≤ length l = rw length-records h in
+        kept-upright n d₂ (le4 d₁ 2) (le4 d₁ 6) (insertAt k (entry a b due p) (removeAt 0 l)) (record-replaced n k a b due p d₁ d₂ row fits fits₂ made e)
+        (upright-insert (le4 d₁ 6) due a b p k (removeAt 0 l) (upright-remove (le4 d₁ 6) 0 l u) (behind-now .0) (rest-length due k l long) (rest-reached due k l r long) (rest-from due k l from long))
 
 -- ---- `take_due`
 

@@ -10,7 +10,7 @@ ghost use lib.ListN.{length};
 ghost use Rattle.ledger.specs.Lists.{any, keep, insertBy};
 ghost use Rattle.rows.specs.Four.{le4};
 ghost use Rattle.rows.specs.Rows.{insertAt, removeAt};
-ghost use Rattle.timers.specs.Timers.{rowOf, timer, entry, leftAt, recordAt, recordsIn, timersIn, untilDue};
+ghost use Rattle.timers.specs.Timers.{rowOf, timer, entry, leftAt, recordAt, recordsIn, timersIn, untilDue, StaysUpright};
 ghost use Rattle.timers.specs.Timers.{tocksLeft, startedFor, stays, tocked, dueIn, firstDue, takenDue};
 ghost use Rattle.timers.specs.Timers.{Leaves, SetDue, settledBy, handedOn, Placed, Lowered, NextOut};
 
@@ -63,7 +63,8 @@ fn settle(b: &mut [u8], n: usize, floor: u32, back: u32)
 // The time. The clock is set back first where the time of something that many tocks away would not fit its four bytes.
 fn time_before(b: &mut [u8], n: usize, left: u32) -> u32
     requires { ⌜ n * 10 + 10 ≤ length (now b) ⌝ }
-    ensures { λ r. ⌜ (r ≡ le4 (now (b .exit)) 2) × (r + left < 2 ^ 32) × (timersIn n (now (b .exit)) ≡ timersIn n (now (b .entry))) ⌝ }
+    ensures means { λ r. ⌜ (r ≡ le4 (now (b .exit)) 2) × (r + left < 2 ^ 32) × (timersIn n (now (b .exit)) ≡ timersIn n (now (b .entry))) ⌝ }
+    ensures upright { λ _. ⌜ StaysUpright n (now (b .entry)) n (now (b .exit)) ⌝ }
 {
     let time = get4(b, 2);
     if left <= 4294967295 - time {
@@ -116,7 +117,8 @@ fn place(b: &[u8], n: usize, due: u32) -> Found
 // Lowers the floor to a time before it. No timer that was due at the floor is due earlier.
 fn lower(b: &mut [u8], n: usize, due: u32)
     requires { ⌜ (n * 10 + 10 ≤ length (now b)) × (due < le4 (now b) 6) ⌝ }
-    ensures { λ _. ⌜ Lowered n due (now (b .entry)) (now (b .exit)) ⌝ }
+    ensures means { λ _. ⌜ Lowered n due (now (b .entry)) (now (b .exit)) ⌝ }
+    ensures upright { λ _. ⌜ StaysUpright n (now (b .entry)) n (now (b .exit)) ⌝ }
 {
     let floor = get4(b, 6);
     settle(b, n, floor, 0);
@@ -147,7 +149,8 @@ fn put_in(b: &mut [u8], n: usize, at: usize, task: u8, semaphore: u8, due: u32, 
 // Puts a timer in behind those of n that are due no later.
 pub fn insert(b: &mut [u8], n: usize, task: u8, semaphore: u8, left: u32, period: u32)
     requires { ⌜ n * 10 + 20 ≤ length (now b) ⌝ }
-    ensures { λ _. ⌜ timersIn (n + 1) (now (b .exit)) ≡ insertBy tocksLeft (timer task semaphore left period) (timersIn n (now (b .entry))) ⌝ }
+    ensures means { λ _. ⌜ timersIn (n + 1) (now (b .exit)) ≡ insertBy tocksLeft (timer task semaphore left period) (timersIn n (now (b .entry))) ⌝ }
+    ensures upright { λ _. ⌜ StaysUpright n (now (b .entry)) (n + 1) (now (b .exit)) ⌝ }
 {
     let due = time_before(b, n, left) + left;
     if due < get4(b, 6) {
@@ -228,7 +231,8 @@ fn hand_on(b: &mut [u8], n: usize, k: usize)
 // Takes timer k of n out.
 fn remove(b: &mut [u8], n: usize, k: usize)
     requires { ⌜ (k < n) × (n * 10 + 10 ≤ length (now b)) ⌝ }
-    ensures { λ _. ⌜ timersIn (n - 1) (now (b .exit)) ≡ removeAt k (timersIn n (now (b .entry))) ⌝ }
+    ensures means { λ _. ⌜ timersIn (n - 1) (now (b .exit)) ≡ removeAt k (timersIn n (now (b .entry))) ⌝ }
+    ensures upright { λ _. ⌜ StaysUpright n (now (b .entry)) (n - 1) (now (b .exit)) ⌝ }
 {
     hand_on(b, n, k);
     rows::remove_at(b, n + 1, 10, k + 1);
@@ -237,7 +241,8 @@ fn remove(b: &mut [u8], n: usize, k: usize)
 // Takes out of n timers all of a task, or only those on a semaphore. Gives the number that is left.
 pub fn purge(b: &mut [u8], n: usize, task: u8, all: bool, semaphore: u8) -> usize
     requires { ⌜ n * 10 + 10 ≤ length (now b) ⌝ }
-    ensures { λ r. ⌜ (r ≤ n) × (timersIn r (now (b .exit)) ≡ keep (stays task all semaphore) (timersIn n (now (b .entry)))) ⌝ }
+    ensures means { λ r. ⌜ (r ≤ n) × (timersIn r (now (b .exit)) ≡ keep (stays task all semaphore) (timersIn n (now (b .entry)))) ⌝ }
+    ensures upright { λ r. ⌜ StaysUpright n (now (b .entry)) r (now (b .exit)) ⌝ }
 {
     let mut m = n;
     let mut k = next_out(b, n, 0, task, all, semaphore);
@@ -253,7 +258,8 @@ pub fn purge(b: &mut [u8], n: usize, task: u8, all: bool, semaphore: u8) -> usiz
 // Before the floor none is due. From the floor on the timers are looked at, and where none is due, the floor goes up.
 pub fn pass(b: &mut [u8], n: usize) -> usize
     requires { ⌜ n * 10 + 10 ≤ length (now b) ⌝ }
-    ensures { λ r. ⌜ (r ≤ n) × (r ≡ dueIn (timersIn n (now (b .exit)))) × (timersIn n (now (b .exit)) ≡ map tocked (timersIn n (now (b .entry)))) ⌝ }
+    ensures means { λ r. ⌜ (r ≤ n) × (r ≡ dueIn (timersIn n (now (b .exit)))) × (timersIn n (now (b .exit)) ≡ map tocked (timersIn n (now (b .entry)))) ⌝ }
+    ensures upright { λ _. ⌜ StaysUpright n (now (b .entry)) n (now (b .exit)) ⌝ }
 {
     let time = time_before(b, n, 1) + 1;
     put4(b, 2, time);
@@ -276,7 +282,8 @@ pub struct Due {
 // Puts the first of n timers, which is due, in again with its period left. Only the timers before its new place are moved.
 fn put_again(b: &mut [u8], n: usize, task: u8, semaphore: u8, period: u32)
     requires { ⌜ (n * 10 + 10 ≤ length (now b)) × (0 < dueIn (timersIn n (now b))) ⌝ }
-    ensures { λ _. ⌜ timersIn n (now (b .exit)) ≡ insertBy tocksLeft (timer task semaphore period period) (removeAt 0 (timersIn n (now (b .entry)))) ⌝ }
+    ensures means { λ _. ⌜ timersIn n (now (b .exit)) ≡ insertBy tocksLeft (timer task semaphore period period) (removeAt 0 (timersIn n (now (b .entry)))) ⌝ }
+    ensures upright { λ _. ⌜ StaysUpright n (now (b .entry)) n (now (b .exit)) ⌝ }
 {
     let due = time_before(b, n, period) + period;
     let at = place(b, n, due).at;
@@ -288,7 +295,8 @@ fn put_again(b: &mut [u8], n: usize, task: u8, semaphore: u8, period: u32)
 // Takes the first of n timers, which is due, out, and puts it in again if it is cyclic.
 pub fn take_due(b: &mut [u8], n: usize) -> Due
     requires { ⌜ (n * 10 + 10 ≤ length (now b)) × (0 < dueIn (timersIn n (now b))) ⌝ }
-    ensures { λ r. ⌜ (r .count ≤ n) × (r .semaphore ≡ firstDue (timersIn n (now (b .entry))) .semaphore) × (timersIn (r .count) (now (b .exit)) ≡ takenDue (timersIn n (now (b .entry)))) ⌝ }
+    ensures means { λ r. ⌜ (r .count ≤ n) × (r .semaphore ≡ firstDue (timersIn n (now (b .entry))) .semaphore) × (timersIn (r .count) (now (b .exit)) ≡ takenDue (timersIn n (now (b .entry)))) ⌝ }
+    ensures upright { λ r. ⌜ StaysUpright n (now (b .entry)) (r .count) (now (b .exit)) ⌝ }
 {
     let task = b[10];
     let semaphore = b[11];

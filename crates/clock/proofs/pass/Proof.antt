@@ -31,7 +31,7 @@ returns c =
     let n = c .before .before .before .before .count in
     let p = c .before .before .pass in
     let k = c .before .timers .given .1 in
-    (omega (arith, p .ensures .0, n .ensures .0), pass-due (s .args .shape) (now (s .args .timers)) (s .pre) (n .result) (n .ensures .1) (p .last .0) k (p .result) (p .ensures .1), pass-does (s .args .shape) (now (s .args .timers)) (s .pre) (n .result) (n .ensures .1) (p .last .0) k (p .ensures .2))
+    (omega (arith, p .ensures .0 .0, n .ensures .0), pass-due (s .args .shape) (now (s .args .timers)) (s .pre) (n .result) (n .ensures .1) (p .last .0) k (p .result) (p .ensures .0 .1), pass-does (s .args .shape) (now (s .args .timers)) (s .pre) (n .result) (n .ensures .1) (p .last .0) k (p .ensures .0 .2) (p .ensures .1))
 
 pub pass-spec : {M : Type 1} → statement M
 pass-spec =

@@ -24,7 +24,7 @@ purge-requires c κs = let s = c .before .before .before .before in records-in (
 
 byte-requires : tie.Need-byte-requires
 byte-requires c κs =
-    omega (arith, c .before .before .purge .ensures .0, c .before .before .before .before .count .ensures .0, few (c .before .before .before .before .before .before .before .pre))
+    omega (arith, c .before .before .purge .ensures .0 .0, c .before .before .before .before .count .ensures .0, few (c .before .before .before .before .before .before .before .pre))
 
 slice-write-timers : tie.Need-slice-write-timers
 slice-write-timers c = omega (arith, c .before .before .timers .given .1, some-byte (c .before .before .before .before .before .before .before .before .pre))
@@ -38,7 +38,7 @@ returns c =
     let a = s .args in
     let n = c .before .before .before .before .before .count in
     let p = c .before .before .before .purge in
-    purge-does (a .shape) (now (a .timers)) (s .pre) (n .result) (n .ensures .1) (p .last .0) (c .before .before .timers .given .1) (p .result) (c .byte .result) (omega (arith, p .ensures .0, n .ensures .0)) (c .byte .ensures) (a .task) (a .all) (a .semaphore) (p .ensures .1)
+    purge-does (a .shape) (now (a .timers)) (s .pre) (n .result) (n .ensures .1) (p .last .0) (c .before .before .timers .given .1) (p .result) (c .byte .result) (omega (arith, p .ensures .0 .0, n .ensures .0)) (c .byte .ensures) (p .ensures .1) (a .task) (a .all) (a .semaphore) (p .ensures .0 .1)
 
 pub purge-spec : {M : Type 1} → statement M
 purge-spec =

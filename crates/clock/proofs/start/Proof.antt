@@ -54,7 +54,7 @@ returns-2 c =
     let a = s .args in
     let n = c .before .before .before .before .before .before .before .count in
     let i = c .before .before .before .insert in
-    λ v el ep tidy g L d z room h. start-does (a .shape) (now (a .timers)) (s .pre) (n .result) (n .ensures .1) (i .last .0) (c .before .before .timers .given .1) (n .result + 1) (c .byte .result) (omega (arith, c .before .before .before .before .before .if1 .left)) (c .byte .ensures) (a .task) (a .semaphore) (a .left) (a .period) (i .ensures) tidy g L d z v el ep h
+    λ v el ep tidy g L d z room h. start-does (a .shape) (now (a .timers)) (s .pre) (n .result) (n .ensures .1) (i .last .0) (c .before .before .timers .given .1) (n .result + 1) (c .byte .result) (omega (arith, c .before .before .before .before .before .if1 .left)) (c .byte .ensures) (i .ensures .1) (a .task) (a .semaphore) (a .left) (a .period) (i .ensures .0) tidy g L d z v el ep h
 
 pub start-spec : {M : Type 1} → statement M
 start-spec =

@@ -29,7 +29,7 @@ take-due-requires c κs =
 
 byte-requires : tie.Need-byte-requires
 byte-requires c κs =
-    omega (arith, c .before .before .take-due .ensures .0, c .before .before .before .before .count .ensures .0, few (c .before .before .before .before .before .before .before .pre .0))
+    omega (arith, c .before .before .take-due .ensures .0 .0, c .before .before .before .before .count .ensures .0, few (c .before .before .before .before .before .before .before .pre .0))
 
 slice-write-timers : tie.Need-slice-write-timers
 slice-write-timers c = omega (arith, c .before .before .timers .given .1, some-byte (c .before .before .before .before .before .before .before .before .pre .0))
@@ -46,11 +46,11 @@ returns c =
     let h = s .args .shape in
     let w = now (s .args .timers) in
     let f = p .result in
-    let u = p .ensures in (
-      due-fewer h w (s .pre .0) (n .result) (n .ensures .1) (p .last .0) k (f .count) (c .byte .result) (omega (arith, u .0, n .ensures .0)) (c .byte .ensures) (u .2) (s .pre .1),
+    let u = p .ensures .0 in (
+      due-fewer h w (s .pre .0) (n .result) (n .ensures .1) (p .last .0) k (f .count) (c .byte .result) (omega (arith, u .0, n .ensures .0)) (c .byte .ensures) (p .ensures .1) (u .2) (s .pre .1),
       (
         due-tells h w (s .pre .0) (n .result) (n .ensures .1) (f .semaphore) (u .1),
-        due-does h w (s .pre .0) (n .result) (n .ensures .1) (p .last .0) k (f .count) (c .byte .result) (omega (arith, u .0, n .ensures .0)) (c .byte .ensures) (u .2),
+        due-does h w (s .pre .0) (n .result) (n .ensures .1) (p .last .0) k (f .count) (c .byte .result) (omega (arith, u .0, n .ensures .0)) (c .byte .ensures) (p .ensures .1) (u .2),
       ),
     )
 

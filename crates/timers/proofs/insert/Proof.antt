@@ -1,9 +1,10 @@
 -- `insert`: before the floor the timer goes in first, else at the place that the search gave.
 use mathlib.Core.Path.{refl, sym, _∙_}
 use native.Mathlib.Omega.{arith}
-use Prim.Native.Nat.{_+_}
+use Prim.Native.Nat.{_+_, _≤_}
 use denote.Ref.{now}
-use Rattle.timers.specs.Ends.{insert-done}
+use Rattle.rows.specs.Four.{le4}
+use Rattle.timers.specs.Ends.{insert-done, insert-upright}
 use borrow.Author.Needs.{needs}
 use Rattle.timers.proofs.insert.Statement.{statement}
 use Rattle.timers.proofs.insert.Tie as tie
@@ -33,8 +34,11 @@ returns c =
     let t = c .before .before .before .before .before .before .before .before .before .before .before .before .before .time-before in
     let w = c .before .before .before .before .before .before .lower in
     let p = c .before .before .put-in in
-    insert-done (a .n) 0 (a .task) (a .semaphore) (a .left) (a .period) (t .result) (t .result + a .left) (now (a .b)) (w .last .0) (p .last .0) (w .ensures .3 ∙ t .ensures .2) (t .ensures .0 ∙ sym (w .ensures .0)) refl
-    (omega (arith, w .ensures .1)) (omega arith) tt (w .ensures .2) (p .ensures)
+    let low = w .ensures .0 in (
+      insert-done (a .n) 0 (a .task) (a .semaphore) (a .left) (a .period) (t .result) (t .result + a .left) (now (a .b)) (w .last .0) (p .last .0) (low .3 ∙ t .ensures .0 .2) (t .ensures .0 .0 ∙ sym (low .0)) refl
+          (omega (arith, low .1)) (omega arith) tt (low .2) (p .ensures),
+      λ u. insert-upright (a .n) 0 (a .task) (a .semaphore) (a .period) (t .result + a .left) (w .last .0) (p .last .0) (omega (arith, low .1)) (omega arith) tt (low .2) (p .ensures) (w .ensures .1 (t .ensures .1 u)),
+    )
 
 place-requires : tie.Need-place-requires
 place-requires c κs = search needs
@@ -52,8 +56,11 @@ returns-2 c =
     let t = c .before .before .before .before .before .before .before .before .before .before .before .time-before in
     let s = c .before .before .before .before .place in
     let p = c .before .before .put-in2 in
-    insert-done (a .n) (s .result .at) (a .task) (a .semaphore) (a .left) (a .period) (t .result) (t .result + a .left) (now (a .b)) (t .last .0) (p .last .0) (t .ensures .2) (t .ensures .0) refl
-    (omega (arith, c .before .before .before .before .before .before .if1 .left, c .before .before .before .before .before .before .before .get4 .ensures)) (s .ensures .0) (s .ensures .1) (s .ensures .2) (p .ensures)
+    let low : le4 (t .last .0) 6 ≤ t .result + a .left = omega (arith, c .before .before .before .before .before .before .if1 .left, c .before .before .before .before .before .before .before .get4 .ensures) in (
+      insert-done (a .n) (s .result .at) (a .task) (a .semaphore) (a .left) (a .period) (t .result) (t .result + a .left) (now (a .b)) (t .last .0) (p .last .0) (t .ensures .0 .2) (t .ensures .0 .0) refl
+          low (s .ensures .0) (s .ensures .1) (s .ensures .2) (p .ensures),
+      λ u. insert-upright (a .n) (s .result .at) (a .task) (a .semaphore) (a .period) (t .result + a .left) (t .last .0) (p .last .0) low (s .ensures .0) (s .ensures .1) (s .ensures .2) (p .ensures) (t .ensures .1 u),
+    )
 
 pub insert-spec : {M : Type 1} → statement M
 insert-spec =

@@ -6,13 +6,13 @@ use native.Mathlib.Omega.{arith}
 use lib.ListN.{length}
 use Rattle.ledger.specs.Lists.{keep}
 use Rattle.rows.specs.First.{keepFrom}
-use Rattle.timers.specs.Timers.{leftAt, recordAt, timersIn, stays}
+use Rattle.timers.specs.Timers.{leftAt, recordAt, timersIn, stays, StaysUpright}
 use Rattle.timers.specs.Loops.{purge-out, purge-end}
 use Rattle.timers.proofs.purge.Statement.{statement}
 use Rattle.timers.proofs.purge.Tie as tie
 
 abbrev Inv-loop : tie.InvT-loop
-Inv-loop b₀ n task all semaphore m₀ k₀ b m k = (k ≤ m) × (m ≤ n) × (length b ≡ length b₀) × (keepFrom (stays task all semaphore) k (timersIn m b) ≡ keep (stays task all semaphore) (timersIn n b₀)) × (k < m → stays task all semaphore (leftAt 0 (recordAt b k)) ≡ false)
+Inv-loop b₀ n task all semaphore m₀ k₀ b m k = (k ≤ m) × (m ≤ n) × (length b ≡ length b₀) × (keepFrom (stays task all semaphore) k (timersIn m b) ≡ keep (stays task all semaphore) (timersIn n b₀)) × (k < m → stays task all semaphore (leftAt 0 (recordAt b k)) ≡ false) × StaysUpright n b₀ m b
 
 abbrev μ-loop : tie.MeasureT-loop
 μ-loop b₀ n task all semaphore m₀ k₀ b m k = m
@@ -21,7 +21,7 @@ next-out-requires : tie.Need-next-out-requires Inv-loop μ-loop
 next-out-requires c κs = omega arith
 
 loop-holds : tie.Need-loop-holds Inv-loop μ-loop
-loop-holds c = let r = c .next-out .ensures in (r .0, omega arith, refl, r .1, r .2)
+loop-holds c = let r = c .next-out .ensures in (r .0, omega arith, refl, r .1, r .2, λ u. u)
 
 remove-requires : tie.Need-remove-requires Inv-loop μ-loop
 remove-requires c κs = (omega arith, omega arith)
@@ -42,7 +42,7 @@ loop-again c =
     let t = c .before .before .before .before .before .before .loop-test .taken in
     let r = c .next-out2 .ensures in
     let p = stays (z .args .task) (z .args .all) (z .args .semaphore) in
-    (r .0, omega arith, omega arith, r .1 ∙ purge-out p (λ x y u. refl) (l .m) (l .k) (l .b) _ (l .inv .3) (c .before .before .before .before .remove .last .0) t (l .inv .4 t) (c .before .before .before .before .remove .ensures), r .2)
+    (r .0, omega arith, omega arith, r .1 ∙ purge-out p (λ x y u. refl) (l .m) (l .k) (l .b) _ (l .inv .3) (c .before .before .before .before .remove .last .0) t (l .inv .4 t) (c .before .before .before .before .remove .ensures .0), r .2, λ u. c .before .before .before .before .remove .ensures .1 (l .inv .5 u))
 
 same-length : tie.Need-same-length Inv-loop μ-loop
 same-length c = omega arith
@@ -51,7 +51,7 @@ returns : tie.Need-returns Inv-loop μ-loop
 returns c =
     let z = c .before .before .before .before .before in
     let l = c .before .loop in
-    (omega arith, purge-end (stays (z .args .task) (z .args .all) (z .args .semaphore)) (λ x y u. refl) (l .m) (l .k) (l .b) _ (l .inv .3) (omega arith))
+    ((omega arith, purge-end (stays (z .args .task) (z .args .all) (z .args .semaphore)) (λ x y u. refl) (l .m) (l .k) (l .b) _ (l .inv .3) (omega arith)), l .inv .5)
 
 pub purge-spec : {M : Type 1} → statement M
 purge-spec =

@@ -3,7 +3,7 @@ use mathlib.Core.Path.{refl}
 use Prim.Native.Nat.{_+_}
 use native.Mathlib.Omega.{arith}
 use denote.Ref.{now}
-use Rattle.timers.specs.Tocks.{again-behind, again-done}
+use Rattle.timers.specs.Tocks.{again-behind, again-done, again-upright}
 use borrow.Author.Needs.{needs}
 use Rattle.timers.proofs.put_again.Statement.{statement}
 use Rattle.timers.proofs.put_again.Tie as tie
@@ -35,7 +35,7 @@ replace-at-requires c κs =
     let a = z .args in
     let t = c .before .before .before .before .before .before .before .before .before .time-before in
     let s = c .before .before .before .before .before .place in
-    (again-behind (a .n) (a .period) (t .result) (t .result + a .period) (now (a .b)) (t .last .0) (z .pre .1) (t .ensures .2) (t .ensures .0) refl (s .result .at) (s .ensures .2), omega (arith, s .ensures .0), omega arith, search needs)
+    (again-behind (a .n) (a .period) (t .result) (t .result + a .period) (now (a .b)) (t .last .0) (z .pre .1) (t .ensures .0 .2) (t .ensures .0 .0) refl (s .result .at) (s .ensures .2), omega (arith, s .ensures .0), omega arith, search needs)
 
 same-length : tie.Need-same-length
 same-length c = search needs
@@ -47,9 +47,12 @@ returns c =
     let t = c .before .before .before .before .before .before .before .before .before .before .before .before .time-before in
     let s = c .before .before .before .before .before .before .before .before .place in
     let r = c .before .before .before .before .before .before .write-row in
-    let m = c .before .before .replace-at in
-    again-done (a .n) (a .period) (t .result) (t .result + a .period) (now (a .b)) (t .last .0) (z .pre .1) (t .ensures .2) (t .ensures .0) refl
-    (a .task) (a .semaphore) (a .period) (m .last .0) (r .last .0) (t .ensures .1) (z .fits .period .fits) (r .ensures) (s .result .at) (s .ensures .0) (s .ensures .1) (s .ensures .2) (m .ensures)
+    let m = c .before .before .replace-at in (
+      again-done (a .n) (a .period) (t .result) (t .result + a .period) (now (a .b)) (t .last .0) (z .pre .1) (t .ensures .0 .2) (t .ensures .0 .0) refl
+          (a .task) (a .semaphore) (a .period) (m .last .0) (r .last .0) (t .ensures .0 .1) (z .fits .period .fits) (r .ensures) (s .result .at) (s .ensures .0) (s .ensures .1) (s .ensures .2) (m .ensures),
+      λ u. again-upright (a .n) (a .period) (t .result) (t .result + a .period) (now (a .b)) (t .last .0) (z .pre .1) (t .ensures .0 .2) (t .ensures .0 .0) refl
+          (a .task) (a .semaphore) (a .period) (m .last .0) (r .last .0) (t .ensures .0 .1) (z .fits .period .fits) (r .ensures) (s .result .at) (s .ensures .0) (s .ensures .1) (s .ensures .2) (m .ensures) (t .ensures .1 u),
+    )
 
 pub put-again-spec : {M : Type 1} → statement M
 put-again-spec =

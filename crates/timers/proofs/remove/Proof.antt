@@ -1,6 +1,6 @@
 -- `remove`: what the record says of those before it is handed on, then its row goes.
 use denote.Ref.{now}
-use Rattle.timers.specs.Ends.{remove-done}
+use Rattle.timers.specs.Ends.{remove-done, remove-upright}
 use borrow.Author.Needs.{needs}
 use Rattle.timers.proofs.remove.Statement.{statement}
 use Rattle.timers.proofs.remove.Tie as tie
@@ -23,7 +23,11 @@ same-length c = search needs
 returns : tie.Need-returns
 returns c =
     let z = c .before .before .before .before .before .before .before .before .before in
-    remove-done (z .args .n) (z .args .k) (now (z .args .b)) (c .before .before .before .before .before .before .hand-on .last .0) (c .before .before .remove-at .last .0) (z .pre .0) (c .before .before .before .before .before .before .hand-on .ensures) (c .before .before .remove-at .ensures)
+    let h = c .before .before .before .before .before .before .hand-on in
+    let r = c .before .before .remove-at in (
+      remove-done (z .args .n) (z .args .k) (now (z .args .b)) (h .last .0) (r .last .0) (z .pre .0) (h .ensures) (r .ensures),
+      remove-upright (z .args .n) (z .args .k) (now (z .args .b)) (h .last .0) (r .last .0) (z .pre .0) (h .ensures) (r .ensures),
+    )
 
 pub remove-spec : {M : Type 1} → statement M
 remove-spec =

@@ -30,7 +30,7 @@ returns c =
     let d = now (z .args .b) in
     let g = c .before .before .before .before .before .get4 in
     let r = c .before .before .remove in
-    (omega arith, first-semaphore (z .args .n) d (z .pre .1), take-once (z .args .n) d (z .pre .1) (g .result) (r .last .0) (g .ensures) (c .before .before .before .before .if1 .taken) (r .ensures))
+    ((omega arith, first-semaphore (z .args .n) d (z .pre .1), take-once (z .args .n) d (z .pre .1) (g .result) (r .last .0) (g .ensures) (c .before .before .before .before .if1 .taken) (r .ensures .0)), r .ensures .1)
 
 put-again-requires : tie.Need-put-again-requires
 put-again-requires c κs = search needs
@@ -44,7 +44,7 @@ returns-2 c =
     let d = now (z .args .b) in
     let g = c .before .before .before .before .before .get4 in
     let p = c .before .before .put-again in
-    (omega arith, first-semaphore (z .args .n) d (z .pre .1), take-again (z .args .n) d (z .pre .1) (g .result) (p .last .0) (g .ensures) (c .before .before .before .before .if1 .left) (p .ensures))
+    ((omega arith, first-semaphore (z .args .n) d (z .pre .1), take-again (z .args .n) d (z .pre .1) (g .result) (p .last .0) (g .ensures) (c .before .before .before .before .if1 .left) (p .ensures .0)), p .ensures .1)
 
 pub take-due-spec : {M : Type 1} → statement M
 take-due-spec =

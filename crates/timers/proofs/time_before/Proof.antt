@@ -5,7 +5,7 @@ use native.Mathlib.Omega.{arith}
 use denote.Ref.{now}
 use Rattle.rows.specs.Splice.{splice}
 use Rattle.rows.specs.Four.{bytes4}
-use Rattle.timers.specs.Ends.{back-time, back-same}
+use Rattle.timers.specs.Ends.{back-time, back-same, back-upright}
 use borrow.Author.Needs.{needs}
 use Rattle.timers.proofs.time_before.Statement.{statement}
 use Rattle.timers.proofs.time_before.Tie as tie
@@ -20,7 +20,7 @@ same-length : tie.Need-same-length
 same-length c = search needs
 
 returns : tie.Need-returns
-returns c = search needs
+returns c = (search needs, λ u. u)
 
 settle-requires : tie.Need-settle-requires
 settle-requires c κs = search needs
@@ -52,9 +52,12 @@ returns-2 c =
     let m = c .before .before .before .minus in
     let q = c .before .before .put42 in
     let e = q .ensures ∙ ap (λ (x : ℕ). splice (p .last .0) 6 (bytes4 x)) (m .ensures) in (
-      back-time n (t .result) (f .result) d (s .last .0) (p .last .0) (q .last .0) (omega arith) (omega arith) (t .ensures) (omega arith) (s .ensures) (p .ensures) (f .ensures) e,
-      omega arith,
-      back-same n (t .result) (f .result) d (s .last .0) (p .last .0) (q .last .0) (omega arith) (omega arith) (t .ensures) (omega arith) (s .ensures) (p .ensures) (f .ensures) e,
+      (
+        back-time n (t .result) (f .result) d (s .last .0) (p .last .0) (q .last .0) (omega arith) (omega arith) (t .ensures) (omega arith) (s .ensures) (p .ensures) (f .ensures) e,
+        omega arith,
+        back-same n (t .result) (f .result) d (s .last .0) (p .last .0) (q .last .0) (omega arith) (omega arith) (t .ensures) (omega arith) (s .ensures) (p .ensures) (f .ensures) e,
+      ),
+      back-upright n (t .result) (f .result) d (s .last .0) (p .last .0) (q .last .0) (omega arith) (omega arith) (t .ensures) (omega arith) (s .ensures) (p .ensures) (f .ensures) e,
     )
 
 pub time-before-spec : {M : Type 1} → statement M
