@@ -6,4 +6,3 @@ pub mod SomeLedger
 pub mod Agree
 pub mod OneValue
 pub mod Shams
-
