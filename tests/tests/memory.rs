@@ -427,11 +427,8 @@ fn assert_written(memory: &HashMap<&str, Bytes>, executive: &Executive) {
     let records: Vec<_> = (0..lying).map(|index| tables.some(starts["messages"] + 4 * index, 4)).collect();
     for (task, mailbox) in (1..).zip(&items.mailboxes) {
         let found: Vec<_> = records.iter().filter(|record| record[0] == task).cloned().collect();
-        assert_eq!(
-            found,
-            mailbox.iter().map(|letter| letter.written(task).to_vec()).collect::<Vec<_>>(),
-            "task {task}"
-        );
+        let written: Vec<_> = mailbox.iter().map(|letter| letter.written(task).to_vec()).collect();
+        assert_eq!(found, written, "task {task}");
     }
 
     let histories = executive.history().expect("kept");

@@ -47,8 +47,10 @@ pub fn left(frame: &[u8], other: &Executive, memory: &Lent) -> [Vec<Left>; 4] {
         put(slots, slot(index), &task.slot);
     }
     put(timers, PART, &[items.timers.len() as u8]);
-    for (row, timer) in (1..).zip(&items.timers) {
+    if !items.timers.is_empty() {
         timers[timer_row(0) + 2..timer_row(1)].fill(Left::Clock);
+    }
+    for (row, timer) in (1..).zip(&items.timers) {
         put(timers, timer_row(row), &timer.written(own.time));
     }
     all

@@ -39,14 +39,14 @@ fn opposite(memory: &Lent) -> Lent {
 
 // ---- two runs
 
-/// How many bytes of both memories were promised, and how many free ones differ.
+/// How many bytes of both memories were equal, and how many free ones were not.
 #[derive(Debug, Default)]
 struct Compared {
-    promised: u64,
-    free_and_other: u64,
+    equal: u64,
+    free: u64,
 }
 
-/// The promised bytes are equal, and those outside as different as they were before.
+/// The bytes are equal but for the free ones and those outside, which are as different as they were before.
 fn compare(script: &Script, other: &Executive, runs: &[Lent; 2], compared: &mut Compared, what: &str) {
     let [one, another] = runs;
     let both = [one, another].map(|run| left(&script.configuration, other, run));
@@ -57,9 +57,9 @@ fn compare(script: &Script, other: &Executive, runs: &[Lent; 2], compared: &mut 
             match left.get(place).unwrap_or(&Left::Outside) {
                 Left::Byte(_) | Left::Clock => {
                     assert_eq!(one, another, "{what}: byte {place} of block {block}");
-                    compared.promised += 1;
+                    compared.equal += 1;
                 }
-                Left::Free => compared.free_and_other += u64::from(one != another),
+                Left::Free => compared.free += u64::from(one != another),
                 Left::Outside => assert_eq!(*one, !another, "{what}: byte {place} of block {block}, outside"),
             }
         }
@@ -96,7 +96,7 @@ fn two_runs_over_other_bytes_leave_the_same() {
     }
     println!("{accepted} accepted, {refused} refused, {compared:?}");
     assert!(accepted > 15_000 && refused > 3000, "{accepted} accepted, {refused} refused");
-    assert!(compared.promised > 10_000_000 && compared.free_and_other > 1_000_000, "{compared:?}");
+    assert!(compared.equal > 10_000_000 && compared.free > 1_000_000, "{compared:?}");
 }
 
 // ---- free bytes
