@@ -1,6 +1,6 @@
 -- What the functions that change the rows leave when they return, from what their callees leave.
 use mathlib.Core.Path.{_≡_, sym, ap, ap₂, subst, _∙_}
-use mathlib.Core.List.{List, map}
+use mathlib.Core.List.{List, _∷_, map}
 use Prim.Native.Nat.{ℕ, zero, suc, _+_, _-_, _*_, _^_, _<_, _≤_, min, max}
 use native.Mathlib.Nat.{sub-zero}
 use native.Mathlib.Omega.{arith}
@@ -12,7 +12,7 @@ use Rattle.rows.specs.Rows.{rowsOf, insertAt, removeAt}
 use Rattle.rows.specs.Four.{le4, bytes4}
 use Rattle.timers.specs.Timers.{timer, entry, untilDue, shownBy, recordsIn, recordAt, timersIn, tocksLeft, noEntry, dueAt, settledBy, handedOn, Keeps, allFrom, reached, Leaves, Lowered, upright, Upright, StaysUpright}
 use Rattle.timers.specs.Order.{from-fewer, from-settled}
-use Rattle.timers.specs.Reading.{shown-settled, shown-insert, shown-remove}
+use Rattle.timers.specs.Reading.{shown-settled, shown-before, shown-insert, shown-remove}
 use Rattle.timers.specs.Upright.{upright-lower, upright-settled, upright-insert, upright-remove, upright-handed}
 use Rattle.timers.specs.Records.{length-records, record-at, time-set, floor-set, record-removed}
 
@@ -93,6 +93,23 @@ module _ (n due floor : ℕ) (d d₁ d₂ : List ℕ) (room : n * 10 + 10 ≤ le
       (upright-lower (untilDue 0 floor (le4 d 6)) due m (upright-settled 0 floor (le4 d 6) (recordsIn n d) u) (omega (arith, before)))
 
 -- ---- `insert`
+
+-- at the floor, which was lowered to its time: an earlier time in its row would mean the same, but would not be in order
+module _ (n t s p due x : ℕ) (d₁ d₂ : List ℕ) (floor : le4 d₁ 6 ≡ due) (behind : allFrom (suc due) (recordsIn n d₁))
+    (k : Leaves (n + 1) d₁ d₂ (insertAt 0 (entry t s x p) (recordsIn n d₁))) (up : x ≤ due) where
+  pub first-done : (left time : ℕ) (d : List ℕ) → timersIn n d₁ ≡ timersIn n d → time ≡ le4 d₁ 2 → due ≡ time + left → timersIn (n + 1) d₂ ≡ insertBy tocksLeft (timer t s left p) (timersIn n d)
+  unfolding timersIn
+  first-done left time d same et ed =
+      kept-shown (n + 1) d₂ (le4 d₁ 2) due (entry t s x p ∷ recordsIn n d₁) (k .0, k .1 ∙ floor, k .2)
+      ∙ shown-before (le4 d₁ 2) due left x t s p (recordsIn n d₁) (omega arith) up behind
+      ∙ ap (λ (f : ℕ). insertBy tocksLeft (timer t s left p) (shownBy (le4 d₁ 2) f (recordsIn n d₁))) (sym floor)
+      ∙ ap (insertBy tocksLeft (timer t s left p)) same
+
+  pub first-upright : due ≤ x → StaysUpright n d₁ (n + 1) d₂
+  first-upright low u =
+      let e : due ≡ x = omega arith in
+      kept-upright (n + 1) d₂ (le4 d₁ 2) (le4 d₁ 6) (insertAt 0 (entry t s x p) (recordsIn n d₁)) k
+      (upright-insert (le4 d₁ 6) x t s p 0 (recordsIn n d₁) u (omega arith) (omega arith) tt (subst (λ (y : ℕ). allFrom (suc y) (recordsIn n d₁)) e behind))
 
 pub insert-done : (n at t s left p time due : ℕ) (d d₁ d₂ : List ℕ) → timersIn n d₁ ≡ timersIn n d → time ≡ le4 d₁ 2 → due ≡ time + left → le4 d₁ 6 ≤ due
     → at ≤ n → reached due at (recordsIn n d₁) → allFrom (suc due) (drop at (recordsIn n d₁))

@@ -109,6 +109,16 @@ module _ (time f left y : ℕ) (ahead : y ≡ time + left) (low : f ≤ y) where
       ∙ ap (λ (i : ℕ). insertAt i (timer a b left p) (shownBy time f l)) (sym (shown-first k l h r g))
       ∙ sym (insertBy-is tocksLeft (timer a b left p) (shownBy time f l))
 
+-- one that is due at the floor goes in first, whatever earlier time its row keeps
+pub shown-before : (time f left x a b p : ℕ) (l : List Timer) → f ≡ time + left → x ≤ f → allFrom (suc f) l
+    → shownBy time f (entry a b x p ∷ l) ≡ insertBy tocksLeft (timer a b left p) (shownBy time f l)
+unfolding shownBy
+shown-before time f left x a b p l ahead h g =
+    let e : untilDue time f (lowest x l) ≡ left = omega (arith, low-le x l) in
+    ap (λ (z : ℕ). timer a b z p ∷ shownBy time f l) e
+    ∙ ap (λ (i : ℕ). insertAt i (timer a b left p) (shownBy time f l)) (sym (shown-first time f left f ahead (omega arith) 0 l (omega arith) tt g))
+    ∙ sym (insertBy-is tocksLeft (timer a b left p) (shownBy time f l))
+
 -- ---- a timer taken out
 
 pub shown-remove : (time f k : ℕ) (l : List Timer) → k < length l → shownBy time f (removeAt k (handedOn k l)) ≡ removeAt k (shownBy time f l)

@@ -4,7 +4,7 @@ use native.Mathlib.Omega.{arith}
 use Prim.Native.Nat.{_+_, _≤_}
 use denote.Ref.{now}
 use Rattle.rows.specs.Four.{le4}
-use Rattle.timers.specs.Ends.{insert-done, insert-upright}
+use Rattle.timers.specs.Ends.{first-done, first-upright, insert-done, insert-upright}
 use borrow.Author.Needs.{needs}
 use Rattle.timers.proofs.insert.Statement.{statement}
 use Rattle.timers.proofs.insert.Tie as tie
@@ -35,9 +35,9 @@ returns c =
     let w = c .before .before .before .before .before .before .lower in
     let p = c .before .before .put-in in
     let low = w .ensures .0 in (
-      insert-done (a .n) 0 (a .task) (a .semaphore) (a .left) (a .period) (t .result) (t .result + a .left) (now (a .b)) (w .last .0) (p .last .0) (low .3 ∙ t .ensures .0 .2) (t .ensures .0 .0 ∙ sym (low .0)) refl
-          (omega (arith, low .1)) (omega arith) tt (low .2) (p .ensures),
-      λ u. insert-upright (a .n) 0 (a .task) (a .semaphore) (a .period) (t .result + a .left) (w .last .0) (p .last .0) (omega (arith, low .1)) (omega arith) tt (low .2) (p .ensures) (w .ensures .1 (t .ensures .1 u)),
+      first-done (a .n) (a .task) (a .semaphore) (a .period) (t .result + a .left) _ (w .last .0) (p .last .0) (low .1) (low .2) (p .ensures) (omega arith)
+          (a .left) (t .result) (now (a .b)) (low .3 ∙ t .ensures .0 .2) (t .ensures .0 .0 ∙ sym (low .0)) refl,
+      λ u. first-upright (a .n) (a .task) (a .semaphore) (a .period) (t .result + a .left) _ (w .last .0) (p .last .0) (low .1) (low .2) (p .ensures) (omega arith) (omega arith) (w .ensures .1 (t .ensures .1 u)),
     )
 
 place-requires : tie.Need-place-requires
