@@ -8,7 +8,7 @@ use native.Mathlib.Nat.{add-zero, mod-lt}
 use native.Mathlib.Omega.{arith}
 use lib.Dec.{ltb}
 use borrow.Author.Tests.{le-leb, ne-eqb, lt-ltb, ltb-true, ltb-false}
-use lib.ListN.{length, getD, drop, length-map, List·getD-map}
+use lib.ListN.{length, getD, take, drop, length-map, List·getD-map}
 use Rattle.rows.specs.Splice.{cut}
 use Rattle.rows.specs.Rows.{rowAt}
 use Rattle.rows.specs.Four.{le4}
@@ -30,9 +30,11 @@ use Rattle.timers.specs.Loops.{length-timers}
 use Rattle.tables.specs.declared.shape.Shape.{Shape}
 use Rattle.tables.specs.declared.blocks.Block.{Block}
 use Rattle.tables.specs.declared.blocks.Block.the-variants.{Idle, Suspended, Event, Message}
+use Rattle.tables.specs.declared.tasks.Request.{Request}
+use Rattle.tables.specs.declared.tasks.Request.the-variants.{None, Receive, Dequeue, Enqueue}
 use Rattle.tables.specs.Layout.{countAt, Regions, regions}
 use Rattle.tables.specs.Planes.{has, blocksAt}
-use Rattle.tables.specs.Decode.{headOf, leftOf, countOf, viewBlocks, viewTask, recordAs, recordOf, stateAs}
+use Rattle.tables.specs.Decode.{headOf, leftOf, countOf, viewBlocks, viewRequest, viewTask, recordAs, recordOf, stateAs}
 use Rattle.tables.specs.Shows.{taskAt, tasksIn, semaphoreCount, semaphoreAt, semaphoresIn, begins, heldAt, timersOf, ticksIn, ShowsAs}
 use Rattle.tables.specs.Items.{queue-is}
 use Rattle.mailboxes.specs.Mail.{counter}
@@ -76,6 +78,8 @@ pub record OneValue (c : Config) (L : Ledger) (p : Regions) (z w : List ℕ) : T
   pub messages : getD (p .clock) 1 0 ≡ lying (L .mailboxes)
   pub blocks : (k : Block) (i : ℕ) → i < 128 → has k (p .blocks) i ≡ hasBlock k (taskOf L i)
   pub records : (i : ℕ) → i < c .T → rowAt 6 i (p .records) ≡ recordAs (taskOf L i)
+  -- the entry of an enqueue that waits
+  pub waiting : (i : ℕ) → i < c .T → (q : ℕ) (e : List ℕ) → taskOf L i .request ≡ ledger.enqueue q e → take (shape c q .width) (rowAt 16 i (p .waiting)) ≡ e
   pub semaphores : (i : ℕ) → i < semaphoreCount c → getD (p .semaphores) i 0 ≡ stateAs (getD (L .semaphores) i ledger.PENDING)
   -- where a ring begins, how many entries it holds, and these
   pub heads : (i : ℕ) → i < c .Q → getD (p .rings) (i * 2) 0 ≡ queue L (suc i) .taken % shape c (suc i) .depth
@@ -98,6 +102,30 @@ null-none Idle = refl
 null-none Suspended = refl
 null-none Event = refl
 null-none Message = refl
+
+-- the queue and the entry of an enqueue
+abbrev queueIn : ledger.Request → ℕ
+queueIn ledger.none = 0
+queueIn (ledger.receive a) = 0
+queueIn (ledger.dequeue q) = 0
+queueIn (ledger.enqueue q e) = q + 1
+
+abbrev entryIn : ledger.Request → List ℕ
+entryIn ledger.none = []
+entryIn (ledger.receive a) = []
+entryIn (ledger.dequeue q) = []
+entryIn (ledger.enqueue q e) = e
+
+-- a request that means an enqueue is one, with the bytes that wait
+enqueue-is : (c : Config) (r : Request) (v : List ℕ) (q : ℕ) (e : List ℕ) → viewRequest c r v ≡ ledger.enqueue q e → take (shape c q .width) v ≡ e
+unfolding viewRequest
+enqueue-is c None v q e h = absurd (let n : 0 ≡ q + 1 = ap queueIn h in omega arith)
+enqueue-is c (Receive a) v q e h = absurd (let n : 0 ≡ q + 1 = ap queueIn h in omega arith)
+enqueue-is c (Dequeue a) v q e h = absurd (let n : 0 ≡ q + 1 = ap queueIn h in omega arith)
+enqueue-is c (Enqueue a) v q e h =
+    let n : a + 1 ≡ q + 1 = ap queueIn h in
+    let m : q ≡ a = omega arith in
+    ap (λ (k : ℕ). take (shape c k .width) v) m ∙ ap entryIn h
 
 get-past : {A : Type 0} (l : List A) (i : ℕ) (v : A) → length l ≤ i → getD l i v ≡ v
 get-past [] i v h = refl
@@ -151,6 +179,10 @@ module _ (c : Config) (s : Shape) (L : Ledger) (d z w : List ℕ) (h : ShowsAs t
   slot-are : (i : ℕ) → rowAt 16 i z ≡ taskAt c p z i .slot
   unfolding taskAt viewTask
   slot-are i = refl
+
+  waiting-are : (i : ℕ) → i < c .T → (q : ℕ) (e : List ℕ) → taskOf L i .request ≡ ledger.enqueue q e → take (shape c q .width) (rowAt 16 i (p .waiting)) ≡ e
+  unfolding taskAt viewTask
+  waiting-are i l q e r = enqueue-is c _ (rowAt 16 i (p .waiting)) q e (sym (ap (λ (t : ledger.Task). t .request) (task-are i l)) ∙ r)
 
   semaphore-are : (i : ℕ) → i < semaphoreCount c → getD (L .semaphores) i ledger.PENDING ≡ semaphoreAt c p i
   unfolding semaphoresIn
@@ -221,6 +253,7 @@ module _ (c : Config) (s : Shape) (L : Ledger) (d z w : List ℕ) (h : ShowsAs t
         messages = messages-are;
         blocks = blocks-are;
         records = λ i l. h .shown .tidily refl .tasks .1 i l ∙ ap recordAs (sym (task-are i l));
+        waiting = waiting-are;
         semaphores = λ i l. h .shown .tidily refl .semaphores i l ∙ ap stateAs (sym (semaphore-are i l));
         heads = h .shown .tidily refl .rings .0;
         counts = count-are;
