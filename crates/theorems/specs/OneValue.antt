@@ -1,5 +1,6 @@
--- One value for one item: where a memory shows a ledger tidily, each byte that is no free one is a function of that ledger. So two lists of calls
--- for the same frames, from one configuration on the same memory, leave the same bytes but for the free ones.
+-- One value for one item: where a memory shows a ledger tidily, each byte that is no free one is a function of that ledger; the times in the timers'
+-- rows are one of the ledger and of their clock's time, which is free. So two lists of calls for the same frames, from one configuration on the same
+-- memory, leave the same bytes but for the free ones, and the same times but for the clock's.
 use Prim.Native.Nat.{ℕ, zero, suc, _+_, _-_, _*_, _%_, _<_, _≤_}
 use mathlib.Core.Path.{_≡_, refl, sym, ap, _∙_}
 use mathlib.Core.Bool.{Bool, true, false}
@@ -22,7 +23,6 @@ use Rattle.ledger.specs.Services.{shape}
 use Rattle.ledger.specs.Session.{TimerLeft, timerLeft, run}
 use Rattle.ledger.specs.Theorems.Parts.{Every, nil, cons}
 use Rattle.ledger.specs.Theorems.Sound.{Bytes, sound}
-use Rattle.ledger.specs.Theorems.Sound.Timers.{SoundTimer}
 use Rattle.messages.specs.Lying.{lying}
 use Rattle.timers.specs.Timers.{timer, leftAt, recordAt, timersIn, noTimer, noEntry}
 use Rattle.timers.specs.Records.{row-upright}
@@ -274,7 +274,7 @@ unfolding Tidily Valued
 one-value c l m h = values c (shapeOf c) l (tablesPart c m) (slotsPart c m) (timersPart c m) h
 
 -- two executives that meet the contracts: after the same configuration, on the same memory, and the same frames, each byte of both memories that is
--- no free one is the same function of the same ledger
+-- no free one is the same function of the same ledger, the timers' times counted from the clock's
 pub both-valued : {g : List ℕ} {m₀ m₁ m₂ m m' : Memory} {r₁ r₂ : ℕ} {fs answered₁ answered₂ : List (List ℕ)} {returned₁ returned₂ : List ℕ}
     → configRefusal g ≡ 0 → fullSize m₀ ≡ true → Configures g m₀ m₁ r₁ → FrameCalls m₁ fs answered₁ returned₁ m → Configures g m₀ m₂ r₂ → FrameCalls m₂ fs answered₂ returned₂ m'
     → let c = configIn g in Valued c (run c fs .0) m × Valued c (run c fs .0) m'

@@ -1,13 +1,13 @@
 -- Records in order, from the floor on: each timer is due at the time in its own row. Every change of the rows keeps them so.
-use mathlib.Core.Path.{_≡_, refl, sym, ap, ap₂, subst, _∙_}
+use mathlib.Core.Path.{_≡_, refl, ap, ap₂}
 use mathlib.Core.List.{List, [], _∷_, map}
-use Prim.Native.Nat.{ℕ, zero, suc, _+_, _-_, _<_, _≤_, min, max}
+use Prim.Native.Nat.{ℕ, zero, suc, _-_, _<_, _≤_, min}
 use native.Mathlib.Numerals.{add-one}
 use native.Mathlib.Omega.{arith}
-use lib.ListN.{length, getD, drop}
+use lib.ListN.{length, drop}
 use Rattle.ledger.specs.Ledger.{Timer}
 use Rattle.rows.specs.Rows.{insertAt, removeAt}
-use Rattle.timers.specs.Timers.{entry, lowest, untilDue, leftAt, shownBy, upright, settledBy, dueAt, handedOn, noEntry, allFrom, reached}
+use Rattle.timers.specs.Timers.{entry, lowest, untilDue, leftAt, shownBy, upright, settledBy, dueAt, handedOn, allFrom, reached}
 use Rattle.timers.specs.Order.{low-le, low-at, from-none, from-fewer, from-cons}
 
 -- none is due before the floor
@@ -16,7 +16,7 @@ unfolding upright
 upright-from f [] u = from-none f
 upright-from f (t ∷ ts) u = from-cons f t ts (u .0) (from-fewer (t .due) f ts (upright-from (t .due) ts (u .1)) (u .0))
 
--- another floor before which none is due
+-- another floor, if none is due before it
 pub upright-floor : (f g : ℕ) (l : List Timer) → upright f l → allFrom g l → upright g l
 unfolding upright lowest
 upright-floor f g [] u a = tt

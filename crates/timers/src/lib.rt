@@ -1,5 +1,6 @@
 // Timers: rows of ten bytes in a lent slice. Row 0 is their clock (time, floor), rows 1 to n are task, semaphore, the time when due and the period.
-// Promises that each function changes the timers that the bytes mean, whatever they are, as the ledger changes its own (specs/Timers, specs/Shown).
+// Promises that each function changes the timers that the bytes mean, whatever they are, as the ledger changes its own (specs/Timers, specs/Shown),
+// and leaves rows in order where they were (specs/Upright).
 // Rests on the crates rows (rows moved in a slice) and ledger (the definitions).
 use rows::get4;
 use rows::put4;
