@@ -29,8 +29,9 @@ pub mod Untaken
 pub mod Issued
 pub mod HandsOver
 pub mod HandedOver
--- whom a signal request tells (request-tells), and that nobody else is told (told-by-own-signal)
+-- whom a signal request tells, before settling and after its frame (request-tells, signal-tells), and that nobody else is told (told-by-own-signal)
 pub mod Told
+pub mod ToldAfter
 pub mod Callers
 -- messages 1 to G, none twice: every step of every ledger keeps it (once-step)
 pub mod Once

@@ -7,22 +7,26 @@ use mathlib.Core.Bool.{Bool, true, false}
 use mathlib.Core.List.{List, [], _∷_, map}
 use native.Mathlib.Nat.{add-zero, mod-lt}
 use native.Mathlib.Omega.{arith}
-use lib.Dec.{ltb}
+use lib.Dec.{eqb, ltb}
 use borrow.Author.Tests.{le-leb, ne-eqb, lt-ltb, ltb-true, ltb-false}
 use lib.ListN.{length, getD, take, drop, length-map, List·getD-map}
 use Rattle.rows.specs.Splice.{cut}
-use Rattle.rows.specs.Rows.{rowAt}
+use Rattle.rows.specs.Rows.{rowAt, rowsOf}
 use Rattle.rows.specs.Four.{le4}
 use Rattle.rows.specs.Tab.{tab-get, tab-length}
 use Rattle.rings.specs.Ring.{wrapOf, gather}
 use Rattle.rings.specs.Laws.{holds-length}
 use Rattle.ledger.specs.Config.{Config, configIn, configRefusal}
 use Rattle.ledger.specs.Ledger as ledger
-use Rattle.ledger.specs.Ledger.{Ledger, queue, held}
+use Rattle.ledger.specs.Ledger.{Ledger, mailbox, queue, held}
+use Rattle.ledger.specs.Lists.{within, all, keep}
+use Rattle.ledger.specs.Theorems.Checks.{and-left, and-right}
 use Rattle.ledger.specs.Services.{shape}
 use Rattle.ledger.specs.Session.{TimerLeft, timerLeft, run}
 use Rattle.ledger.specs.Theorems.Parts.{Every, nil, cons}
 use Rattle.ledger.specs.Theorems.Sound.{Bytes, sound}
+use Rattle.messages.specs.Pending as messages
+use Rattle.messages.specs.Pending.{letterOf, pendingIn, addressed, for, mailboxOf}
 use Rattle.messages.specs.Lying.{lying}
 use Rattle.timers.specs.Timers.{timer, leftAt, recordAt, timersIn, noTimer, noEntry}
 use Rattle.timers.specs.Records.{row-upright}
@@ -32,11 +36,11 @@ use Rattle.tables.specs.declared.blocks.Block.{Block}
 use Rattle.tables.specs.declared.blocks.Block.the-variants.{Idle, Suspended, Event, Message}
 use Rattle.tables.specs.declared.tasks.Request.{Request}
 use Rattle.tables.specs.declared.tasks.Request.the-variants.{None, Receive, Dequeue, Enqueue}
-use Rattle.tables.specs.Layout.{countAt, Regions, regions}
+use Rattle.tables.specs.Layout.{OneOf, countAt, Regions, regions}
 use Rattle.tables.specs.Planes.{has, blocksAt}
 use Rattle.tables.specs.Decode.{headOf, leftOf, countOf, viewBlocks, viewRequest, viewTask, recordAs, recordOf, stateAs}
-use Rattle.tables.specs.Shows.{taskAt, tasksIn, semaphoreCount, semaphoreAt, semaphoresIn, begins, heldAt, timersOf, ticksIn, ShowsAs}
-use Rattle.tables.specs.Items.{queue-is}
+use Rattle.tables.specs.Shows.{taskAt, tasksIn, semaphoreCount, semaphoreAt, semaphoresIn, begins, heldAt, pendingOf, timersOf, ticksIn, ShowsAs, no-tidy}
+use Rattle.tables.specs.Items.{queue-is, mailbox-is}
 use Rattle.mailboxes.specs.Mail.{counter}
 use Rattle.mailboxes.specs.Whole.{counted-shown}
 use Rattle.configuration.specs.Layout.{shapeOf}
@@ -61,6 +65,10 @@ placeAt c p i k =
     let s = shape c (suc i) in
     rowAt (s .width) (wrapOf (s .depth) (getD (p .rings) (i * 2) 0 + k)) (cut (p .bodies) (begins c i) (begins c i + s .depth * s .width))
 
+-- the messages in the records whose first byte is t, number, sender and semaphore each
+abbrev lettersFor : ℕ → Regions → List ledger.Message
+lettersFor t p = map letterOf (keep (λ r. eqb (getD r 0 0) t) (rowsOf 4 (getD (p .clock) 1 0) (p .messages)))
+
 -- timer k of the ledger, and the record of its row in the timers' block; the time of the clock there
 abbrev timerOf : Ledger → ℕ → ledger.Timer
 timerOf L k = getD (L .timers) k noEntry
@@ -76,6 +84,8 @@ pub record OneValue (c : Config) (L : Ledger) (p : Regions) (z w : List ℕ) : T
   -- the ticks left in the tock, and the number of messages
   pub ticks : getD (p .clock) 0 0 ≡ c .K - L .ticks
   pub messages : getD (p .clock) 1 0 ≡ lying (L .mailboxes)
+  -- the records that are for task t, in the order in which they lie, are its mailbox
+  pub mail : (t : ℕ) → OneOf (c .T) t → lettersFor t p ≡ mailbox L t
   pub blocks : (k : Block) (i : ℕ) → i < 128 → has k (p .blocks) i ≡ hasBlock k (taskOf L i)
   pub records : (i : ℕ) → i < c .T → rowAt 6 i (p .records) ≡ recordAs (taskOf L i)
   -- the entry of an enqueue that waits
@@ -96,6 +106,22 @@ gather-at : {A : Type 0} (f : ℕ → A) (i n k : ℕ) (v : A) → k < n → get
 gather-at f i zero k v h = absurd (omega arith)
 gather-at f i (suc n) zero v h = ap f (sym (add-zero i))
 gather-at f i (suc n) (suc k) v h = let e : suc i + k ≡ i + suc k = omega arith in gather-at f (suc i) n k v (omega arith) ∙ ap f e
+
+-- where every receiver is one of the tasks, none is read as another
+raw-mail : (T t : ℕ) (rows : List (List ℕ)) → all (λ r. within 1 T (getD r 0 0)) rows ≡ true
+    → map letterOf (keep (λ r. eqb (getD r 0 0) t) rows) ≡ map (λ x. x .message) (keep (for t) (map (messages.pendingOf T) rows))
+unfolding keep all
+raw-mail T t [] h = refl
+raw-mail T t (r ∷ rs) h =
+    go (within 1 T (getD r 0 0)) refl (and-left (within 1 T (getD r 0 0)) _ h) (eqb (getD r 0 0) t) refl
+    (raw-mail T t rs (and-right (within 1 T (getD r 0 0)) (all (λ r. within 1 T (getD r 0 0)) rs) h))
+  where
+    go : (b : Bool) → within 1 T (getD r 0 0) ≡ b → b ≡ true → (q : Bool) → eqb (getD r 0 0) t ≡ q
+        → map letterOf (keep (λ r. eqb (getD r 0 0) t) rs) ≡ map (λ x. x .message) (keep (for t) (map (messages.pendingOf T) rs))
+        → map letterOf (keep (λ r. eqb (getD r 0 0) t) (r ∷ rs)) ≡ map (λ x. x .message) (keep (for t) (map (messages.pendingOf T) (r ∷ rs)))
+    go true e z true q ih = rw (e, q) (ap (λ (l : List ledger.Message). letterOf r ∷ l) ih)
+    go true e z false q ih = rw (e, q) ih
+    go false e z q i ih = no-tidy z
 
 null-none : (k : Block) → hasBlock k ledger.nullTask ≡ false
 null-none Idle = refl
@@ -151,6 +177,16 @@ module _ (c : Config) (s : Shape) (L : Ledger) (d z w : List ℕ) (h : ShowsAs t
       let few : x ≤ s .messages = omega (arith, h .shown .tidily refl .messages .0, h .of .messages) in
       let n : countOf (s .messages) x ≡ x = rw (le-leb x (s .messages) few) in
       e ∙ sym n ∙ counted-shown c s L d z w h
+
+  mail-are : (t : ℕ) → OneOf (c .T) t → lettersFor t p ≡ mailbox L t
+  unfolding addressed pendingOf pendingIn mailboxOf
+  mail-are t one =
+      let x : ℕ = getD (p .clock) 1 0 in
+      let o = h .shown .tidily refl .messages in
+      let n : countOf (c .G) x ≡ x = rw (le-leb x (c .G) (o .0)) in
+      raw-mail (c .T) t (rowsOf 4 x (p .messages)) (o .1)
+      ∙ ap (λ (k : ℕ). map (λ y. y .message) (keep (for t) (map (messages.pendingOf (c .T)) (rowsOf 4 k (p .messages))))) (sym n)
+      ∙ sym (mailbox-is c L p z w (h .shown) t one)
 
   task-are : (i : ℕ) → i < c .T → taskOf L i ≡ taskAt c p z i
   unfolding tasksIn
@@ -251,6 +287,7 @@ module _ (c : Config) (s : Shape) (L : Ledger) (d z w : List ℕ) (h : ShowsAs t
       record {
         ticks = ticks-are;
         messages = messages-are;
+        mail = mail-are;
         blocks = blocks-are;
         records = λ i l. h .shown .tidily refl .tasks .1 i l ∙ ap recordAs (sym (task-are i l));
         waiting = waiting-are;
@@ -273,14 +310,56 @@ pub one-value : (c : Config) (l : Ledger) (m : Memory) → Tidily c l m → Valu
 unfolding Tidily Valued
 one-value c l m h = values c (shapeOf c) l (tablesPart c m) (slotsPart c m) (timersPart c m) h
 
--- two executives that meet the contracts: after the same configuration, on the same memory, and the same frames, each byte of both memories that is
--- no free one is the same function of the same ledger, the timers' times counted from the clock's
-pub both-valued : {g : List ℕ} {m₀ m₁ m₂ m m' : Memory} {r₁ r₂ : ℕ} {fs answered₁ answered₂ : List (List ℕ)} {returned₁ returned₂ : List ℕ}
+-- the same bytes, but for the free ones: two memories whose bytes are functions of one ledger
+pub record SameBytes (c : Config) (L : Ledger) (p p' : Regions) (z z' w w' : List ℕ) : Type 0 where
+  pub ticks : getD (p .clock) 0 0 ≡ getD (p' .clock) 0 0
+  pub messages : getD (p .clock) 1 0 ≡ getD (p' .clock) 1 0
+  pub mail : (t : ℕ) → OneOf (c .T) t → lettersFor t p ≡ lettersFor t p'
+  pub blocks : (k : Block) (i : ℕ) → i < 128 → has k (p .blocks) i ≡ has k (p' .blocks) i
+  pub records : (i : ℕ) → i < c .T → rowAt 6 i (p .records) ≡ rowAt 6 i (p' .records)
+  pub waiting : (i : ℕ) → i < c .T → (q : ℕ) (e : List ℕ) → taskOf L i .request ≡ ledger.enqueue q e
+      → take (shape c q .width) (rowAt 16 i (p .waiting)) ≡ take (shape c q .width) (rowAt 16 i (p' .waiting))
+  pub semaphores : (i : ℕ) → i < semaphoreCount c → getD (p .semaphores) i 0 ≡ getD (p' .semaphores) i 0
+  pub heads : (i : ℕ) → i < c .Q → getD (p .rings) (i * 2) 0 ≡ getD (p' .rings) (i * 2) 0
+  pub counts : (i : ℕ) → i < c .Q → getD (p .rings) (i * 2 + 1) 0 ≡ getD (p' .rings) (i * 2 + 1) 0
+  pub entries : (i : ℕ) → i < c .Q → (k : ℕ) → k < getD (p .rings) (i * 2 + 1) 0 → placeAt c p i k ≡ placeAt c p' i k
+  pub slots : (i : ℕ) → i < c .T → rowAt 16 i z ≡ rowAt 16 i z'
+  pub timers : getD w 0 0 ≡ getD w' 0 0
+  pub rows : (k : ℕ) → k < getD w 0 0 → (timerAt w k .task ≡ timerAt w' k .task) × (timerAt w k .semaphore ≡ timerAt w' k .semaphore) × (timerAt w k .period ≡ timerAt w' k .period)
+
+same-values : {c : Config} {L : Ledger} {p p' : Regions} {z z' w w' : List ℕ} → OneValue c L p z w → OneValue c L p' z' w' → SameBytes c L p p' z z' w w'
+same-values {c} {L} a b =
+    record {
+      ticks = a .ticks ∙ sym (b .ticks);
+      messages = a .messages ∙ sym (b .messages);
+      mail = λ t o. a .mail t o ∙ sym (b .mail t o);
+      blocks = λ k i l. a .blocks k i l ∙ sym (b .blocks k i l);
+      records = λ i l. a .records i l ∙ sym (b .records i l);
+      waiting = λ i l q e r. a .waiting i l q e r ∙ sym (b .waiting i l q e r);
+      semaphores = λ i l. a .semaphores i l ∙ sym (b .semaphores i l);
+      heads = λ i l. a .heads i l ∙ sym (b .heads i l);
+      counts = λ i l. a .counts i l ∙ sym (b .counts i l);
+      entries = λ i l k n. let m : k < length (held (queue L (suc i))) = omega (arith, a .counts i l) in a .entries i l k m ∙ sym (b .entries i l k m);
+      slots = λ i l. a .slots i l ∙ sym (b .slots i l);
+      timers = a .timers ∙ sym (b .timers);
+      rows = λ k n.
+          let m : k < length (L .timers) = omega (arith, a .timers) in
+          let x = a .rows k m in
+          let y = b .rows k m in
+          (x .0 ∙ sym (y .0), x .1 ∙ sym (y .1), x .2 ∙ sym (y .2));
+    }
+
+-- two executives that meet the contracts: after the same configuration, on the same memory, and the same frames they leave the same bytes in the parts,
+-- but for the free ones. (Outside the parts both leave what was there: Same.outside)
+pub both-same : {g : List ℕ} {m₀ m₁ m₂ m m' : Memory} {r₁ r₂ : ℕ} {fs answered₁ answered₂ : List (List ℕ)} {returned₁ returned₂ : List ℕ}
     → configRefusal g ≡ 0 → fullSize m₀ ≡ true → Configures g m₀ m₁ r₁ → FrameCalls m₁ fs answered₁ returned₁ m → Configures g m₀ m₂ r₂ → FrameCalls m₂ fs answered₂ returned₂ m'
-    → let c = configIn g in Valued c (run c fs .0) m × Valued c (run c fs .0) m'
-both-valued {g} {m = m} {m' = m'} {fs = fs} h full s₁ more₁ s₂ more₂ =
+    → let c = configIn g in
+    let s = shapeOf c in
+    SameBytes c (run c fs .0) (regions s (tablesPart c m)) (regions s (tablesPart c m')) (slotsPart c m) (slotsPart c m') (timersPart c m) (timersPart c m')
+unfolding Valued
+both-same {g} {m = m} {m' = m'} {fs = fs} h full s₁ more₁ s₂ more₂ =
     let c = configIn g in
-    (one-value c (run c fs .0) m (every-list h full s₁ more₁ .tidy), one-value c (run c fs .0) m' (every-list h full s₂ more₂ .tidy))
+    same-values (one-value c (run c fs .0) m (every-list h full s₁ more₁ .tidy)) (one-value c (run c fs .0) m' (every-list h full s₂ more₂ .tidy))
 
 -- ---- frames of bytes: each timer is due after N, so some tocks are left
 

@@ -9,13 +9,13 @@ use borrow.Author.Tests.{ne-eqb}
 use lib.ListN.{length, getD, take}
 use Rattle.ledger.specs.Lists.{byte}
 use Rattle.ledger.specs.Config.{Config, configIn, configRefusal}
-use Rattle.ledger.specs.Ledger.{Task, fresh, queue, held}
-use Rattle.ledger.specs.Session.{answer, run, session, refusedConfiguration, Items, items}
+use Rattle.ledger.specs.Ledger.{Task, running, fresh, queue, held}
+use Rattle.ledger.specs.Session.{accept, answer, run, session, refusedConfiguration, Items, items}
 use Rattle.ledger.specs.Theorems.Parts.{Every}
 use Rattle.ledger.specs.Theorems.Lowest.{TaskRuns, NullRuns}
 use Rattle.ledger.specs.Theorems.Shown.{lowest-shown, reissues-shown}
 use Rattle.ledger.specs.Theorems.HandedOut.{handed-out}
-use Rattle.ledger.specs.Theorems.HandsOver.{Copy, HandsOver}
+use Rattle.ledger.specs.Theorems.HandsOver.{Copy, Asked, HandsOver}
 use Rattle.ledger.specs.Theorems.HandedOver.{handed-over}
 use Rattle.ledger.specs.Theorems.Once.{Once, once-fresh}
 use Rattle.parts.specs.Parts.{keptFrame}
@@ -54,16 +54,21 @@ pub record Same (g : List ℕ) (m₀ : Memory) (fs answered : List (List ℕ)) (
   -- what a queue handed out, followed by what it holds, is all that was put into it, in order
   pub fifo : (q : ℕ) → let k = queue (run (configIn g) fs .0) q in k .handedOut ++ held k ≡ k .put
   -- what the last frame f added to what the queues handed out lies in the memory: each entry is the front of the slot of the task that took
-  -- it and is its outcome, no task took two, and all else in the slots is as before f. The list may end after any frame
+  -- it and is its outcome, no task took two, and all else in the slots is as before f. A task that took is the one that ran before f, or has an
+  -- open request where settling begins. The list may end after any frame
   pub handed : (before : List (List ℕ)) (f : List ℕ) → fs ≡ before ++ (f ∷ [])
-      → let c = configIn g in (copies : List Copy) × HandsOver c (run c before .0) (run c fs .0 .queues) (itemsIn c m .tasks) copies
+      → let c = configIn g in
+      let l = run c before .0 in
+      (copies : List Copy) × HandsOver c l (run c fs .0 .queues) (itemsIn c m .tasks) copies × Every (Asked (running l) (accept c f l)) copies
 
 session-is : (g : List ℕ) (fs : List (List ℕ)) → configRefusal g ≡ 0 → run (configIn g) fs .1 ≡ session g fs
 unfolding session
 session-is g fs h = rw h
 
 last-handed : (g : List ℕ) (m : Memory) (fs : List (List ℕ)) → configRefusal g ≡ 0 → Displays (configIn g) (run (configIn g) fs .0) m → (before : List (List ℕ)) (f : List ℕ)
-    → fs ≡ before ++ (f ∷ []) → let c = configIn g in (copies : List Copy) × HandsOver c (run c before .0) (run c fs .0 .queues) (itemsIn c m .tasks) copies
+    → fs ≡ before ++ (f ∷ []) → let c = configIn g in
+    let l = run c before .0 in
+    (copies : List Copy) × HandsOver c l (run c fs .0 .queues) (itemsIn c m .tasks) copies × Every (Asked (running l) (accept c f l)) copies
 unfolding items
 last-handed g m fs h d before f e =
     let c = configIn g in
@@ -72,6 +77,7 @@ last-handed g m fs h d before f e =
       k .0,
       subst (λ (ts : List Task). HandsOver c (run c before .0) (run c fs .0 .queues) ts (k .0)) tasks
           (subst (λ (gs : List (List ℕ)). HandsOver c (run c before .0) (run c gs .0 .queues) (run c (before ++ (f ∷ [])) .0 .tasks) (k .0)) (sym e) (k .1)),
+      k .2,
     )
 
 whole : (g : List ℕ) (m₀ : Memory) (fs answered : List (List ℕ)) (returned : List ℕ) (m : Memory) → configRefusal g ≡ 0

@@ -29,27 +29,27 @@ use Rattle.ledger.specs.Theorems.Kept.{fresh-named, through, named-throu
 use Rattle.ledger.specs.Theorems.Sound.Queues.{SoundQueues, queues-kept, queues-fresh}
 use Rattle.ledger.specs.Theorems.Untaken.{Beside, beside, slots, slots-outcome, slots-request, slots-effect}
 use Rattle.ledger.specs.Theorems.Issued.{Takes, Issued, not-t, issued, issued-again}
-use Rattle.ledger.specs.Theorems.HandsOver.{Copy, TookNone, HandsOver, none-over, untaken-first, taken, taken-first}
+use Rattle.ledger.specs.Theorems.HandsOver.{Copy, Asked, TookNone, HandsOver, none-over, untaken-first, taken, taken-first}
 
 -- ---- settling: only tasks with an open request take, and of the others it changes only the blocks
 
-record Settling (c : Config) (l l′ : Ledger) : Type 0 where
-  copies : List Copy
-  over : HandsOver c l (l′ .queues) (l′ .tasks) copies
-  asked : Every (λ k. isOpen (task l (k .task) .request) ≡ true) copies
-  still : (t : ℕ) → isOpen (task l t .request) ≡ false → beside (task l′ t) ≡ beside (task l t)
+pub record Settling (c : Config) (l l′ : Ledger) : Type 0 where
+  pub copies : List Copy
+  pub over : HandsOver c l (l′ .queues) (l′ .tasks) copies
+  pub asked : Every (λ k. isOpen (task l (k .task) .request) ≡ true) copies
+  pub still : (t : ℕ) → isOpen (task l t .request) ≡ false → beside (task l′ t) ≡ beside (task l t)
 
 -- an issue for task t, whose request is closed, and the settling behind it: the tasks that take are t and tasks that have an open request after the issue
 record After (c : Config) (t : ℕ) (l m l′ : Ledger) : Type 0 where
   copies : List Copy
   over : HandsOver c l (l′ .queues) (l′ .tasks) copies
-  who : Every (λ k. (k .task ≡ t) ⊎ (isOpen (task m (k .task) .request) ≡ true)) copies
+  who : Every (Asked t m) copies
 
 issued-first : {c : Config} (t : ℕ) (l m l′ : Ledger) → Numbered (c .T) t → isOpen (task l t .request) ≡ false → Issued c t l m → Settling c m l′ → After c t l m l′
 unfolding task
 issued-first {c} t l m l′ n o i s = go (i .did)
   where
-    rest : Every (λ k. (k .task ≡ t) ⊎ (isOpen (task m (k .task) .request) ≡ true)) (s .copies)
+    rest : Every (Asked t m) (s .copies)
     rest = every-to (λ k e. inr e) (s .asked)
 
     go : (slots m ≡ slots l) ⊎ Takes c t l m → After c t l m l′
@@ -104,7 +104,7 @@ module _ (c : Config) (l : Ledger) (o : isOpen (openRequest l) ≡ true) (n : Na
         still = still-before l′ (s .still);
       }
 
-settling : {c : Config} {l l′ : Ledger} {n : ℕ} → Settles c l n l′ → Named c l → SoundQueues c l → Settling c l l′
+pub settling : {c : Config} {l l′ : Ledger} {n : ℕ} → Settles c l n l′ → Named c l → SoundQueues c l → Settling c l l′
 settling {c} {l} (stops e) n q = record { copies = []; over = none-over l; asked = nil; still = λ t h. refl }
 settling {c} {l} {l′} (goesOn o s) n q =
     let k = reissues c (λ x. Unit {0}) l n o in
@@ -112,13 +112,14 @@ settling {c} {l} {l′} (goesOn o s) n q =
 
 -- ---- a frame
 
-abbrev Hands : Config → Ledger → Ledger → Type 0
-Hands c l l′ = (copies : List Copy) × HandsOver c l (l′ .queues) (l′ .tasks) copies
+-- m is the ledger before settling: a task that took is the caller, or has an open request there
+abbrev Hands : Config → (self : ℕ) (l m l′ : Ledger) → Type 0
+Hands c self l m l′ = (copies : List Copy) × HandsOver c l (l′ .queues) (l′ .tasks) copies × Every (Asked self m) copies
 
 module _ (c : Config) (self a b x : ℕ) (e : List ℕ) (l l′ : Ledger) (o : isOpen (task l self .request) ≡ false) (q : SoundQueues c l) where
   abbrev Effected : Code → Type 0
   Effected k = Accepted c l (record { code = k; self = self; a = a; b = b; x = x; bytes = e }) → length (l .tasks) ≡ c .T
-      → Settling c (effect k c self a b x e (cond (fields k .service) (setOutcome self plain l) l)) l′ → Hands c l l′
+      → let m = effect k c self a b x e (cond (fields k .service) (setOutcome self plain l) l) in Settling c m l′ → Hands c self l m l′
 
   plainly-closed : isOpen (task (setOutcome self plain l) self .request) ≡ false
   unfolding updates
@@ -131,7 +132,7 @@ module _ (c : Config) (self a b x : ℕ) (e : List ℕ) (l l′ : Ledger) (o : i
       let named = g .self refl .number in
       let i = issued c self (dequeue a) m (rw (put-length, n) named) (g .A) q in
       let h = issued-first self m _ l′ named plainly-closed i s in
-      (h .copies, untaken-first l m (h .over) (slots-outcome self plain l))
+      (h .copies, untaken-first l m (h .over) (slots-outcome self plain l), h .who)
 
   effected : (k : Code) → Effected k
   effected k g n s = go (slots-effect k c self a b x e m)
@@ -139,51 +140,55 @@ module _ (c : Config) (self a b x : ℕ) (e : List ℕ) (l l′ : Ledger) (o : i
       m : Ledger
       m = cond (fields k .service) (setOutcome self plain l) l
 
-      go : (k ≡ DEQUEUE) ⊎ (slots (effect k c self a b x e m) ≡ slots m) → Hands c l l′
+      go : (k ≡ DEQUEUE) ⊎ (slots (effect k c self a b x e m) ≡ slots m) → Hands c self l (effect k c self a b x e m) l′
       go (inl d) = subst Effected (sym d) dequeue-effected g n s
-      go (inr h) = (s .copies, untaken-first l _ (s .over) (h ∙ cond-both (λ k. slots k ≡ slots l) (fields k .service) _ l (slots-outcome self plain l) refl))
+      go (inr h) = (s .copies, untaken-first l _ (s .over) (h ∙ cond-both (λ k. slots k ≡ slots l) (fields k .service) _ l (slots-outcome self plain l) refl), every-to (λ k e. inr e) (s .asked))
 
-hands-over : (c : Config) (f : List ℕ) (l : Ledger) → Named c l → SoundQueues c l → isOpen (openRequest l) ≡ false → Hands c l (step c f l .ledger)
+hands-over : (c : Config) (f : List ℕ) (l : Ledger) → Named c l → SoundQueues c l → isOpen (openRequest l) ≡ false → Hands c (running l) l (accept c f l) (step c f l .ledger)
 unfolding step accept openRequest call
 hands-over c f l n q o = go (eqb (refusal c l f) 0) refl
   where
-    go : (b : Bool) → eqb (refusal c l f) 0 ≡ b → Hands c l (step c f l .ledger)
+    go : (b : Bool) → eqb (refusal c l f) 0 ≡ b → Hands c (running l) l (accept c f l) (step c f l .ledger)
     go true e =
         let z = eqb-true (refusal c l f) 0 e in
         let k = accepts c (λ x. Unit {0}) f l tt n z in
         let named = named-through k (of-accept c f l) n in
         let s = settling (settles c (accept c f l) (named .tasks)) named (through (SoundQueues c) queues-kept k q) in
         rw e (effected c _ _ _ _ _ l _ o q _ (accepted c l f (n .tasks) z) (n .tasks) s)
-    go false e = rw e ([], none-over l)
+    go false e = rw e ([], none-over l, nil)
 
 -- ---- a list of frames
 
 -- what a frame relies on. After every settling the running task has no open request
-record Ready (c : Config) (l : Ledger) : Type 0 where
-  named : Named c l
-  queues : SoundQueues c l
-  closed : isOpen (openRequest l) ≡ false
+pub record Ready (c : Config) (l : Ledger) : Type 0 where
+  pub named : Named c l
+  pub queues : SoundQueues c l
+  pub closed : isOpen (openRequest l) ≡ false
 
 closed-step : (c : Config) (f : List ℕ) (l : Ledger) → length (l .tasks) ≡ c .T → isOpen (openRequest l) ≡ false → isOpen (openRequest (step c f l .ledger)) ≡ false
 unfolding step
 closed-step c f l h o = cond-both (λ (s : Stepped). isOpen (openRequest (s .ledger)) ≡ false) (eqb (refusal c l f) 0) _ _ (ends-closed (step-settles c f l h)) o
 
-ready-step : (c : Config) (f : List ℕ) (l : Ledger) → Ready c l → Ready c (step c f l .ledger)
+pub ready-step : (c : Config) (f : List ℕ) (l : Ledger) → Ready c l → Ready c (step c f l .ledger)
 ready-step c f l r =
     let k = step-kept c (λ x. Unit {0}) (SoundQueues c) queues-kept f l tt (r .named, r .queues) in
     record { named = k .0; queues = k .1; closed = closed-step c f l (r .named .tasks) (r .closed) }
 
-ready-fresh : (c : Config) → length (c .states) ≡ c .T → Ready c (fresh c)
+pub ready-fresh : (c : Config) → length (c .states) ≡ c .T → Ready c (fresh c)
 unfolding openRequest isOpen
 ready-fresh c h = record { named = fresh-named c h; queues = queues-fresh c; closed = fresh-task (λ t. isOpen (t .request) ≡ false) refl refl c (running (fresh c)) (λ z. refl) }
 
-from : (c : Config) (l : Ledger) (fs : List (List ℕ)) (f : List ℕ) → Ready c l → Hands c (runFrom c l fs .0) (runFrom c l (fs ++ (f ∷ [])) .0)
+from : (c : Config) (l : Ledger) (fs : List (List ℕ)) (f : List ℕ) → Ready c l
+    → let m = runFrom c l fs .0 in Hands c (running m) m (accept c f m) (runFrom c l (fs ++ (f ∷ [])) .0)
 unfolding runFrom
 from c l [] f r = hands-over c f l (r .named) (r .queues) (r .closed)
 from c l (d ∷ fs) f r = from c (step c d l .ledger) fs f (ready-step c d l r)
 
 -- every frame f, behind every list of frames
 pub handed-over : (g : List ℕ) → configRefusal g ≡ 0 → (fs : List (List ℕ)) (f : List ℕ)
-    → let c = configIn g in let l′ = run c (fs ++ (f ∷ [])) .0 in (copies : List Copy) × HandsOver c (run c fs .0) (l′ .queues) (l′ .tasks) copies
+    → let c = configIn g in
+    let l = run c fs .0 in
+    let l′ = run c (fs ++ (f ∷ [])) .0 in
+    (copies : List Copy) × HandsOver c l (l′ .queues) (l′ .tasks) copies × Every (Asked (running l) (accept c f l)) copies
 unfolding run
 handed-over g h fs f = let c = configIn g in from c (fresh c) fs f (ready-fresh c (configured g h .states))

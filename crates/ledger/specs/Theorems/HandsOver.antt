@@ -2,6 +2,7 @@
 -- The laws are for a frame taken apart: what happens first, in front of what the rest hands over.
 use Prim.Native.Nat.{ℕ}
 use mathlib.Core.Path.{_≡_, refl, sym, _∙_, ap, subst}
+use mathlib.Core.Logic.{_⊎_}
 use mathlib.Core.Bool.{Bool, true, false, cond}
 use mathlib.Core.List.{List, [], _∷_, _++_, map, append-assoc, append-nil}
 use borrow.Author.Tests.{eqb-true, eqb-false}
@@ -12,6 +13,7 @@ use Rattle.ledger.specs.Lists.{at, keep}
 use Rattle.ledger.specs.Config.{Config}
 use Rattle.ledger.specs.Ledger.{entry, Task, Queue, Ledger, nullTask, emptyQueue, task, queue}
 use Rattle.ledger.specs.Services.{shape, copyInto}
+use Rattle.ledger.specs.Session.{isOpen}
 use Rattle.ledger.specs.Theorems.Items.{Numbered}
 use Rattle.ledger.specs.Theorems.Parts.{Every, nil, cons, every-to, every-both}
 use Rattle.ledger.specs.Theorems.Untaken.{Beside, beside, view, Slots, slots}
@@ -26,6 +28,10 @@ pub record Copy : Type 0 where
 -- the entries among them that came from queue q
 abbrev pub entriesFrom : ℕ → List Copy → List (List ℕ)
 entriesFrom q ks = map (λ k. k .bytes) (keep (λ k. eqb (k .queue) q) ks)
+
+-- the task that took is task t, or has an open request in the ledger m
+abbrev pub Asked : (t : ℕ) (m : Ledger) → Copy → Type 0
+Asked t m k = (k .task ≡ t) ⊎ (isOpen (task m (k .task) .request) ≡ true)
 
 -- task t took none of them
 abbrev pub TookNone : ℕ → List Copy → Type 0

@@ -71,11 +71,27 @@ shown-waits : (n u : ℕ) (o : Outcome) (l : Ledger) → waits (setOutcome n o l
 unfolding setOutcome setTask task
 shown-waits n u o l = at-put-part (λ k. k .blocks .eventWait) (l .tasks) n u _ nullTask refl
 
--- an accepted frame of this code, in a ledger with the rules: the caller's outcome is `woke` with the task that lost its event wait
+-- nor does an outcome change a request, or a signal
+shown-request : (n : ℕ) (o : Outcome) (l : Ledger) → task (setOutcome n o l) n .request ≡ task l n .request
+unfolding setOutcome setTask task
+shown-request n o l = at-put-part (λ k. k .request) (l .tasks) n n _ nullTask refl
+
+signalled-request : (s : Semaphore) (b : ℕ) (l : Ledger) (u : ℕ) → task (signalled s b l .ledger) u .request ≡ task l u .request
+unfolding signalled setSemaphore setSemaphores setEventWait setBlocks setTask task
+signalled-request PENDING b l u = refl
+signalled-request DONE b l u = refl
+signalled-request (WAITING t) b l u = at-put-part (λ k. k .request) (l .tasks) t u _ nullTask refl
+
+signal-request : (b : ℕ) (l : Ledger) (u : ℕ) → task (signal b l .ledger) u .request ≡ task l u .request
+unfolding signal
+signal-request b l u = signalled-request (semaphoreOf l b) b l u
+
+-- an accepted frame of this code, in a ledger with the rules, before settling: the caller's outcome is `woke` with the task that lost its event wait, and its request is as it was
 pub record Told (c : Config) (f : List ℕ) (l : Ledger) : Type 0 where
   pub whom : ℕ
   pub outcome : task (accept c f l) (running l) .outcome ≡ woke whom
   pub lost : Lost l (accept c f l) whom
+  pub request : task (accept c f l) (running l) .request ≡ task l (running l) .request
 
 -- the accepted frame, by its code
 abbrev acceptAs : Config → List ℕ → Ledger → Code → Ledger
@@ -103,4 +119,5 @@ request-tells c f l h r e =
         every = λ u y z. w .every u (shown-waits self u plain l ∙ y) (sym (shown-waits self u (woke (s .woke)) (s .ledger)) ∙ z);
         only = λ z. (sym (shown-waits self (s .woke) plain l) ∙ w .only z .0, shown-waits self (s .woke) (woke (s .woke)) (s .ledger) ∙ w .only z .1);
       });
+      request = ap (λ k. task k self .request) is ∙ shown-request self (woke (s .woke)) (s .ledger) ∙ signal-request b m self ∙ shown-request self plain l;
     }
