@@ -90,6 +90,10 @@ pub record Table : Type 0 where
   the-caller-is-told-once-it-runs-again : Talk room ("0100010000" ▸ "00020001" ∷ "0200010000" ▸ "0001000501" ∷ "0100010000" ▸ "0002000601" ∷ [])
   -- task 1 waits and is suspended besides; it is told, and runs only when it is resumed
   a-suspended-waiter-is-told : Talk room ("0100010000" ▸ "00020001" ∷ "0A01000000" ▸ "00020000" ∷ "0200010000" ▸ "0002000601" ∷ "0901000000" ▸ "0001000501" ∷ [])
+  -- task 1 delays task 2, which was woken at the queue and did not run, takes the entry itself and waits. Task 3 signals task 2's semaphore: that runs, finds
+  -- the queue empty and waits again, and task 3 is told
+  so-is-one-that-waits-again-at-once : Talk room ("0100010000" ▸ "00020001" ∷ "0701000000" ▸ "00030001" ∷ "1100010000" ▸ "0001000501" ∷ "080100000041" ▸ "00010000"
+      ∷ "0D02000005" ▸ "00010000" ∷ "0701000000" ▸ "0001000341" ∷ "0100010000" ▸ "00030001" ∷ "0200040000" ▸ "0003010602" ∷ [])
   -- task 2 waits, and is woken while task 1 runs: by the tick, by the interrupt exit, by a put, by a take. Task 1 is told nothing, and waits; task 2 runs
   a-tick-that-wakes-tells-nobody : Talk room ("0100010000" ▸ "00020001" ∷ "0100020000" ▸ "00030001" ∷ "1100010000" ▸ "0001000501"
       ∷ "0E00020001" ▸ "00010000" ∷ "1000000000" ▸ "00010000" ∷ "0100010000" ▸ "0002000502" ∷ [])
@@ -210,6 +214,7 @@ the-table = record {
   a-signal-on-WAITING-tells-the-task = refl;
   the-caller-is-told-once-it-runs-again = refl;
   a-suspended-waiter-is-told = refl;
+  so-is-one-that-waits-again-at-once = refl;
   a-tick-that-wakes-tells-nobody = refl;
   nor-does-an-interrupt-exit = refl;
   nor-an-enqueue = refl;
