@@ -1,7 +1,9 @@
 /* Lines of a session from standard input, answers to standard output, through the functions of host/mcx11.h that take frames and
    read answers. Valid as C and as C++. Exit status 1 where two of them disagree. */
 #include "mcx11.h"
+#include "mcx11_state.h"
 #include "mcx11.h" /* a second time does no harm */
+#include "mcx11_state.h"
 
 #include <stdio.h>
 #include <string.h>

@@ -1,6 +1,6 @@
-/* Lent memories from standard input, one behind the other; of each the state to standard output, as host/mcx11.h reads it, a
+/* Lent memories from standard input, one behind the other; of each the state to standard output, as host/mcx11_state.h reads it, a
    line for each item. Exit status 1 for an answer that does not fit. Valid as C and as C++. */
-#include "mcx11.h"
+#include "mcx11_state.h"
 
 #include <stdio.h>
 

@@ -41,7 +41,9 @@ fn what_is_installed() {
             "{below}"
         );
     };
-    same("include/mcx11.h", "host/mcx11.h");
+    for header in ["mcx11.h", "mcx11_state.h"] {
+        same(&format!("include/{header}"), &format!("host/{header}"));
+    }
     same("lib/libmcx11.a", "target/staticlib/libmcx11.a");
     for paper in ["HOST", "FRAMES", "MEMORY", "CHANGES"] {
         same(&format!("share/doc/mcx11/{paper}.md"), &format!("docs/{paper}.md"));

@@ -183,7 +183,7 @@ fn places(page: &str) -> Vec<String> {
 /// Every name of the header's that a paper has is in the header.
 #[test]
 fn every_name_is_the_headers() {
-    let header = text("host/mcx11.h");
+    let header = text("host/mcx11.h") + &text("host/mcx11_state.h");
     let mut names = 0;
     for paper in PAPERS.into_iter().chain(["docs/CHANGES.md", "docs/DECISIONS.md", "docs/MEMORY.md", "docs/SHEET.md"]) {
         let page = text(paper);
