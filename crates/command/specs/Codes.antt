@@ -22,7 +22,7 @@ use Rattle.command.specs.declared.codes.Fields.{Fields}
 abbrev pub viewA : FieldA → ledger.FieldA
 viewA a.Unused = ledger.noA
 viewA a.Task = ledger.aTask
-viewA a.OtherTask = ledger.otherTask
+viewA a.ToStart = ledger.toStart
 viewA a.SelfOrTask = ledger.selfOrTask
 viewA a.AnyOrTask = ledger.anyOrTask
 viewA a.Queue = ledger.aQueue

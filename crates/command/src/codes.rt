@@ -10,7 +10,7 @@ ghost use Rattle.command.specs.Codes.{viewA, viewB, viewX, viewFollows, 
 pub enum FieldA {
     Unused,
     Task,
-    OtherTask,
+    ToStart,
     SelfOrTask,
     AnyOrTask,
     Queue,
@@ -163,7 +163,7 @@ pub fn row(code: u8) -> Fields
             true,
         ),
         0x0C => uses(
-            FieldA::OtherTask,
+            FieldA::ToStart,
             FieldB::Unused,
             FieldX::Unused,
             Follows::X,

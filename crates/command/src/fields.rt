@@ -60,7 +60,7 @@ pub fn too_long(follows: Follows, size: usize) -> bool
 
 // A task from 1 on other than the running one.
 fn not_another(shape: Shape, me: u8, a: u8) -> bool
-    ensures { λ r. ⌜ Says shape (λ c. wrongTask c ledger.otherTask me a) r ⌝ }
+    ensures { λ r. ⌜ Says shape (λ c. wrongTask c ledger.toStart me a) r ⌝ }
 {
     if outside(shape.tasks, wide(a)) {
         return true;
@@ -75,7 +75,7 @@ pub fn wrong_task(kind: FieldA, shape: Shape, me: u8, a: u8) -> bool
     match kind {
         FieldA::Unused => false,
         FieldA::Task => outside(shape.tasks, wide(a)),
-        FieldA::OtherTask => not_another(shape, me, a),
+        FieldA::ToStart => not_another(shape, me, a),
         FieldA::SelfOrTask => wide(a) > shape.tasks,
         FieldA::AnyOrTask => wide(a) > shape.tasks,
         FieldA::Queue => false,
@@ -102,7 +102,7 @@ pub fn wrong_queue(kind: FieldA, shape: Shape, a: u8) -> bool
     match kind {
         FieldA::Unused => false,
         FieldA::Task => false,
-        FieldA::OtherTask => false,
+        FieldA::ToStart => false,
         FieldA::SelfOrTask => false,
         FieldA::AnyOrTask => false,
         FieldA::Queue => outside(shape.queues, wide(a)),
@@ -168,7 +168,7 @@ pub fn meant_task(kind: FieldA, me: u8, a: u8) -> u8
     match kind {
         FieldA::Unused => a,
         FieldA::Task => a,
-        FieldA::OtherTask => a,
+        FieldA::ToStart => a,
         FieldA::SelfOrTask => or_self(me, a),
         FieldA::AnyOrTask => a,
         FieldA::Queue => a,

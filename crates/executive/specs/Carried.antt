@@ -12,7 +12,7 @@ use Rattle.ledger.specs.Lists.{at, put, byte, first}
 use Rattle.ledger.specs.Config.{Config}
 use Rattle.ledger.specs.Ledger.{plain, Ledger, running, semaphoreOf, setSemaphore, setSemaphores, setTask, setOutcome}
 use Rattle.ledger.specs.Services.{shape, signalled, signal, effect}
-use Rattle.ledger.specs.Refusals.{FieldA, noA, aTask, otherTask, selfOrTask, anyOrTask, aQueue, FieldB, noB, ofSelf, ofTask, orNone, FieldX, noX, aMessage, aTockValue, aSwitch, fields, codeAt, call, inAMailbox, haveTimer, fromInput}
+use Rattle.ledger.specs.Refusals.{FieldA, noA, aTask, toStart, selfOrTask, anyOrTask, aQueue, FieldB, noB, ofSelf, ofTask, orNone, FieldX, noX, aMessage, aTockValue, aSwitch, fields, codeAt, call, inAMailbox, haveTimer, fromInput}
 use Rattle.ledger.specs.Session.{accept}
 use Rattle.ledger.specs.Theorems.Items.{Numbered}
 use Rattle.ledger.specs.Theorems.Checks.{within-numbered, passes}
@@ -58,7 +58,7 @@ module _ {c : Config} {s : Shape} (o : Of c s) where
   in-a : (A : FieldA) (a : ℕ) → GoodA c A a → InA s A a
   in-a noA a g = tt
   in-a aTask a g = one-task a g
-  in-a otherTask a g = one-task a g
+  in-a toStart a g = one-task a g
   in-a selfOrTask a g = one-task a g
   in-a anyOrTask a g = tt
   in-a aQueue a g = (omega (arith, g .from), omega (arith, g .upto, o .queues))

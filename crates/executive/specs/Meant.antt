@@ -4,7 +4,7 @@ use mathlib.Core.Path.{_≡_}
 use mathlib.Core.Bool.{true}
 use mathlib.Core.List.{List}
 use Rattle.ledger.specs.Config.{Config}
-use Rattle.ledger.specs.Refusals.{FieldA, noA, aTask, otherTask, selfOrTask, anyOrTask, aQueue, FieldB, noB, ofSelf, ofTask, orNone, FieldX, noX, aMessage, aTockValue, aSwitch, fields, codeAt, isMessage}
+use Rattle.ledger.specs.Refusals.{FieldA, noA, aTask, toStart, selfOrTask, anyOrTask, aQueue, FieldB, noB, ofSelf, ofTask, orNone, FieldX, noX, aMessage, aTockValue, aSwitch, fields, codeAt, isMessage}
 use Rattle.ledger.specs.Theorems.Accepted.{GoodEntry}
 use Rattle.tables.specs.declared.shape.Shape.{Shape}
 use Rattle.tables.specs.Layout.{OneOf}
@@ -13,7 +13,7 @@ use Rattle.mailboxes.specs.Room.{Roomy}
 abbrev pub InA : Shape → FieldA → ℕ → Type 0
 InA s noA a = Unit {0}
 InA s aTask a = OneOf (s .tasks) a
-InA s otherTask a = OneOf (s .tasks) a
+InA s toStart a = OneOf (s .tasks) a
 InA s selfOrTask a = OneOf (s .tasks) a
 InA s anyOrTask a = Unit {0}
 InA s aQueue a = OneOf (s .queues) a

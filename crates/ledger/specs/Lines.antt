@@ -10,9 +10,9 @@ use Rattle.ledger.specs.Config.{Config, configIn, configRefusal}
 use Rattle.ledger.specs.Ledger.{Ledger, fresh}
 use Rattle.ledger.specs.Session.{Stepped, step, answer, refusedConfiguration}
 
--- a frame has at most 200 bytes, and its line at most twice as many digits
+-- a frame has at most 326 bytes, and its line at most twice as many digits
 abbrev pub longestFrame : ℕ
-longestFrame = 200
+longestFrame = 326
 
 -- ---- digits: 0 to 9 are the bytes $30 to $39, A to F the bytes $41 to $46
 
@@ -38,7 +38,7 @@ unfoldable pub digitsOf : List ℕ → List ℕ
 digitsOf [] = []
 digitsOf (b ∷ bs) = digitOf (b / 16) ∷ digitOf (b % 16) ∷ digitsOf bs
 
--- ---- the line reader and the line writer. Nothing is number 1: odd, too long or with another character; a frame above 200 bytes
+-- ---- the line reader and the line writer. Nothing is number 1: odd, too long or with another character; a frame above 326 bytes
 
 unfoldable pub frameOf : (line : List ℕ) → Option (List ℕ)
 frameOf line = cond (leb (length line) (2 * longestFrame)) (bytesOf line) none

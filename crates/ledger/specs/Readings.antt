@@ -3,7 +3,7 @@
 use Prim.Native.Nat.{ℕ}
 use Prim.Native.String.{String}
 use mathlib.Core.Path.{_≡_, refl}
-use mathlib.Core.List.{List, [], _∷_, map}
+use mathlib.Core.List.{List, [], _∷_, _++_, map}
 use mathlib.Core.Option.{none as nothing, some}
 use lib.ListN.{replicate, take}
 use Rattle.ledger.specs.Config.{configIn, configRefusal}
@@ -19,10 +19,13 @@ infix 68 _▸_
 abbrev _▸_ : String → String → String × String
 frame ▸ told = (frame, told)
 
-abbrev Talk : String → List (String × String) → Type 0
-Talk g rows =
-    let c = configIn (hex g) in
+abbrev TalkIn : List ℕ → List (String × String) → Type 0
+TalkIn g rows =
+    let c = configIn g in
     runFrom c (fresh c) (map (λ r. hex (r .0)) rows) .1 ≡ map (λ r. hex (r .1)) rows
+
+abbrev Talk : String → List (String × String) → Type 0
+Talk g rows = TalkIn (hex g) rows
 
 -- T 3, S 2, Q 1, R 3, G 3, K 1; a queue of one byte. Semaphores 1 and 2 are named, 3 to 5 belong to the tasks, 6 is not-empty, 7 not-full
 abbrev room : String
@@ -31,6 +34,10 @@ room = "030201030301007D0000000101"
 -- T 1, S 0, Q 2, R 0, G 0, K 3; three entries of two bytes, and one of one byte
 abbrev bare : String
 bare = "010002000003007D0002030101"
+
+-- as `room`, with task 1 runnable, 2 and 3 idle, and pairs behind it
+abbrev yard : String → List ℕ
+yard pairs = hex "030201030301007D0001010101" ++ hex pairs
 
 -- task and semaphore of a timer
 abbrev on : Timer → ℕ × ℕ
@@ -158,9 +165,10 @@ pub record Table : Type 0 where
   and-so-does-one-that-is-no-frame : output (text ("0" ∷ two ∷ [])) ≡ text ("01000000" ∷ [])
   the-last-line-needs-no-end : output (letters two) ≡ text ("00010001" ∷ [])
   empty-input-prints-nothing : output [] ≡ []
-  a-line-has-at-most-400-digits : frameOf (replicate 402 0x30) ≡ nothing
-  and-may-have-400 : frameOf (replicate 400 0x30) ≡ some (replicate 200 0)
-  a-frame-above-200-bytes-has-no-line : lineOf (replicate 201 0) ≡ nothing
+  a-line-has-at-most-652-digits : frameOf (replicate 654 0x30) ≡ nothing
+  and-may-have-652 : frameOf (replicate 652 0x30) ≡ some (replicate 326 0)
+  a-frame-above-326-bytes-has-no-line : lineOf (replicate 327 0) ≡ nothing
+  and-one-of-326-has : lineOf (replicate 326 0) ≡ some (replicate 652 0x30)
   reading-tests-1-before-11 : readLine 0 (letters "0") ≡ number 1
   then-the-room : readLine 4 (letters "0701000000") ≡ number 11
   and-writing-too : writeLine 9 (hex "0701000000") ≡ number 11
@@ -178,6 +186,28 @@ pub record Table : Type 0 where
   queues-may-have-4096-bytes : configRefusal (hex "01000200000100010010FF1001") ≡ 0
   more-is-3 : configRefusal (hex "01000200000100010010FF1002") ≡ 3
   but-tested-after-the-length : configRefusal (hex "01000200000100010010FF100200") ≡ 2
+  -- ---- start only after (26 is $1A)
+
+  -- task 3 only after task 2
+  execute-is-refused-while-a-first-is-idle : TalkIn (yard "0203") ("0C03000000" ▸ "1A010001" ∷ "0C02000000" ▸ "00010000" ∷ "0C03000000" ▸ "00010000" ∷ [])
+  -- task 3 after 1 and 2, in both orders
+  each-pair-is-looked-at : TalkIn (yard "02030103") ("0C03000000" ▸ "1A010001" ∷ []) × TalkIn (yard "01030203") ("0C03000000" ▸ "1A010001" ∷ [])
+  a-suspended-first-is-not-idle : TalkIn (yard "0203") ("0C02000000" ▸ "00010000" ∷ "0A02000000" ▸ "00010000" ∷ "0C03000000" ▸ "00010000" ∷ [])
+  nor-one-that-waits : TalkIn (yard "0203") ("0C02000000" ▸ "00010000" ∷ "0100010000" ▸ "00020001" ∷ "0100020000" ▸ "00000000" ∷ "1100010000" ▸ "0001000501" ∷ "0C03000000" ▸ "00010000" ∷ [])
+  an-idle-first-that-is-suspended-too-is-idle : TalkIn (yard "0203") ("0A02000000" ▸ "00010000" ∷ "0C03000000" ▸ "1A010000" ∷ [])
+  terminating-a-first-leaves-the-others-running : TalkIn (yard "0203") ("0C02000000" ▸ "00010000" ∷ "0C03000000" ▸ "00010000" ∷ "0B02000000" ▸ "00010000" ∷ "0100010000" ▸ "00030001" ∷ [])
+  -- task 3 runs while its first is idle, and names itself; then nobody runs
+  five-comes-before-26 : TalkIn (yard "0203") ("0C02000000" ▸ "00010000" ∷ "0C03000000" ▸ "00010000" ∷ "0B02000000" ▸ "00010000" ∷ "0100010000" ▸ "00030001" ∷ "0C03000000" ▸ "05030001" ∷ [])
+  and-so-does-20 : TalkIn (yard "0203") ("0100010000" ▸ "00000000" ∷ "0C03000000" ▸ "14000000" ∷ [])
+  a-pair-may-occur-twice : configRefusal (yard "02030203") ≡ 0
+  both-are-tasks : (configRefusal (yard "0003") ≡ 3) × (configRefusal (yard "0304") ≡ 3)
+  the-first-is-the-lower : (configRefusal (yard "0302") ≡ 3) × (configRefusal (yard "0202") ≡ 3)
+  an-idle-task-may-come-after-a-runnable-one : configRefusal (yard "0103") ≡ 0
+  but-not-a-runnable-one-after-an-idle-one : configRefusal (hex "0200000000010001" ++ hex "0100" ++ hex "0102") ≡ 3
+  an-odd-rest-is-2 : configRefusal (yard "020302") ≡ 2
+  -- 128 bytes of pairs have a length, and are refused for their equal numbers
+  a-rest-has-at-most-128-bytes : (configRefusal (yard "" ++ replicate 130 2) ≡ 2) × (configRefusal (yard "" ++ replicate 128 2) ≡ 3)
+  the-length-is-tested-before-the-pairs : configRefusal (yard "000000") ≡ 2
 
 pub the-table : Table
 unfolding everything
@@ -252,9 +282,10 @@ the-table = record {
   and-so-does-one-that-is-no-frame = refl;
   the-last-line-needs-no-end = refl;
   empty-input-prints-nothing = refl;
-  a-line-has-at-most-400-digits = refl;
-  and-may-have-400 = refl;
-  a-frame-above-200-bytes-has-no-line = refl;
+  a-line-has-at-most-652-digits = refl;
+  and-may-have-652 = refl;
+  a-frame-above-326-bytes-has-no-line = refl;
+  and-one-of-326-has = refl;
   reading-tests-1-before-11 = refl;
   then-the-room = refl;
   and-writing-too = refl;
@@ -270,4 +301,20 @@ the-table = record {
   queues-may-have-4096-bytes = refl;
   more-is-3 = refl;
   but-tested-after-the-length = refl;
+  execute-is-refused-while-a-first-is-idle = refl;
+  each-pair-is-looked-at = (refl, refl);
+  a-suspended-first-is-not-idle = refl;
+  nor-one-that-waits = refl;
+  an-idle-first-that-is-suspended-too-is-idle = refl;
+  terminating-a-first-leaves-the-others-running = refl;
+  five-comes-before-26 = refl;
+  and-so-does-20 = refl;
+  a-pair-may-occur-twice = refl;
+  both-are-tasks = (refl, refl);
+  the-first-is-the-lower = (refl, refl);
+  an-idle-task-may-come-after-a-runnable-one = refl;
+  but-not-a-runnable-one-after-an-idle-one = refl;
+  an-odd-rest-is-2 = refl;
+  a-rest-has-at-most-128-bytes = (refl, refl);
+  the-length-is-tested-before-the-pairs = refl;
 }

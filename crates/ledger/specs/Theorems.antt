@@ -6,6 +6,7 @@
 pub mod Items
 pub mod Parts
 pub mod Checks
+pub mod Twos
 pub mod Fresh
 -- the running task, settling and the sizes, for every ledger
 pub mod Lowest

@@ -12,7 +12,7 @@ use Rattle.ledger.specs.Lists.{Check, first, within, byte}
 use Rattle.ledger.specs.Config.{Config}
 use Rattle.ledger.specs.Ledger.{Ledger, running}
 use Rattle.ledger.specs.Services.{Code, WAIT, SIGNAL, PEND, SEND, SENDW, RECEIVE, DEQUEUE, ENQUEUE, RESUME, SUSPEND, TERMINATE, EXECUTE, DELAY, TIMER, PURGE, TICK, EXIT, codes, shape}
-use Rattle.ledger.specs.Refusals.{FieldA, noA, aTask, otherTask, selfOrTask, anyOrTask, aQueue, FieldB, noB, ofSelf, ofTask, orNone, FieldX, noX, aMessage, aTockValue, aSwitch, Fields, fields, Follows, xAlone, xAndEntry, Call, meantTask, meantSemaphore, codeAt, call, wrongTask, wrongSemaphore, wrongQueue, isMessage, isTockValue, wrongEntry, meets25, meets21, inAMailbox, haveTimer, fromInput, fromState, refusal}
+use Rattle.ledger.specs.Refusals.{FieldA, noA, aTask, toStart, selfOrTask, anyOrTask, aQueue, FieldB, noB, ofSelf, ofTask, orNone, FieldX, noX, aMessage, aTockValue, aSwitch, Fields, fields, Follows, xAlone, xAndEntry, Call, meantTask, meantSemaphore, codeAt, call, wrongTask, wrongSemaphore, wrongQueue, isMessage, isTockValue, wrongEntry, meets25, meets26, meets21, inAMailbox, haveTimer, fromInput, fromState, refusal}
 use Rattle.ledger.specs.Theorems.Items.{Numbered}
 use Rattle.ledger.specs.Theorems.Checks.{or-left, asked, within-numbered, passes, passes-joined, Numbers}
 use Rattle.ledger.specs.Theorems.Lowest.{TaskRuns, NullRuns, lowest-runs}
@@ -22,7 +22,7 @@ use Rattle.ledger.specs.Theorems.Lowest.{TaskRuns, NullRuns, lowest-runs
 abbrev pub GoodA : Config → FieldA → ℕ → Type 0
 GoodA c noA a = Unit {0}
 GoodA c aTask a = Numbered (c .T) a
-GoodA c otherTask a = Numbered (c .T) a
+GoodA c toStart a = Numbered (c .T) a
 GoodA c selfOrTask a = Numbered (c .T) a
 GoodA c anyOrTask a = a ≤ c .T
 GoodA c aQueue a = Numbered (c .Q) a
@@ -76,6 +76,7 @@ pub record Accepted (c : Config) (l : Ledger) (k : Call) : Type 0 where
   pub X : GoodX c l (fields (k .code) .X) (k .a) (k .b) (k .x)
   pub entry : GoodEntry c (fields (k .code) .follows) (k .a) (k .bytes)
   pub not25 : meets25 l (fields (k .code) .waits) (k .a) ≡ false
+  pub not26 : meets26 c l (fields (k .code) .A) (k .a) ≡ false
   pub not21 : meets21 c l (fields (k .code) .waits) (k .a) (k .b) ≡ false
 
 -- ---- each from its checks
@@ -91,7 +92,7 @@ goodA : (c : Config) (A : FieldA) (self a : ℕ) → Numbered (c .T) self → wr
 unfolding wrongTask wrongQueue meantTask
 goodA c noA self a s t q = tt
 goodA c aTask self a s t q = within-numbered (c .T) a (not-false _ t)
-goodA c otherTask self a s t q = within-numbered (c .T) a (not-false _ (or-left _ (eqb a self) t))
+goodA c toStart self a s t q = within-numbered (c .T) a (not-false _ (or-left _ (eqb a self) t))
 goodA c selfOrTask self a s t q = go (eqb a 0) refl (leb-true a (c .T) (not-false _ t))
   where
     go : (b : Bool) → eqb a 0 ≡ b → a ≤ c .T → Numbered (c .T) (cond b self a)
@@ -200,7 +201,7 @@ accepted c l f h e =
     let k = call c (running l) f in
     let p = passes-joined (fromInput c (running l) f) (fromState c l k) (input-numbers c (running l) f) e in
     let g = good c (running l) f (running-low c l h) (p .0) in
-    let (busy, (lies, (waits, (timer, (full, done))))) = passes _ refl (p .1) in
+    let (busy, (before, (lies, (waits, (timer, (full, done)))))) = passes _ refl (p .1) in
     record {
       self = λ v. runs c l h (ne-eqb (running l) 0 (λ z. omega (arith, g .self v)));
       A = g .A;
@@ -208,5 +209,6 @@ accepted c l f h e =
       X = goodX c l _ _ _ _ (g .X) lies timer full;
       entry = g .entry;
       not25 = busy;
+      not26 = before;
       not21 = waits;
     }

@@ -1,16 +1,17 @@
 -- What an accepted configuration says: each of its checks has passed.
-use Prim.Native.Nat.{ℕ, zero, suc, _+_, _*_, _≤_}
+use Prim.Native.Nat.{ℕ, _+_, _*_, _≤_}
 use mathlib.Core.Path.{_≡_, refl}
 use mathlib.Core.Bool.{true, not, _&&_}
 use mathlib.Core.List.{List, [], _∷_}
 use native.Mathlib.Omega.{arith}
-use borrow.Author.Tests.{leb-true, eqb-true, not-false}
-use lib.Dec.{eqb, ltb}
+use borrow.Author.Tests.{leb-true, not-false}
+use lib.Dec.{ltb}
 use lib.ListN.{length, length-take, length-drop}
 use Rattle.ledger.specs.Lists.{_⇒_, all, within}
-use Rattle.ledger.specs.Config.{QueueShape, Config, shapesIn, configIn, controller, goodHead, goodRest, configRefusal}
+use Rattle.ledger.specs.Config.{QueueShape, Config, configIn, controller, goodHead, goodLength, goodPair, goodRest, configRefusal}
 use Rattle.ledger.specs.Services.{shape}
 use Rattle.ledger.specs.Theorems.Items.{Numbered}
+use Rattle.ledger.specs.Theorems.Twos.{twos-length}
 use Rattle.ledger.specs.Theorems.Checks.{and-left, and-right, within-numbered, passes, at-all}
 
 pub record Shaped (s : QueueShape) : Type 0 where
@@ -27,13 +28,7 @@ pub record Configured (c : Config) : Type 0 where
   pub states : length (c .states) ≡ c .T
   pub shapes : length (c .shapes) ≡ c .Q
   pub shaped : (q : ℕ) → Numbered (c .Q) q → Shaped (shape c q)
-
-shapesIn-length : (xs : List ℕ) (n : ℕ) → length xs ≡ 2 * n → length (shapesIn xs) ≡ n
-unfolding shapesIn
-shapesIn-length [] n h = omega arith
-shapesIn-length (w ∷ []) n h = absurd (omega arith)
-shapesIn-length (w ∷ d ∷ xs) zero h = absurd (omega arith)
-shapesIn-length (w ∷ d ∷ xs) (suc n) h = omega (arith, shapesIn-length xs n (omega arith))
+  pub pairs : all (goodPair (c .T) (c .states)) (c .pairs) ≡ true
 
 all-shaped : (c : Config) → length (c .shapes) ≡ c .Q → all (λ s. within 1 16 (s .width) && within 1 255 (s .depth)) (c .shapes) ≡ true → (q : ℕ) → Numbered (c .Q) q → Shaped (shape c q)
 unfolding shape
@@ -55,12 +50,18 @@ checked c h r s q =
       states = s;
       shapes = q;
       shaped = all-shaped c q (search (and-left, and-right) depth 9);
+      pairs = search (and-left, and-right) depth 9;
     }
+
+pub long-enough : (c : Config) (n : ℕ) → goodLength c n ≡ true → 8 + c .T + 2 * c .Q ≤ n
+unfolding goodLength
+long-enough c n h = leb-true (8 + c .T + 2 * c .Q) n (search (and-left, and-right) depth 9)
 
 pub configured : (g : List ℕ) → configRefusal g ≡ 0 → Configured (configIn g)
 unfolding configRefusal configIn
 configured g h =
     let c = configIn g in
-    let p = passes (ltb (length g) 8 ⇒ 2 ∷ not (goodHead controller c) ⇒ 3 ∷ not (eqb (length g) (8 + c .T + 2 * c .Q)) ⇒ 2 ∷ not (goodRest controller c) ⇒ 3 ∷ []) refl h in
-    let n : length g ≡ 8 + c .T + 2 * c .Q = eqb-true (length g) _ (not-false _ (p .1 .1 .0)) in
-    checked c (not-false _ (p .1 .0)) (not-false _ (p .1 .1 .1 .0)) (simp (length-take, length-drop) (omega arith)) (shapesIn-length _ (c .Q) (simp length-drop (omega arith)))
+    let p = passes (ltb (length g) 8 ⇒ 2 ∷ not (goodHead controller c) ⇒ 3 ∷ not (goodLength c (length g)) ⇒ 2 ∷ not (goodRest controller c) ⇒ 3 ∷ []) refl h in
+    let n : 8 + c .T + 2 * c .Q ≤ length g = long-enough c (length g) (not-false _ (p .1 .1 .0)) in
+    checked c (not-false _ (p .1 .0)) (not-false _ (p .1 .1 .1 .0)) (simp (length-take, length-drop) (omega arith))
+    (twos-length _ _ (c .Q) (simp (length-take, length-drop) (omega arith)) (simp (length-take, length-drop) (omega arith)))

@@ -154,7 +154,7 @@ module _ (c : Config) where
   accepted-sends : (f : List ℕ) (l : Ledger) → refusal c l f ≡ 0 → Sends (call c (running l) f .code) (call c (running l) f .x) l
   unfolding refusal fromInput fromState
   accepted-sends f l e m =
-      let (short, (code, (long, (null, (task, (sem, (queue, (message, (tocks, (width, (delay, (lies, (waits, (timer, (full, done))))))))))))))) = passes _ refl e in
+      let (short, (code, (long, (null, (task, (sem, (queue, (message, (tocks, (width, (delay, (firsts, (lies, (waits, (timer, (full, done)))))))))))))))) = passes _ refl e in
       (within-numbered (c .G) _ (not-false _ (asked _ _ message m)), asked _ _ lies m)
 
   once-accept : (f : List ℕ) (l : Ledger) → refusal c l f ≡ 0 → Once c (boxes l) → Once c (boxes (accept c f l))
