@@ -1,15 +1,14 @@
 -- The frame that the block of the configuration holds: the structure rule for it, and where its parts lie.
-use mathlib.Core.Path.{_≡_, refl, sym, ap}
+use mathlib.Core.Path.{_≡_, refl, sym, ap, _∙_}
 use mathlib.Core.Bool.{Bool, true, false, _&&_}
 use mathlib.Core.List.{List, map}
 use Prim.Native.Nat.{ℕ, _+_, _-_, _*_}
 use native.Mathlib.Omega.{arith}
-use lib.Dec.{leb, eqb}
-use lib.ListN.{length, take, drop, length-drop}
-use lib.Seq.{take-all}
+use lib.Dec.{leb}
+use lib.ListN.{length, take, drop}
 use Rattle.rows.specs.Splice.{cut}
-use Rattle.ledger.specs.Lists.{within, byte, word, sum, all}
-use Rattle.ledger.specs.Config.{QueueShape, Config, Limits, shapesIn, configIn, goodHead, goodRest}
+use Rattle.ledger.specs.Lists.{within, byte, sum, all}
+use Rattle.ledger.specs.Config.{QueueShape, Config, Limits, shapesIn, pairsIn, configIn, front, goodHead, goodPair, goodRest}
 
 -- ---- the structure rule of number 11. The initial states are not read again
 
@@ -28,9 +27,9 @@ goodQueues m c = goodShapes m (c .shapes)
 unfoldable pub rule : Limits → Config → Bool
 rule m c = goodHead m c && goodQueues m c
 
--- of the frame that the block holds: it is as long as it says
+-- of the frame that the block holds: it has what is in front of the pairs. The pairs are not tested: any bytes mean some
 unfoldable pub frameRule : Limits → List ℕ → Bool
-frameRule m f = eqb (length f) (8 + byte 0 f + 2 * byte 2 f) && rule m (configIn f)
+frameRule m f = leb (front (configIn f)) (length f) && rule m (configIn f)
 
 pub and-no : (a : Bool) → (a && false) ≡ false
 and-no true = refl
@@ -40,40 +39,30 @@ and-assoc : (a b c : Bool) → (a && b && c) ≡ (a && (b && c))
 and-assoc true b c = refl
 and-assoc false b c = refl
 
-pub rest-halves : (m : Limits) (c : Config) → goodRest m c ≡ (all (λ s. leb s 1) (c .states) && goodQueues m c)
-unfolding goodRest goodQueues goodShapes
-rest-halves m c = and-assoc (all (λ s. leb s 1) (c .states)) (all shaped (c .shapes)) (leb (sum (map product (c .shapes))) (m .bytes))
+unfoldable pub goodPairs : Config → Bool
+goodPairs c = all (goodPair (c .T) (c .states)) (c .pairs)
 
--- ---- where its parts lie
-unfoldable pub read : List ℕ → Config
-read g = record {
-  T = byte 0 g;
-  S = byte 1 g;
-  Q = byte 2 g;
-  R = byte 3 g;
-  G = byte 4 g;
-  K = byte 5 g;
-  ms = word 6 g;
-  states = cut g 8 (8 + byte 0 g);
-  shapes = shapesIn (cut g (8 + byte 0 g) (8 + byte 0 g + 2 * byte 2 g));
-}
+pub rest-parts : (m : Limits) (c : Config) → goodRest m c ≡ (all (λ s. leb s 1) (c .states) && goodQueues m c && goodPairs c)
+unfolding goodRest goodQueues goodShapes goodPairs
+rest-parts m c =
+    ap (λ (b : Bool). b && goodPairs c) (and-assoc (all (λ s. leb s 1) (c .states)) (all shaped (c .shapes)) (leb (sum (map product (c .shapes))) (m .bytes)))
 
--- in a frame that is as long as it says
-pub configIn-is : (f : List ℕ) → length f ≡ 8 + byte 0 f + 2 * byte 2 f → configIn f ≡ read f
-unfolding configIn read
-configIn-is f h =
-    let t : 8 + byte 0 f - 8 ≡ byte 0 f = omega arith in
-    let z : take (byte 0 f) (drop 8 f) ≡ cut f 8 (8 + byte 0 f) = ap (λ (x : ℕ). take x (drop 8 f)) (sym t) in
-    let s : drop (8 + byte 0 f) f ≡ cut f (8 + byte 0 f) (8 + byte 0 f + 2 * byte 2 f) =
-    sym (take-all (8 + byte 0 f + 2 * byte 2 f - (8 + byte 0 f)) (drop (8 + byte 0 f) f) (simp length-drop (omega arith))) in
-    λ x. record {
-      T = byte 0 f;
-      S = byte 1 f;
-      Q = byte 2 f;
-      R = byte 3 f;
-      G = byte 4 f;
-      K = byte 5 f;
-      ms = word 6 f;
-      states = z x;
-      shapes = shapesIn (s x);
-    }
+pub front-is : (f : List ℕ) → front (configIn f) ≡ 8 + byte 0 f + 2 * byte 2 f
+unfolding configIn
+front-is f = refl
+
+-- ---- where its parts lie, for t tasks and q queues
+module _ (f : List ℕ) (t q : ℕ) (et : t ≡ byte 0 f) (eq : q ≡ byte 2 f) where
+  pub states-in : configIn f .states ≡ cut f 8 (8 + t)
+  unfolding configIn
+  states-in = let e : byte 0 f ≡ 8 + t - 8 = omega arith in ap (λ (n : ℕ). take n (drop 8 f)) e
+
+  pub shapes-in : configIn f .shapes ≡ shapesIn (cut f (8 + t) (8 + t + 2 * q))
+  unfolding configIn
+  shapes-in =
+      let e : 2 * byte 2 f ≡ 8 + t + 2 * q - (8 + t) = omega arith in
+      ap (λ (n : ℕ). shapesIn (take (2 * byte 2 f) (drop (8 + n) f))) (sym et) ∙ ap (λ (n : ℕ). shapesIn (take n (drop (8 + t) f))) e
+
+  pub pairs-in : configIn f .pairs ≡ pairsIn (drop (8 + t + 2 * q) f)
+  unfolding configIn
+  pairs-in = rw (et, eq)

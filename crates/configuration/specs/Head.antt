@@ -9,15 +9,14 @@ use Rattle.tables.specs.Encoded.{case}
 use Rattle.ledger.specs.Theorems.Checks.{and-left, and-right, within-numbered}
 use Rattle.ledger.specs.Lists.{within, byte, word}
 use Rattle.ledger.specs.Config.{Limits, configIn, goodHead}
-use Rattle.configuration.specs.Block.{read}
 
 abbrev pub headRule : Limits → (t s q r g k ms : ℕ) → Bool
 headRule m t s q r g k ms =
     within 1 (m .tasks) t && leb q (m .queues) && leb r (m .timers) && leb g (m .messages) && within 1 255 k && within 1 65535 ms && leb (s + t + 2 * q) 255
 
-pub head-read : (m : Limits) (g : List ℕ) → goodHead m (read g) ≡ headRule m (byte 0 g) (byte 1 g) (byte 2 g) (byte 3 g) (byte 4 g) (byte 5 g) (word 6 g)
-unfolding goodHead read
-head-read m g = refl
+pub head-in : (m : Limits) (g : List ℕ) → goodHead m (configIn g) ≡ headRule m (byte 0 g) (byte 1 g) (byte 2 g) (byte 3 g) (byte 4 g) (byte 5 g) (word 6 g)
+unfolding goodHead configIn
+head-in m g = refl
 
 -- what it says
 pub record Head (m : Limits) (t s q r g k ms : ℕ) : Type 0 where
@@ -57,8 +56,3 @@ module _ (m : Limits) (t s q r g k ms : ℕ) where
 
   pub head-not : (Head m t s q r g k ms → ⊥) → false ≡ headRule m t s q r g k ms
   head-not n = case (headRule m t s q r g k ms) (λ e. absurd (n (head-says e))) (λ e. sym e)
-
--- it speaks of those bytes only
-pub head-in : (m : Limits) (g : List ℕ) → goodHead m (configIn g) ≡ goodHead m (read g)
-unfolding goodHead configIn read
-head-in m g = refl

@@ -108,7 +108,7 @@ module _ (m : Limits) (made : Made m) (c : Config) (h : rule m c ≡ true) where
           bodies = refl;
         }
 
--- the bytes of its frame
+-- the bytes of its frame in front of the pairs
 abbrev pub frameBytes : Shape → ℕ
 frameBytes s = 8 + s .tasks + 2 * s .queues
 

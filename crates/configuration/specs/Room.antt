@@ -6,12 +6,12 @@ use Prim.Native.Nat.{ℕ, zero, suc, _+_, _*_, _/_, _%_, _<_, _≤_}
 use native.Mathlib.Omega.{arith}
 use native.Mathlib.Nat.{mul-le-mul, mul-zero, zero-mul}
 use lib.ListN.{length, getD, drop, drop-of-length-le}
-use lib.Seq.{drop-cons}
 use borrow.Author.Tests.{le-leb, lt-leb}
 use Rattle.tables.specs.Encoded.{case}
 use Rattle.ledger.specs.Theorems.Checks.{and-left, and-right, within-numbered}
 use Rattle.ledger.specs.Lists.{within, sum, all}
-use Rattle.ledger.specs.Config.{Limits, shapesIn}
+use Rattle.ledger.specs.Config.{Limits, twos, shapesIn}
+use Rattle.ledger.specs.Theorems.Twos.{two-next}
 use Rattle.configuration.specs.Block.{shaped, product, goodShapes}
 
 -- the bytes of one queue, or 4,097
@@ -82,7 +82,7 @@ bytesIn l = sum (map product (shapesIn l))
 
 -- where there are such queues it is the sum of the products, else more than 4,096
 room-sum : (l : List ℕ) → all shaped (shapesIn l) ≡ true → roomIn l ≡ bytesIn l
-unfolding roomIn bytesOrNone bytesIn shapesIn all sum
+unfolding roomIn bytesOrNone bytesIn twos all sum
 room-sum [] e = refl
 room-sum (w ∷ []) e = refl
 room-sum (w ∷ d ∷ r) e =
@@ -91,7 +91,7 @@ room-sum (w ∷ d ∷ r) e =
     rw here (ap (λ (n : ℕ). w * d + n) (room-sum r more))
 
 room-over : (l : List ℕ) → all shaped (shapesIn l) ≡ false → 4096 < roomIn l
-unfolding roomIn bytesOrNone shapesIn all
+unfolding roomIn bytesOrNone twos all
 room-over [] e = let z : _≡_ {A = ℕ} 0 1 = ap (λ (b : Bool). cond b 0 1) e in absurd (omega (arith, z))
 room-over (w ∷ []) e = let z : _≡_ {A = ℕ} 0 1 = ap (λ (b : Bool). cond b 0 1) e in absurd (omega (arith, z))
 room-over (w ∷ d ∷ r) e = go (within 1 16 w && within 1 255 d) e (room-over r)
@@ -113,31 +113,24 @@ module _ (m : Limits) (made : m .bytes ≤ 4096) (l : List ℕ) where
 -- ---- the loops' turns and their end
 
 module _ (a k : ℕ) (l : List ℕ) where
-  pair : 2 * k + 1 < length l → drop (2 * k) l ≡ getD l (2 * k) 0 ∷ getD l (2 * k + 1) 0 ∷ drop (2 * (k + 1)) l
-  pair h =
-      let e : suc (2 * k) ≡ 2 * k + 1 = omega arith in
-      let f : suc (2 * k + 1) ≡ 2 * (k + 1) = omega arith in
-      drop-cons l (2 * k) 0 (omega arith) ∙ ap (λ (n : ℕ). getD l (2 * k) 0 ∷ drop n l) e
-      ∙ ap (λ (r : List ℕ). getD l (2 * k) 0 ∷ r) (drop-cons l (2 * k + 1) 0 h ∙ ap (λ (n : ℕ). getD l (2 * k + 1) 0 ∷ drop n l) f)
-
   -- x is the queue's two bytes in one number
   module _ (h : 2 * k + 1 < length l) (x : ℕ) (width : x % 256 ≡ getD l (2 * k) 0) (depth : x / 256 ≡ getD l (2 * k + 1) 0) where
     pub room-on : (y : ℕ) → y ≡ bytesOrNone (x % 256) (x / 256) → a + roomIn (drop (2 * k) l) ≡ a + y + roomIn (drop (2 * (k + 1)) l)
     unfolding roomIn
     room-on y ey =
         let e : bytesOrNone (getD l (2 * k) 0) (getD l (2 * k + 1) 0) ≡ y = sym (ey ∙ rw (width, depth)) in
-        ap (λ (r : List ℕ). a + roomIn r) (pair h) ∙ rw e (omega arith)
+        ap (λ (r : List ℕ). a + roomIn r) (two-next k l h) ∙ rw e (omega arith)
 
     pub bytes-on : (y : ℕ) → y ≡ x % 256 * (x / 256) → a + bytesIn (drop (2 * k) l) ≡ a + y + bytesIn (drop (2 * (k + 1)) l)
-    unfolding bytesIn shapesIn sum
+    unfolding bytesIn twos sum
     bytes-on y ey =
         let e : getD l (2 * k) 0 * getD l (2 * k + 1) 0 ≡ y = sym (ey ∙ rw (width, depth)) in
-        ap (λ (r : List ℕ). a + bytesIn r) (pair h) ∙ rw e (omega arith)
+        ap (λ (r : List ℕ). a + bytesIn r) (two-next k l h) ∙ rw e (omega arith)
 
   pub room-end : length l ≤ 2 * k → a + roomIn (drop (2 * k) l) ≡ a
   unfolding roomIn
   room-end h = ap (λ (r : List ℕ). a + roomIn r) (drop-of-length-le l {i = 2 * k} h) ∙ omega arith
 
   pub bytes-end : length l ≤ 2 * k → a + bytesIn (drop (2 * k) l) ≡ a
-  unfolding bytesIn shapesIn sum
+  unfolding bytesIn twos sum
   bytes-end h = ap (λ (r : List ℕ). a + bytesIn r) (drop-of-length-le l {i = 2 * k} h) ∙ omega arith

@@ -39,7 +39,7 @@ module _ (f : List ℕ) (zero : configRefusal f ≡ 0) where
     t-is = o .tasks
 
     pub tasks-in : (s .tasks ≤ 126) × (8 + s .tasks ≤ length f)
-    tasks-in = (o .laid .few, omega (arith, t-is, ok .whole))
+    tasks-in = (o .laid .few, omega (arith, t-is, ok .whole .front))
 
     pub start-fits : (n : ℕ) → s .end ≤ n → Fits s n
     start-fits n h = fitting (o .laid) h

@@ -58,7 +58,8 @@ pub fn shape_of(frame: &[u8]) -> Shape
 {
     let queues = wide(frame[2]);
     let at = 8 + wide(frame[0]);
-    let sum = taken(&frame[at..], queues);
+    let end = at + 2 * queues;
+    let sum = taken(&frame[at..end], queues);
     lay(
         frame[0],
         frame[1],
@@ -70,7 +71,8 @@ pub fn shape_of(frame: &[u8]) -> Shape
     )
 }
 
-// The structure rule of number 11, and the shape of a frame that keeps it. Its initial states are not read again.
+// The structure rule of number 11, and the shape of a frame that keeps it. Its initial states are not read again, and of its
+// pairs any bytes mean some.
 pub fn lent(limits: Limits, frame: &[u8]) -> Lent
     requires { ⌜ Made (limitsOf limits) ⌝ }
     ensures { λ r. ⌜ Lends (limitsOf limits) (now (frame .entry)) r ⌝ }
@@ -84,7 +86,7 @@ pub fn lent(limits: Limits, frame: &[u8]) -> Lent
     let queues = wide(frame[2]);
     let at = 8 + wide(frame[0]);
     let end = at + 2 * queues;
-    if frame.len() != end {
+    if frame.len() < end {
         return Lent::Bad;
     }
     let sum = room(&frame[at..end], queues);
@@ -105,7 +107,7 @@ pub fn lent(limits: Limits, frame: &[u8]) -> Lent
 
 // The ring of queue q. Its entries lie behind those of the queues before it.
 pub fn ring_of(frame: &[u8], shape: Shape, q: usize) -> Ring
-    requires { ⌜ (length (now frame) ≡ frameBytes shape) × Of (configIn (now frame)) shape × (1 ≤ q) × (q ≤ shape .queues) ⌝ }
+    requires { ⌜ (frameBytes shape ≤ length (now frame)) × Of (configIn (now frame)) shape × (1 ≤ q) × (q ≤ shape .queues) ⌝ }
     ensures { λ r. ⌜ r ≡ ringOf (configIn (now (frame .entry))) shape q ⌝ }
 {
     let before = q - 1;

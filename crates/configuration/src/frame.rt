@@ -1,15 +1,16 @@
 // A configuration frame, accepted or refused; its tests serve the lent block too.
 use crate::limits::Limits;
 use crate::limits::controller;
+use crate::pairs::good_length;
+use crate::pairs::good_pairs;
 ghost use mathlib.Core.Path.{_≡_};
 ghost use Prim.Native.Nat.{_+_, _*_, _/_, _%_, _≤_};
 ghost use mathlib.Core.Bool.{_&&_};
 ghost use lib.Dec.{leb};
 ghost use lib.ListN.{length, getD};
-ghost use Rattle.ledger.specs.Lists.{all};
-ghost use Rattle.ledger.specs.Config.{goodHead, configRefusal};
-ghost use Rattle.configuration.specs.Limits.{limitsOf};
-ghost use Rattle.configuration.specs.Block.{read};
+ghost use Rattle.ledger.specs.Lists.{byte, all};
+ghost use Rattle.ledger.specs.Config.{configIn, goodHead, goodRest, configRefusal};
+ghost use Rattle.configuration.specs.Limits.{limitsOf, Made};
 ghost use Rattle.configuration.specs.Head.{headRule};
 ghost use Rattle.configuration.specs.Room.{bytesOrNone, roomIn, bytesIn};
 
@@ -58,7 +59,7 @@ fn head_rule(limits: Limits, t: u8, s: u8, q: u8, r: u8, g: u8, k: u8, ms: u16) 
 
 pub fn good_head(limits: Limits, bytes: &[u8]) -> bool
     requires { ⌜ 8 ≤ length (now bytes) ⌝ }
-    ensures { λ r. ⌜ r ≡ goodHead (limitsOf limits) (read (now (bytes .entry))) ⌝ }
+    ensures { λ r. ⌜ r ≡ goodHead (limitsOf limits) (configIn (now (bytes .entry))) ⌝ }
 {
     let ms = word(bytes[6], bytes[7]);
     head_rule(
@@ -144,6 +145,31 @@ pub fn taken(shapes: &[u8], queues: usize) -> u32
     sum
 }
 
+// The bytes in front of the pairs.
+fn front(frame: &[u8]) -> usize
+    requires { ⌜ 8 ≤ length (now frame) ⌝ }
+    ensures { λ r. ⌜ r ≡ 8 + byte 0 (now (frame .entry)) + 2 * byte 2 (now (frame .entry)) ⌝ }
+{
+    8 + wide(frame[0]) + 2 * wide(frame[2])
+}
+
+// The initial states, the queues and the pairs.
+fn good_rest(limits: Limits, frame: &[u8]) -> bool
+    requires { ⌜ Made (limitsOf limits) × (8 + byte 0 (now frame) + 2 * byte 2 (now frame) ≤ length (now frame)) ⌝ }
+    ensures { λ r. ⌜ r ≡ goodRest (limitsOf limits) (configIn (now (frame .entry))) ⌝ }
+{
+    let queues = wide(frame[2]);
+    let at = 8 + wide(frame[0]);
+    let end = at + 2 * queues;
+    if !good_states(&frame[8..at]) {
+        return false;
+    }
+    if room(&frame[at..end], queues) > limits.bytes {
+        return false;
+    }
+    good_pairs(&frame[8..at], &frame[end..])
+}
+
 // By the controller's limits; 0 accepts.
 pub fn refusal(frame: &[u8]) -> u8
     ensures { λ r. ⌜ r ≡ configRefusal (now (frame .entry)) ⌝ }
@@ -155,16 +181,10 @@ pub fn refusal(frame: &[u8]) -> u8
     if !good_head(limits, frame) {
         return 3;
     }
-    let queues = wide(frame[2]);
-    let at = 8 + wide(frame[0]);
-    let end = at + 2 * queues;
-    if frame.len() != end {
+    if !good_length(front(frame), frame.len()) {
         return 2;
     }
-    if !good_states(&frame[8..at]) {
-        return 3;
-    }
-    if room(&frame[at..end], queues) > limits.bytes {
+    if !good_rest(limits, frame) {
         return 3;
     }
     0

@@ -7,6 +7,7 @@ pub mod block;
 pub mod frame;
 pub mod fresh;
 pub mod limits;
+pub mod pairs;
 
 // What the lent configuration block is: bad if it breaks the structure rule.
 pub enum Lent {

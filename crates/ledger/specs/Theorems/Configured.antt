@@ -1,5 +1,5 @@
 -- What an accepted configuration says: each of its checks has passed.
-use Prim.Native.Nat.{ℕ, _+_, _*_, _≤_}
+use Prim.Native.Nat.{ℕ, _+_, _-_, _*_, _≤_}
 use mathlib.Core.Path.{_≡_, refl}
 use mathlib.Core.Bool.{true, not, _&&_}
 use mathlib.Core.List.{List, [], _∷_}
@@ -8,7 +8,7 @@ use borrow.Author.Tests.{leb-true, not-false}
 use lib.Dec.{ltb}
 use lib.ListN.{length, length-take, length-drop}
 use Rattle.ledger.specs.Lists.{_⇒_, all, within}
-use Rattle.ledger.specs.Config.{QueueShape, Config, configIn, controller, goodHead, goodLength, goodPair, goodRest, configRefusal}
+use Rattle.ledger.specs.Config.{QueueShape, Config, configIn, controller, mostPairs, front, goodHead, goodLength, goodPair, goodRest, configRefusal}
 use Rattle.ledger.specs.Services.{shape}
 use Rattle.ledger.specs.Theorems.Items.{Numbered}
 use Rattle.ledger.specs.Theorems.Twos.{twos-length}
@@ -53,15 +53,22 @@ checked c h r s q =
       pairs = search (and-left, and-right) depth 9;
     }
 
-pub long-enough : (c : Config) (n : ℕ) → goodLength c n ≡ true → 8 + c .T + 2 * c .Q ≤ n
+-- with what is in front of the pairs, and no more than they may be
+pub record Long (m n : ℕ) : Type 0 where
+  pub front : m ≤ n
+  pub most : n ≤ m + 2 * mostPairs
+
+pub long : (m n : ℕ) → goodLength m n ≡ true → Long m n
 unfolding goodLength
-long-enough c n h = leb-true (8 + c .T + 2 * c .Q) n (search (and-left, and-right) depth 9)
+long m n h =
+    let r : n - m ≤ 2 * mostPairs = leb-true (n - m) (2 * mostPairs) (search (and-left, and-right) depth 9) in
+    record { front = leb-true m n (search (and-left, and-right) depth 9); most = omega arith }
 
 pub configured : (g : List ℕ) → configRefusal g ≡ 0 → Configured (configIn g)
 unfolding configRefusal configIn
 configured g h =
     let c = configIn g in
-    let p = passes (ltb (length g) 8 ⇒ 2 ∷ not (goodHead controller c) ⇒ 3 ∷ not (goodLength c (length g)) ⇒ 2 ∷ not (goodRest controller c) ⇒ 3 ∷ []) refl h in
-    let n : 8 + c .T + 2 * c .Q ≤ length g = long-enough c (length g) (not-false _ (p .1 .1 .0)) in
+    let p = passes (ltb (length g) 8 ⇒ 2 ∷ not (goodHead controller c) ⇒ 3 ∷ not (goodLength (front c) (length g)) ⇒ 2 ∷ not (goodRest controller c) ⇒ 3 ∷ []) refl h in
+    let n : Long (front c) (length g) = long (front c) (length g) (not-false _ (p .1 .1 .0)) in
     checked c (not-false _ (p .1 .0)) (not-false _ (p .1 .1 .1 .0)) (simp (length-take, length-drop) (omega arith))
     (twos-length _ _ (c .Q) (simp (length-take, length-drop) (omega arith)) (simp (length-take, length-drop) (omega arith)))

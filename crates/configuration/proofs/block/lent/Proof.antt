@@ -5,12 +5,13 @@ use mathlib.Core.Path.{sym, _∙_}
 use borrow.Author.Tests.{not-true, not-false}
 use Rattle.configuration.specs.Limits.{limitsOf}
 use Rattle.configuration.specs.Lent.{lent-short, lent-head, lent-room, lent-good}
+use Rattle.configuration.specs.Block.{front-is}
 use borrow.Author.Needs.{needs}
 use Rattle.configuration.proofs.block.lent.Statement.{statement}
 use Rattle.configuration.proofs.block.lent.Tie as tie
 
 returns : tie.Need-returns
-returns c = let s = c .before .before in lent-short (limitsOf (s .args .limits)) (s .pre) (now (s .args .frame)) (λ e. omega (arith, c .if1 .taken))
+returns c = let s = c .before .before in lent-short (limitsOf (s .args .limits)) (s .pre) (now (s .args .frame)) (omega (arith, front-is (now (s .args .frame)), c .if1 .taken))
 
 good-head-requires : tie.Need-good-head-requires
 good-head-requires c κs = search needs
@@ -40,7 +41,10 @@ add-end : tie.Need-add-end
 add-end c = omega (arith, c .wide2 .ensures, c .before .shared-slice-known3 .given 0, c .before .before .wide .ensures, c .before .before .before .shared-slice-known2 .given 2)
 
 returns-3 : tie.Need-returns-3
-returns-3 c = let s = c .before .before .before .before .before .before .before .before .before in lent-short (limitsOf (s .args .limits)) (s .pre) (now (s .args .frame)) (λ e. c .if3 .taken (omega (arith, e, c .before .wide2 .ensures, c .before .before .before .wide .ensures)))
+returns-3 c =
+    let s = c .before .before .before .before .before .before .before .before .before in
+    let f = now (s .args .frame) in
+    lent-short (limitsOf (s .args .limits)) (s .pre) f (omega (arith, front-is f, c .if3 .taken, c .before .wide2 .ensures, c .before .before .before .wide .ensures))
 
 sub-room : tie.Need-sub-room
 sub-room c = search needs

@@ -2,7 +2,7 @@
 use mathlib.Core.Path.{sym, _∙_}
 use denote.Ref.{now}
 use Rattle.configuration.specs.Limits.{limitsOf}
-use Rattle.configuration.specs.Head.{head-read}
+use Rattle.configuration.specs.Head.{head-in}
 use borrow.Author.Needs.{needs}
 use Rattle.configuration.proofs.frame.good_head.Statement.{statement}
 use Rattle.configuration.proofs.frame.good_head.Tie as tie
@@ -40,7 +40,7 @@ head-rule-requires c κs = search needs
 returns : tie.Need-returns
 returns c =
     let a = c .before .before .before .before .before .before .before .before .before .before .before .args in
-    c .head-rule .ensures ∙ rw (c .before .before .before .before .before .before .before .word .ensures) (sym (head-read (limitsOf (a .limits)) (now (a .bytes))))
+    c .head-rule .ensures ∙ rw (c .before .before .before .before .before .before .before .word .ensures) (sym (head-in (limitsOf (a .limits)) (now (a .bytes))))
 
 pub good-head-spec : {M : Type 1} → statement M
 good-head-spec =
