@@ -1,5 +1,5 @@
 -- What a configuration says, by its shape.
-use Prim.Native.Nat.{ℕ}
+use Prim.Native.Nat.{ℕ, _≤_}
 use mathlib.Core.Path.{_≡_}
 use mathlib.Core.List.{List}
 use native.Mathlib.Omega.{arith}
@@ -15,15 +15,19 @@ use Rattle.configuration.specs.Layout.{frameBytes}
 abbrev pub Says : {A : Type 0} → Shape → (Config → A) → A → Type 0
 Says s f r = (c : Config) → Of c s → r ≡ f c
 
--- g is a configuration's frame, as long as it says, and the shape is its. (No record, so that its many parts stay out of sight where one fact of it is wanted)
+-- g is a configuration's frame, with all its queues, and the shape is its. (No record, so that its many parts stay out of sight where one fact of it is wanted)
 pub data Framed (g : List ℕ) (s : Shape) : Type 0 where
-  framed : length g ≡ frameBytes s → Of (configIn g) s → Framed g s
+  framed : frameBytes s ≤ length g → Of (configIn g) s → Framed g s
 
-pub bytes : {g : List ℕ} {s : Shape} → Framed g s → length g ≡ frameBytes s
+pub bytes : {g : List ℕ} {s : Shape} → Framed g s → frameBytes s ≤ length g
 bytes (framed l o) = l
 
 pub of : {g : List ℕ} {s : Shape} → Framed g s → Of (configIn g) s
 of (framed l o) = o
+
+-- no more bytes in front of the pairs than the controller has
+pub few : {g : List ℕ} {s : Shape} → Framed g s → frameBytes s ≤ 198
+few (framed l o) = omega (arith, o .laid .few, o .laid .queues)
 
 pub fits : {g : List ℕ} {s : Shape} → Framed g s → Fits s (s .end)
 fits (framed l o) = fitting (o .laid) (omega arith)

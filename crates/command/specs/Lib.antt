@@ -6,4 +6,5 @@ pub mod Numbers
 -- the checks of the input and of the state, and what is promised of the number
 pub mod Input
 pub mod State
+pub mod Firsts
 pub mod Refused

@@ -10,7 +10,7 @@ use Rattle.ledger.specs.Lists.{Check, first, _⇒_}
 use Rattle.ledger.specs.Config.{Config}
 use Rattle.ledger.specs.Ledger as ledger
 use Rattle.ledger.specs.Ledger.{Ledger, task}
-use Rattle.ledger.specs.Refusals.{fields, Call, isMessage, isTockValue, inAMailbox, haveTimer, idleOrWaiting, meets25, meets21, fromState}
+use Rattle.ledger.specs.Refusals.{fields, Call, isMessage, isTockValue, inAMailbox, haveTimer, idleOrWaiting, meets25, meets26, meets21, fromState}
 use Rattle.tables.specs.declared.shape.Shape.{Shape}
 use Rattle.tables.specs.declared.blocks.Blocks.{Blocks}
 use Rattle.tables.specs.Layout.{OneOf}
@@ -19,7 +19,7 @@ use Rattle.tables.specs.Shows.{Shows, Tells, recordIn}
 use Rattle.tables.specs.Stored.{shown-task}
 use Rattle.clock.specs.Does.{TellsTimers}
 use Rattle.command.specs.declared.codes.Fields.{Fields}
-use Rattle.command.specs.Codes.{viewX, viewWaits, viewFields}
+use Rattle.command.specs.Codes.{viewA, viewX, viewWaits, viewFields}
 
 -- the value r is the ledger's, for this configuration
 abbrev pub TellsOf : {A : Type 0} → Config → Shape → List ℕ → (Config → Ledger → A) → A → Type 0
@@ -36,11 +36,18 @@ abbrev pub StateSays : Config → Shape → (d w : List ℕ) → Fields → (a b
 StateSays c s d w u a b x r = (k : Call) → Means k u a b x → (L : Ledger) (z : List ℕ) → Shows c s L d z w → r ≡ first (fromState c L k)
 
 -- a task's blocks
-pub blocks-told : (s : Shape) (d : List ℕ) (t : ℕ) → OneOf (s .tasks) t → (x : Blocks) → x ≡ recordIn s d t .blocks → (r : Bool) → r ≡ (x .idle || x .event || x .message)
-    → Tells s d (λ c L. idleOrWaiting L t) r
-unfolding recordIn viewTask recordOf idleOrWaiting viewBlocks
-blocks-told s d t o x e r er c L z w h =
-    er ∙ ap (λ (k : ledger.Blocks). k .idle || k .eventWait || k .messageWait) (ap viewBlocks e ∙ sym (ap (λ (k : ledger.Task). k .blocks) (shown-task c s L d z w h t o)))
+module _ (s : Shape) (d : List ℕ) (t : ℕ) (o : OneOf (s .tasks) t) (x : Blocks) (e : x ≡ recordIn s d t .blocks) where
+  blocks-are : Tells s d (λ c L. task L t .blocks) (viewBlocks x)
+  unfolding recordIn viewTask recordOf
+  blocks-are c L z w h = ap viewBlocks e ∙ sym (ap (λ (k : ledger.Task). k .blocks) (shown-task c s L d z w h t o))
+
+  pub blocks-told : (r : Bool) → r ≡ (x .idle || x .event || x .message) → Tells s d (λ c L. idleOrWaiting L t) r
+  unfolding idleOrWaiting viewBlocks
+  blocks-told r er c L z w h = er ∙ ap (λ (k : ledger.Blocks). k .idle || k .eventWait || k .messageWait) (blocks-are c L z w h)
+
+  pub idle-told : Tells s d (λ c L. task L t .blocks .idle) (x .idle)
+  unfolding viewBlocks
+  idle-told c L z w h = ap (λ (k : ledger.Blocks). k .idle) (blocks-are c L z w h)
 
 and-same : (t : Bool) (y z : Bool) → (t ≡ true → y ≡ z) → (t && y) ≡ (t && z)
 and-same true y z e = e refl
@@ -49,6 +56,9 @@ and-same false y z e = refl
 module _ {u : Fields} {a b x : ℕ} (c : Config) (L : Ledger) (k : Call) (m : Means k u a b x) where
   pub is-25 : (y : Bool) → y ≡ meets25 L (viewWaits (u .waits)) a → y ≡ meets25 L (fields (k .code) .waits) (k .a)
   is-25 y e = e ∙ (λ i. meets25 L (m .row i .waits) (m .task i))
+
+  pub is-26 : (y : Bool) → y ≡ meets26 c L (viewA (u .a)) a → y ≡ meets26 c L (fields (k .code) .A) (k .a)
+  is-26 y e = e ∙ (λ i. meets26 c L (m .row i .A) (m .task i))
 
   pub is-22 : (y : Bool) → y ≡ (isMessage (viewX (u .x)) && inAMailbox L x) → y ≡ (isMessage (fields (k .code) .X) && inAMailbox L (k .x))
   is-22 y e = e ∙ and-same (isMessage (viewX (u .x))) _ _ (λ t. ap (inAMailbox L) (m .message t)) ∙ (λ i. isMessage (m .row i .X) && inAMailbox L (k .x))

@@ -6,7 +6,7 @@ ghost use Rattle.ledger.specs.Refusals as ledger;
 ghost use Rattle.tables.specs.Layout.{OneOf};
 ghost use Rattle.command.specs.Codes.{viewA, viewB, viewX, viewFollows, viewWaits, viewFields};
 
-// A: a task from 1 on; one that isn't running; a task, or 0 for self; a task, or 0 for any; a queue.
+// A: a task from 1 on; one to start, which isn't running; a task, or 0 for self; a task, or 0 for any; a queue.
 pub enum FieldA {
     Unused,
     Task,

@@ -3,6 +3,7 @@
 // Rests on the crates that read the memory: tables, mailboxes, clock and queues, and on configuration for a queue's ring.
 pub mod codes;
 pub mod fields;
+pub mod firsts;
 pub mod input;
 pub mod state;
 

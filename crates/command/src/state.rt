@@ -1,8 +1,9 @@
-// The numbers that the memory gives: 25, 22, 21, 24 and 23, in the ledger's order.
+// The numbers that the memory gives: 25, 26, 22, 21, 24 and 23, in the ledger's order.
 use crate::codes::FieldX;
 use crate::codes::Fields;
 use crate::codes::Waits;
 use crate::fields::wide;
+use crate::firsts::before_first;
 use tables::shape::Shape;
 ghost use mathlib.Core.Bool.{_&&_};
 ghost use mathlib.Core.List.{[], _∷_};
@@ -128,6 +129,10 @@ pub fn state(
     let kind = u.x;
     if busy(waits, tables, shape, a, b) {
         return 25;
+    }
+    let to_start = u.a;
+    if before_first(to_start, config, tables, shape, a) {
+        return 26;
     }
     if lies(kind, tables, shape, x) {
         return 22;

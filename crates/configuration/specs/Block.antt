@@ -5,7 +5,8 @@ use mathlib.Core.List.{List, map}
 use Prim.Native.Nat.{ℕ, _+_, _-_, _*_}
 use native.Mathlib.Omega.{arith}
 use lib.Dec.{leb}
-use lib.ListN.{length, take, drop}
+use lib.ListN.{length, take, drop, length-drop}
+use lib.Seq.{take-all}
 use Rattle.rows.specs.Splice.{cut}
 use Rattle.ledger.specs.Lists.{within, byte, sum, all}
 use Rattle.ledger.specs.Config.{QueueShape, Config, Limits, shapesIn, pairsIn, configIn, front, goodHead, goodPair, goodRest}
@@ -63,6 +64,8 @@ module _ (f : List ℕ) (t q : ℕ) (et : t ≡ byte 0 f) (eq : q ≡ byte 2 f) 
       let e : 2 * byte 2 f ≡ 8 + t + 2 * q - (8 + t) = omega arith in
       ap (λ (n : ℕ). shapesIn (take (2 * byte 2 f) (drop (8 + n) f))) (sym et) ∙ ap (λ (n : ℕ). shapesIn (take n (drop (8 + t) f))) e
 
-  pub pairs-in : configIn f .pairs ≡ pairsIn (drop (8 + t + 2 * q) f)
+  pub pairs-in : configIn f .pairs ≡ pairsIn (cut f (8 + t + 2 * q) (length f))
   unfolding configIn
-  pairs-in = rw (et, eq)
+  pairs-in =
+      let e : take (length f - (8 + t + 2 * q)) (drop (8 + t + 2 * q) f) ≡ drop (8 + t + 2 * q) f = take-all (length f - (8 + t + 2 * q)) (drop (8 + t + 2 * q) f) (simp length-drop (omega arith)) in
+      sym (ap pairsIn e ∙ rw (et, eq))

@@ -5,8 +5,7 @@ use mathlib.Core.List.{List, [], _∷_}
 use Prim.Native.Nat.{ℕ, _+_, _-_, _*_, _<_, _≤_}
 use native.Mathlib.Omega.{arith}
 use lib.Dec.{leb}
-use lib.ListN.{length, drop, length-drop}
-use lib.Seq.{take-all}
+use lib.ListN.{length}
 use borrow.Author.Tests.{lt-ltb, le-ltb}
 use Rattle.rows.specs.Splice.{cut}
 use Rattle.ledger.specs.Lists.{first, _⇒_, byte, all}
@@ -68,15 +67,11 @@ module _ (m : Limits) (made : Made m) (f : List ℕ) (t q : ℕ) (et : t ≡ byt
   abbrev pairs : List ℕ
   pairs = cut f (8 + t + 2 * q) (length f)
 
-  pairs-are : configIn f .pairs ≡ pairsIn pairs
-  pairs-are =
-      pairs-in f t q et eq ∙ ap pairsIn (sym (take-all (length f - (8 + t + 2 * q)) (drop (8 + t + 2 * q) f) (simp length-drop (omega arith))))
-
   parts : goodRest m (configIn f) ≡ (all (λ s. leb s 1) states && goodShapes m (shapesIn queues) && all (goodPair t states) (pairsIn pairs))
   unfolding goodQueues goodPairs configIn
   parts =
       rest-parts m (configIn f)
-      ∙ (λ i. all (λ s. leb s 1) (states-in f t q et eq i) && goodShapes m (shapes-in f t q et eq i) && all (goodPair (sym et i) (states-in f t q et eq i)) (pairs-are i))
+      ∙ (λ i. all (λ s. leb s 1) (states-in f t q et eq i) && goodShapes m (shapes-in f t q et eq i) && all (goodPair (sym et i) (states-in f t q et eq i)) (pairs-in f t q et eq i))
 
   pub bad-states : false ≡ all (λ s. leb s 1) states → false ≡ goodRest m (configIn f)
   bad-states e = sym (parts ∙ rw (sym e))
