@@ -16,7 +16,7 @@ use Rattle.ledger.specs.Theorems.Checks.{and-left, and-right, passes}
 use Rattle.tables.specs.declared.shape.Shape.{Shape}
 use Rattle.tables.specs.Shows.{Of}
 use Rattle.configuration.specs.Block.{product, goodQueues, goodPairs, rule, frameRule, rest-parts, shapes-in}
-use Rattle.configuration.specs.Limits.{controller-made}
+use Rattle.configuration.specs.Limits.{longest, controller-made}
 use Rattle.configuration.specs.Head.{Head}
 use Rattle.configuration.specs.Layout.{laidOut, shapeOf, rule-head, rule-room, of-shape}
 use Rattle.configuration.specs.Room.{bytesIn}
@@ -45,7 +45,10 @@ module _ (f : List ℕ) (a : Accepted f) where
 
   pub accepted-rule : frameRule controller f ≡ true
   unfolding frameRule configIn
-  accepted-rule = rw (le-leb (8 + byte 0 f + 2 * byte 2 f) (length f) (a .whole .front)) (a .rule)
+  accepted-rule =
+      let h = accepted-head in
+      let l : length f ≤ longest controller = omega (arith, a .whole .most, h .few, h .queues) in
+      rw (le-leb (8 + byte 0 f + 2 * byte 2 f) (length f) (a .whole .front), le-leb (length f) (longest controller) l) (a .rule)
 
   pub accepted-length : 8 ≤ length f
   accepted-length = omega (arith, a .whole .front)

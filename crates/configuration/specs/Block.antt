@@ -9,6 +9,7 @@ use lib.ListN.{length, take, drop, length-drop}
 use lib.Seq.{take-all}
 use Rattle.rows.specs.Splice.{cut}
 use Rattle.ledger.specs.Lists.{within, byte, sum, all}
+use Rattle.configuration.specs.Limits.{longest}
 use Rattle.ledger.specs.Config.{QueueShape, Config, Limits, shapesIn, pairsIn, configIn, front, goodHead, goodPair, goodRest}
 
 -- ---- the structure rule of number 11. The initial states are not read again
@@ -28,9 +29,10 @@ goodQueues m c = goodShapes m (c .shapes)
 unfoldable pub rule : Limits → Config → Bool
 rule m c = goodHead m c && goodQueues m c
 
--- of the frame that the block holds: it has what is in front of the pairs. The pairs are not tested: any bytes mean some
+-- of the frame that the block holds: it has what is in front of the pairs, and is no longer than the longest. The pairs are not tested: any
+-- bytes mean some
 unfoldable pub frameRule : Limits → List ℕ → Bool
-frameRule m f = leb (front (configIn f)) (length f) && rule m (configIn f)
+frameRule m f = leb (front (configIn f)) (length f) && leb (length f) (longest m) && rule m (configIn f)
 
 pub and-no : (a : Bool) → (a && false) ≡ false
 and-no true = refl

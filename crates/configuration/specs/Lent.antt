@@ -17,7 +17,7 @@ use Rattle.tables.specs.declared.shape.Shape.{Shape}
 use Rattle.tables.specs.Shows.{Of}
 use Rattle.configuration.specs.declared.Lent.the-variants.{Good}
 use Rattle.configuration.specs.Block.{and-no, product, goodShapes, goodQueues, rule, frameRule, shapes-in}
-use Rattle.configuration.specs.Limits.{Made}
+use Rattle.configuration.specs.Limits.{longest, Made}
 use Rattle.configuration.specs.Room.{roomIn, room-good, room-bad}
 use Rattle.configuration.specs.Layout.{laidOut, shapeOf, Lends, of-shape}
 
@@ -29,9 +29,10 @@ module _ (m : Limits) (made : Made m) (f : List ℕ) where
 
   pub lent-head : goodHead m (configIn f) ≡ false → frameRule m f ≡ false
   unfolding frameRule rule
-  lent-head e = rw e (and-no (leb (front (configIn f)) (length f)))
+  lent-head e = rw e (and-no (leb (front (configIn f)) (length f) && leb (length f) (longest m)))
 
-  module _ (head : goodHead m (configIn f) ≡ true) (t q : ℕ) (et : t ≡ byte 0 f) (eq : q ≡ byte 2 f) (whole : 8 + t + 2 * q ≤ length f) where
+  module _ (head : goodHead m (configIn f) ≡ true) (t q : ℕ) (et : t ≡ byte 0 f) (eq : q ≡ byte 2 f) (whole : 8 + t + 2 * q ≤ length f)
+      (short : length f ≤ longest m) where
     abbrev part : List ℕ
     part = cut f (8 + t) (8 + t + 2 * q)
 
@@ -40,7 +41,7 @@ module _ (m : Limits) (made : Made m) (f : List ℕ) where
 
     by-rule : (b : Bool) → rule m (configIn f) ≡ b → frameRule m f ≡ b
     unfolding frameRule configIn
-    by-rule b e = let l : 8 + byte 0 f + 2 * byte 2 f ≤ length f = omega arith in rw (le-leb (8 + byte 0 f + 2 * byte 2 f) (length f) l) e
+    by-rule b e = let l : 8 + byte 0 f + 2 * byte 2 f ≤ length f = omega arith in rw (le-leb (8 + byte 0 f + 2 * byte 2 f) (length f) l, le-leb (length f) (longest m) short) e
 
     pub lent-room : m .bytes < roomIn part → frameRule m f ≡ false
     unfolding rule goodQueues

@@ -14,7 +14,7 @@ ghost use lib.ListN.{length};
 ghost use Rattle.ledger.specs.Config.{configIn, configRefusal};
 ghost use Rattle.tables.specs.Shows.{Of};
 ghost use Rattle.queues.specs.Rings.{ringOf};
-ghost use Rattle.configuration.specs.Limits.{limitsOf, Made};
+ghost use Rattle.configuration.specs.Limits.{limitsOf, longest, Made};
 ghost use Rattle.configuration.specs.Layout.{frameBytes, laidOut, Lends};
 
 // The regions of the tables, one behind the other.
@@ -74,7 +74,7 @@ pub fn shape_of(frame: &[u8]) -> Shape
 // The structure rule of number 11, and the shape of a frame that keeps it. Its initial states are not read again, and of its
 // pairs any bytes mean some.
 pub fn lent(limits: Limits, frame: &[u8]) -> Lent
-    requires { ⌜ Made (limitsOf limits) ⌝ }
+    requires { ⌜ Made (limitsOf limits) × (length (now frame) ≤ longest (limitsOf limits)) ⌝ }
     ensures { λ r. ⌜ Lends (limitsOf limits) (now (frame .entry)) r ⌝ }
 {
     if frame.len() < 8 {

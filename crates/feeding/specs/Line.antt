@@ -19,7 +19,7 @@ use Rattle.feeding.specs.Whole.{parts}
 
 -- one more digit than the longest line has: a line that is held so far is too long
 abbrev pub most : ℕ
-most = 401
+most = 653
 
 -- the buffer's first bytes are the line's
 pub record Keeps (l : List ℕ) (held : ℕ) (line : List ℕ) : Type 0 where
@@ -45,7 +45,7 @@ pub record Gathers (input : List ℕ) (from : ℕ) (line : List ℕ) (held : ℕ
 
 too-long : (l : List ℕ) → most ≤ length l → frameOf l ≡ none
 unfolding frameOf
-too-long l h = rw (lt-leb (length l) 400 (omega arith))
+too-long l h = rw (lt-leb (length l) 652 (omega arith))
 
 frame-cut : (l : List ℕ) → frameOf (take most l) ≡ frameOf l
 frame-cut l = go (leb (length l) most) refl

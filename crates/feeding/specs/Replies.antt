@@ -85,7 +85,7 @@ unfoldable lengthIn : Written → ℕ
 lengthIn (written-as.Refused n) = 0
 lengthIn (written-as.Length n) = n
 
-module _ (line before after : List ℕ) (w : Written) (g : Gives (readLine (length before) line) before after w) (room : 200 ≤ length before) where
+module _ (line before after : List ℕ) (w : Written) (g : Gives (readLine (length before) line) before after w) (room : 326 ≤ length before) where
   says-frame : (f : List ℕ) → frameOf line ≡ some f → (w ≡ written-as.Length (length f)) × (after ≡ f ++ drop (length f) before)
   unfolding readLine writtenInto answerTo leftIn
   says-frame f e =

@@ -4,7 +4,7 @@ ghost use lib.ListN.{length};
 ghost use Rattle.feeding.specs.Line.{most, Gathers};
 
 // One more digit than the longest line has.
-pub const HELD: usize = 401;
+pub const HELD: usize = 653;
 
 // The next byte of the input, the bytes held of the line, and whether its end was met.
 pub struct Gathered {

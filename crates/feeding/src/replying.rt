@@ -22,7 +22,7 @@ pub fn reply_first(
     requires { ⌜ Full (memory (now config) (now tables) (now slots) (now timers) (now answer)) ⌝ }
     ensures { λ r. ⌜ FirstReply (frameOf (now (line .entry))) (memory (now (config .exit)) (now (tables .exit)) (now (slots .exit)) (now (timers .exit)) (now (answer .exit))) r ⌝ }
 {
-    let mut frame = [0u8; 200];
+    let mut frame = [0u8; 326];
     let w = line::read(line, &mut frame);
     match w {
         Written::Refused(_) => {
@@ -48,7 +48,7 @@ pub fn reply_first(
 
 // The answer to a line that is no frame.
 fn refuse_line(config: &[u8], tables: &[u8], slots: &[u8], answer: &mut [u8])
-    requires { ⌜ (208 ≤ length (now config)) × (7517 ≤ length (now tables)) × (2024 ≤ length (now slots)) × (21 ≤ length (now answer)) ⌝ }
+    requires { ⌜ (336 ≤ length (now config)) × (7517 ≤ length (now tables)) × (2024 ≤ length (now slots)) × (21 ≤ length (now answer)) ⌝ }
     ensures { λ _. ⌜ RefusesLine (now (config .entry)) (now (tables .entry)) (now (slots .entry)) (now (answer .entry)) (now (answer .exit)) ⌝ }
 {
     let limits = controller();
@@ -72,7 +72,7 @@ pub fn reply_next(
     ensures { λ _. ⌜ GoesOn (frameOf (now (line .entry))) (memory (now (config .entry)) (now (tables .entry)) (now (slots .entry)) (now (timers .entry)) (now (answer .entry)))
         (memory (now (config .entry)) (now (tables .exit)) (now (slots .exit)) (now (timers .exit)) (now (answer .exit))) ⌝ }
 {
-    let mut frame = [0u8; 200];
+    let mut frame = [0u8; 326];
     let w = line::read(line, &mut frame);
     match w {
         Written::Refused(_) => refuse_line(config, tables, slots, answer),

@@ -32,14 +32,14 @@ use Rattle.parts.specs.Parts.{partAt, frameAt, ends, part, keptFrame, kept, Sta
 use Rattle.parts.specs.Laws.{length-ends, marks-after, spares-after, part-stays, back-part, back-stays, back-same, kept-frame}
 use Rattle.mcx11.specs.Contract.{Memory, memory, Sizes, sizesOf, fullSize, configMark, tablesMark, slotsMark, timersMark, isMarked, configOf, tablesPart, slotsPart, timersPart, messagesSound, lentWell, Displays, Tidily, SameSizes, answering, Begins, Configures, Frames}
 use Rattle.mcx11.specs.Sizes.{RoomForMarks, room-for-marks, full-sizes, full-kept, well-full, well-frame, well-messages}
-use Rattle.mcx11.specs.Tested.{frame-is, sound-is, frame-rule, frame-whole, frame-short, tables-within, slots-within, timers-within}
+use Rattle.mcx11.specs.Tested.{frame-is, sound-is, frame-rule, frame-front, frame-short, tables-within, slots-within, timers-within}
 use Rattle.mcx11.specs.Displayed.{displays-well}
 
 -- ---- a frame
 
 -- the frame that the block keeps and the parts lie within the blocks, and the messages are sound. (No record, so that its parts stay out of sight)
 pub data Room (s : Shape) (g d z w : List ℕ) : Type 0 where
-  room : Of (configIn (keptFrame g)) s → length (keptFrame g) ≡ frameBytes s → frameAt + word partAt g ≤ length g → partAt + s .end ≤ length d → partAt + 16 * s .tasks ≤ length z
+  room : Of (configIn (keptFrame g)) s → frameBytes s ≤ length (keptFrame g) → frameAt + word partAt g ≤ length g → partAt + s .end ≤ length d → partAt + 16 * s .tasks ≤ length z
       → partAt + timersBytes s ≤ length w → soundIn s (part (s .end) d) ≡ true → Room s g d z w
 
 -- the parts went as the ledger goes, and the bytes outside them stay
@@ -148,7 +148,7 @@ module _ (f g d z w a : List ℕ) where
         let n = full-sizes m (well-full m well) in
         let c : Config = configIn (keptFrame g) in
         let r = frame-rule controller controller-made (keptFrame g) keeps in
-        let b = frame-whole controller controller-made (keptFrame g) keeps in
+        let b = frame-front controller controller-made (keptFrame g) keeps in
         let u = frame-short controller controller-made (keptFrame g) keeps in
         let i = tables-within controller controller-made c r s o in
         let j = slots-within controller controller-made c r s o in
@@ -225,7 +225,7 @@ module _ (f : List ℕ) (zero : configRefusal f ≡ 0) (s : Shape) (o : Of (conf
   abbrev frame-ruled : rule controller (configIn f) ≡ true
   frame-ruled = frame-rule controller controller-made f frame-keeps
 
-  pub begin-fits : (length f ≤ 198) × (partAt + s .end + 4 ≤ 7517) × (partAt + 16 * s .tasks + 4 ≤ 2024) × (partAt + timersBytes s + 4 ≤ 659)
+  pub begin-fits : (length f ≤ 326) × (partAt + s .end + 4 ≤ 7517) × (partAt + 16 * s .tasks + 4 ≤ 2024) × (partAt + timersBytes s + 4 ≤ 659)
   unfolding sizesOf
   begin-fits = (
     frame-short controller controller-made f frame-keeps,
@@ -235,7 +235,7 @@ module _ (f : List ℕ) (zero : configRefusal f ≡ 0) (s : Shape) (o : Of (conf
   )
 
   -- marked, with the frame and the fresh parts
-  module _ (g d z w a : List ℕ) (full : fullSize (memory g d z w a) ≡ true) (g' d' z' w' a' : List ℕ) (eg : g' ≡ splice (ends configMark 208 g) partAt (kept f))
+  module _ (g d z w a : List ℕ) (full : fullSize (memory g d z w a) ≡ true) (g' d' z' w' a' : List ℕ) (eg : g' ≡ splice (ends configMark 336 g) partAt (kept f))
       (h : Places s f (ends tablesMark 7517 d) (ends slotsMark 2024 z) (ends timersMark 659 w) d' z' w') (tells : TellsNow s d' z' 0 a a')
       (sizes : SameSizes (memory g d z w a) (memory g' d' z' w' a')) where
     abbrev m₀ : Memory
@@ -247,19 +247,19 @@ module _ (f : List ℕ) (zero : configRefusal f ≡ 0) (s : Shape) (o : Of (conf
     shape-here : s ≡ shapeOf (configIn f)
     shape-here = of-one (configIn f) s o
 
-    frame-stays : Stays (2 + length f) (ends configMark 208 g) g'
+    frame-stays : Stays (2 + length f) (ends configMark 336 g) g'
     frame-stays i k =
         let n = full-sizes m₀ full in
-        let e = length-ends g 208 configMark (omega arith) (n .config) in
+        let e = length-ends g 336 configMark (omega arith) (n .config) in
         let b = begin-fits in
-        ap (λ (x : List ℕ). getD x i 0) eg ∙ part-stays (ends configMark 208 g) (2 + length f) (kept f) (omega arith) (omega (arith, b .0, n .config)) i k
+        ap (λ (x : List ℕ). getD x i 0) eg ∙ part-stays (ends configMark 336 g) (2 + length f) (kept f) (omega arith) (omega (arith, b .0, n .config)) i k
 
     frame-here : keptFrame g' ≡ f
     frame-here =
         let n = full-sizes m₀ full in
-        let e = length-ends g 208 configMark (omega arith) (n .config) in
+        let e = length-ends g 336 configMark (omega arith) (n .config) in
         let b = begin-fits in
-        ap keptFrame eg ∙ kept-frame (ends configMark 208 g) f (omega (arith, b .0)) (omega (arith, b .0, n .config))
+        ap keptFrame eg ∙ kept-frame (ends configMark 336 g) f (omega (arith, b .0)) (omega (arith, b .0, n .config))
 
     config-here : configOf m₁ ≡ configIn f
     unfolding configOf
@@ -271,7 +271,7 @@ module _ (f : List ℕ) (zero : configRefusal f ≡ 0) (s : Shape) (o : Of (conf
         let n = full-sizes m₀ full in
         let b = begin-fits in
         rw (
-          marks-after g g' 208 configMark (2 + length f) (omega (arith, b .0)) (n .config) frame-stays (omega arith),
+          marks-after g g' 336 configMark (2 + length f) (omega (arith, b .0)) (n .config) frame-stays (omega arith),
           marks-after d d' 7517 tablesMark (s .end) (b .1) (n .tables) (h .tables) (omega arith),
           marks-after z z' 2024 slotsMark (16 * s .tasks) (b .2) (n .slots) (h .slots) (omega arith),
           marks-after w w' 659 timersMark (timersBytes s) (b .3) (n .timers) (h .timers) (omega arith),
@@ -302,7 +302,7 @@ module _ (f : List ℕ) (zero : configRefusal f ≡ 0) (s : Shape) (o : Of (conf
           tidy = tidy-here;
           answered = tells c (fresh c) (part (timersBytes s) w') (h .started .shows s o);
           outside = record {
-            config = spares-after g g' 208 configMark (2 + length f) (omega (arith, b .0)) (n .config) frame-stays;
+            config = spares-after g g' 336 configMark (2 + length f) (omega (arith, b .0)) (n .config) frame-stays;
             tables = subst (λ (y : Shape). Spares (y .end) 7517 d d') shape-here (spares-after d d' 7517 tablesMark (s .end) (b .1) (n .tables) (h .tables));
             slots = subst (λ (y : Shape). Spares (16 * y .tasks) 2024 z z') shape-here (spares-after z z' 2024 slotsMark (16 * s .tasks) (b .2) (n .slots) (h .slots));
             timers = subst (λ (y : Shape). Spares (timersBytes y) 659 w w') shape-here (spares-after w w' 659 timersMark (timersBytes s) (b .3) (n .timers) (h .timers));
@@ -315,7 +315,7 @@ pub begun-by : (f : List ℕ) → configRefusal f ≡ 0 → (s : Shape) → Of (
     → g' ≡ splice g₁ partAt (kept f) → Places s f d₁ z₁ w₁ d' z' w' → TellsNow s d' z' 0 a a' → SameSizes (memory g d z w a) (memory g' d' z' w' a') → Begins f (memory g d z w a) (memory g' d' z' w' a') 0
 unfolding sizesOf
 begun-by f zero s o n en g d z w a g₁ d₁ z₁ w₁ g' d' z' w' a' full e eg h tells sizes =
-    let eg₁ : g₁ ≡ ends configMark 208 g = e .0 ∙ ap (λ (k : Sizes). ends configMark (k .config) g) en in
+    let eg₁ : g₁ ≡ ends configMark 336 g = e .0 ∙ ap (λ (k : Sizes). ends configMark (k .config) g) en in
     let ed : d₁ ≡ ends tablesMark 7517 d = e .1 ∙ ap (λ (k : Sizes). ends tablesMark (k .tables) d) en in
     let ez : z₁ ≡ ends slotsMark 2024 z = e .2 ∙ ap (λ (k : Sizes). ends slotsMark (k .slots) z) en in
     let ew : w₁ ≡ ends timersMark 659 w = e .3 ∙ ap (λ (k : Sizes). ends timersMark (k .timers) w) en in

@@ -63,7 +63,7 @@ module _ (m m' : Memory) (full : fullSize m ≡ true) (keeps : frameRule control
       let t = marks-kept (m .tables) (m' .tables) (s .end) 7517 tablesMark (f .0) (out .tables) in
       let x = marks-kept (m .slots) (m' .slots) (16 * s .tasks) 2024 slotsMark (f .1) (out .slots) in
       let y = marks-kept (m .timers) (m' .timers) (timersBytes s) 659 timersMark (f .2) (out .timers) in
-      λ i. markedBy configMark 208 (same i) && t i && x i && y i
+      λ i. markedBy configMark 336 (same i) && t i && x i && y i
 
 -- the configuration is the same, and the memory is lent well again
 module _ {f : List ℕ} {m m' : Memory} {r : ℕ} (h : Frames f m m' r) where

@@ -35,7 +35,7 @@ module _ {n : Sizes} {g d z w : ℕ} where
   timers-sized (room-for-marks a b c e) = e
 
 pub record Full (m : Memory) : Type 0 where
-  pub config : 208 ≤ length (m .config)
+  pub config : 336 ≤ length (m .config)
   pub tables : 7517 ≤ length (m .tables)
   pub slots : 2024 ≤ length (m .slots)
   pub timers : 659 ≤ length (m .timers)
@@ -45,7 +45,7 @@ pub full-sizes : (m : Memory) → fullSize m ≡ true → Full m
 unfolding fullSize hasSizes sizesOf
 full-sizes m h =
     record {
-      config = leb-true 208 _ (search (and-left, and-right) depth 9);
+      config = leb-true 336 _ (search (and-left, and-right) depth 9);
       tables = leb-true 7517 _ (search (and-left, and-right) depth 9);
       slots = leb-true 2024 _ (search (and-left, and-right) depth 9);
       timers = leb-true 659 _ (search (and-left, and-right) depth 9);

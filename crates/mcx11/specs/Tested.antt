@@ -4,11 +4,11 @@ use mathlib.Core.Path.{_≡_, refl, sym, ap, _∙_, subst}
 use mathlib.Core.Bool.{Bool, true, false, cond, _&&_}
 use mathlib.Core.List.{List}
 use native.Mathlib.Omega.{arith}
-use lib.Dec.{eqb, leb}
-use borrow.Author.Tests.{leb-true, eqb-true}
-use lib.ListN.{length, drop, length-take, length-drop}
+use lib.Dec.{leb}
+use borrow.Author.Tests.{leb-true}
+use lib.ListN.{length, take, drop, length-take, length-drop}
 use Rattle.ledger.specs.Lists.{byte, word}
-use Rattle.ledger.specs.Config.{Config, Limits, controller, configIn}
+use Rattle.ledger.specs.Config.{Config, Limits, controller, configIn, front}
 use Rattle.ledger.specs.Theorems.Checks.{and-left, and-right}
 use Rattle.tables.specs.declared.shape.Shape.{Shape}
 use Rattle.tables.specs.Layout.{Fits, fitting}
@@ -19,7 +19,7 @@ use Rattle.configuration.specs.declared.Lent.the-variants.{Bad, Good}
 use Rattle.configuration.specs.Limits.{longest, Made, controller-made}
 use Rattle.configuration.specs.Block.{rule, frameRule}
 use Rattle.configuration.specs.Layout.{shapeOf, of-one, of-shape, Lends, rule-head, rule-room}
-use Rattle.configuration.specs.Lent.{shapes-length}
+use Rattle.ledger.specs.Theorems.Twos.{twos-length}
 use Rattle.configuration.specs.Started.{timersBytes}
 use Rattle.rows.specs.Splice.{cut}
 use Rattle.parts.specs.Parts.{partAt, frameAt, markedBy, part, keptFrame}
@@ -53,19 +53,21 @@ lent-good k ek f h e = let x = lends-good k f h e in (ap (λ (y : Limits). frame
 module _ (k : Limits) (made : Made k) (f : List ℕ) (keeps : frameRule k f ≡ true) where
   pub frame-rule : rule k (configIn f) ≡ true
   unfolding frameRule
-  frame-rule = and-right (eqb (length f) (8 + byte 0 f + 2 * byte 2 f)) (rule k (configIn f)) keeps
+  frame-rule = and-right (leb (front (configIn f)) (length f) && leb (length f) (longest k)) (rule k (configIn f)) keeps
 
-  pub frame-whole : length f ≡ 8 + byte 0 f + 2 * byte 2 f
-  unfolding frameRule
-  frame-whole = eqb-true (length f) (8 + byte 0 f + 2 * byte 2 f) (and-left _ (rule k (configIn f)) keeps)
+  pub frame-front : 8 + byte 0 f + 2 * byte 2 f ≤ length f
+  unfolding frameRule configIn
+  frame-front = leb-true (8 + byte 0 f + 2 * byte 2 f) (length f) (search (and-left, and-right) depth 9)
 
   pub frame-short : length f ≤ longest k
-  unfolding configIn
-  frame-short = let h = rule-head k made (configIn f) frame-rule in omega (arith, frame-whole, h .few, h .queues)
+  unfolding frameRule
+  frame-short = leb-true (length f) (longest k) (search (and-left, and-right) depth 9)
 
   frame-shapes : length (configIn f .shapes) ≡ configIn f .Q
   unfolding configIn
-  frame-shapes = shapes-length (drop (8 + byte 0 f) f) (byte 2 f) (simp length-drop (omega (arith, frame-whole)))
+  frame-shapes =
+      let l : length (take (2 * byte 2 f) (drop (8 + byte 0 f) f)) ≡ 2 * byte 2 f = simp (length-take, length-drop) (omega (arith, frame-front)) in
+      twos-length _ _ (byte 2 f) (omega (arith, l)) (omega (arith, l))
 
   -- the shape of its tables
   pub frame-shape : Of (configIn f) (shapeOf (configIn f))

@@ -1,6 +1,7 @@
 // The whole test for number 11: the sizes of the lent blocks, their marks, the configuration that they hold, and the messages.
 use configuration::Lent;
 use configuration::limits::Limits;
+use configuration::pairs::MOST_PAIRS;
 use parts::FRAME_AT;
 use parts::PART_AT;
 use tables::shape::RECORDS_AT;
@@ -47,9 +48,9 @@ fn wide(x: u8) -> usize
 
 // The longest frame of a configuration within the limits.
 fn longest(limits: Limits) -> usize
-    ensures { λ r. ⌜ (r ≡ limit.longest (limitsOf limits)) × (r ≤ 773) ⌝ }
+    ensures { λ r. ⌜ (r ≡ limit.longest (limitsOf limits)) × (r ≤ 901) ⌝ }
 {
-    8 + wide(limits.tasks) + 2 * wide(limits.queues)
+    8 + wide(limits.tasks) + 2 * wide(limits.queues) + 2 * MOST_PAIRS
 }
 
 // The most that a configuration within the limits needs, with the marks.

@@ -45,8 +45,8 @@ fn write_out(out: &[u8], printed: usize) -> bool
 // Reads a block, feeds it and writes what was printed. An error is not the end of the input, and no line ends with it.
 fn turn(
     reached: Reached,
-    line: &mut [u8; 401],
-    config: &mut [u8; 208],
+    line: &mut [u8; 653],
+    config: &mut [u8; 336],
     tables: &mut [u8; 7517],
     slots: &mut [u8; 2024],
     timers: &mut [u8; 659],
@@ -93,8 +93,8 @@ fn turn(
 // The end of the input.
 fn end(
     reached: Reached,
-    line: &[u8; 401],
-    config: &mut [u8; 208],
+    line: &[u8; 653],
+    config: &mut [u8; 336],
     tables: &mut [u8; 7517],
     slots: &mut [u8; 2024],
     timers: &mut [u8; 659],
@@ -111,8 +111,8 @@ fn end(
 // Feeds all of the input. A proved loop has to end, and nothing says that an input does, so the turns are counted down from a
 // number that no run uses up.
 fn main() {
-    let mut line = [0u8; 401];
-    let mut config = [0u8; 208];
+    let mut line = [0u8; 653];
+    let mut config = [0u8; 336];
     let mut tables = [0u8; 7517];
     let mut slots = [0u8; 2024];
     let mut timers = [0u8; 659];

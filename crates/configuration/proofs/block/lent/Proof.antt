@@ -11,13 +11,13 @@ use Rattle.configuration.proofs.block.lent.Statement.{statement}
 use Rattle.configuration.proofs.block.lent.Tie as tie
 
 returns : tie.Need-returns
-returns c = let s = c .before .before in lent-short (limitsOf (s .args .limits)) (s .pre) (now (s .args .frame)) (omega (arith, front-is (now (s .args .frame)), c .if1 .taken))
+returns c = let s = c .before .before in lent-short (limitsOf (s .args .limits)) (s .pre .0) (now (s .args .frame)) (omega (arith, front-is (now (s .args .frame)), c .if1 .taken))
 
 good-head-requires : tie.Need-good-head-requires
 good-head-requires c κs = search needs
 
 returns-2 : tie.Need-returns-2
-returns-2 c = let s = c .before .before .before .before in lent-head (limitsOf (s .args .limits)) (s .pre) (now (s .args .frame)) (sym (c .before .good-head .ensures) ∙ not-true _ (c .if2 .taken))
+returns-2 c = let s = c .before .before .before .before in lent-head (limitsOf (s .args .limits)) (s .pre .0) (now (s .args .frame)) (sym (c .before .good-head .ensures) ∙ not-true _ (c .if2 .taken))
 
 shared-slice-read-wide : tie.Need-shared-slice-read-wide
 shared-slice-read-wide c = search needs
@@ -44,7 +44,7 @@ returns-3 : tie.Need-returns-3
 returns-3 c =
     let s = c .before .before .before .before .before .before .before .before .before in
     let f = now (s .args .frame) in
-    lent-short (limitsOf (s .args .limits)) (s .pre) f (omega (arith, front-is f, c .if3 .taken, c .before .wide2 .ensures, c .before .before .before .wide .ensures))
+    lent-short (limitsOf (s .args .limits)) (s .pre .0) f (omega (arith, front-is f, c .if3 .taken, c .before .wide2 .ensures, c .before .before .before .wide .ensures))
 
 sub-room : tie.Need-sub-room
 sub-room c = search needs
@@ -61,8 +61,8 @@ room-requires c κs = (search needs, omega (arith, c .before .before .before .be
 returns-4 : tie.Need-returns-4
 returns-4 c =
     let s = c .before .before .before .before .before .before .before .before .before .before .before .before .before in
-    lent-room (limitsOf (s .args .limits)) (s .pre) (now (s .args .frame)) (sym (c .before .before .before .before .before .before .before .before .before .before .good-head .ensures) ∙ not-false _ (c .before .before .before .before .before .before .before .before .before .if2 .left)) _ _ (c .before .before .before .before .before .wide2 .ensures) (c .before .before .before .before .before .before .before .wide .ensures)
-    (omega (arith, c .before .before .before .before .if3 .left)) (omega (arith, c .before .before .room .ensures))
+    lent-room (limitsOf (s .args .limits)) (s .pre .0) (now (s .args .frame)) (sym (c .before .before .before .before .before .before .before .before .before .before .good-head .ensures) ∙ not-false _ (c .before .before .before .before .before .before .before .before .before .if2 .left)) _ _ (c .before .before .before .before .before .wide2 .ensures) (c .before .before .before .before .before .before .before .wide .ensures)
+    (omega (arith, c .before .before .before .before .if3 .left)) (s .pre .1) (omega (arith, c .before .before .room .ensures))
 
 shared-slice-read-lay : tie.Need-shared-slice-read-lay
 shared-slice-read-lay c = search needs
@@ -86,13 +86,13 @@ cast-lay : tie.Need-cast-lay
 cast-lay c = search needs
 
 lay-requires : tie.Need-lay-requires
-lay-requires c κs = omega (arith, c .before .before .before .before .before .before .before .before .before .before .before .before .before .before .before .before .before .before .before .pre .bytes, c .before .before .before .before .before .before .if4 .left)
+lay-requires c κs = omega (arith, c .before .before .before .before .before .before .before .before .before .before .before .before .before .before .before .before .before .before .before .pre .0 .bytes, c .before .before .before .before .before .before .if4 .left)
 
 returns-5 : tie.Need-returns-5
 returns-5 c =
     let s = c .before .before .before .before .before .before .before .before .before .before .before .before .before .before .before .before .before .before .before .before in
-    lent-good (limitsOf (s .args .limits)) (s .pre) (now (s .args .frame)) (sym (c .before .before .before .before .before .before .before .before .before .before .before .before .before .before .before .before .before .good-head .ensures) ∙ not-false _ (c .before .before .before .before .before .before .before .before .before .before .before .before .before .before .before .before .if2 .left)) _ _ (c .before .before .before .before .before .before .before .before .before .before .before .before .wide2 .ensures) (c .before .before .before .before .before .before .before .before .before .before .before .before .before .before .wide .ensures)
-    (omega (arith, c .before .before .before .before .before .before .before .before .before .before .before .if3 .left)) _ (c .before .before .before .before .before .before .before .before .before .room .ensures) (omega (arith, c .before .before .before .before .before .before .before .if4 .left)) _ (c .lay .ensures)
+    lent-good (limitsOf (s .args .limits)) (s .pre .0) (now (s .args .frame)) (sym (c .before .before .before .before .before .before .before .before .before .before .before .before .before .before .before .before .before .good-head .ensures) ∙ not-false _ (c .before .before .before .before .before .before .before .before .before .before .before .before .before .before .before .before .if2 .left)) _ _ (c .before .before .before .before .before .before .before .before .before .before .before .before .wide2 .ensures) (c .before .before .before .before .before .before .before .before .before .before .before .before .before .before .wide .ensures)
+    (omega (arith, c .before .before .before .before .before .before .before .before .before .before .before .if3 .left)) (s .pre .1) _ (c .before .before .before .before .before .before .before .before .before .room .ensures) (omega (arith, c .before .before .before .before .before .before .before .if4 .left)) _ (c .lay .ensures)
 
 pub lent-spec : {M : Type 1} → statement M
 lent-spec =
