@@ -9,14 +9,14 @@ use lib.ListN.{length, take, drop, length-take, length-drop}
 use borrow.Author.Tests.{le-leb, not-false}
 use Rattle.rows.specs.Splice.{cut}
 use Rattle.ledger.specs.Lists.{_⇒_, byte, word, sum, all}
-use Rattle.ledger.specs.Config.{QueueShape, configIn, controller, front, goodHead, goodLength, goodRest, configRefusal}
+use Rattle.ledger.specs.Config.{QueueShape, configIn, controller, longest, front, goodHead, goodLength, goodRest, configRefusal}
 use Rattle.ledger.specs.Theorems.Twos.{twos-length}
 use Rattle.ledger.specs.Theorems.Configured.{Long, long}
 use Rattle.ledger.specs.Theorems.Checks.{and-left, and-right, passes}
 use Rattle.tables.specs.declared.shape.Shape.{Shape}
 use Rattle.tables.specs.Shows.{Of}
 use Rattle.configuration.specs.Block.{product, goodQueues, goodPairs, rule, frameRule, rest-parts, shapes-in}
-use Rattle.configuration.specs.Limits.{longest, controller-made}
+use Rattle.configuration.specs.Limits.{controller-made}
 use Rattle.configuration.specs.Head.{Head}
 use Rattle.configuration.specs.Layout.{laidOut, shapeOf, rule-head, rule-room, of-shape}
 use Rattle.configuration.specs.Room.{bytesIn}

@@ -9,8 +9,7 @@ use lib.ListN.{length, take, drop, length-drop}
 use lib.Seq.{take-all}
 use Rattle.rows.specs.Splice.{cut}
 use Rattle.ledger.specs.Lists.{within, byte, sum, all}
-use Rattle.configuration.specs.Limits.{longest}
-use Rattle.ledger.specs.Config.{QueueShape, Config, Limits, shapesIn, pairsIn, configIn, front, goodHead, goodPair, goodRest}
+use Rattle.ledger.specs.Config.{QueueShape, Config, Limits, longest, shapesIn, pairsIn, configIn, front, goodHead, goodPair, goodRest}
 
 -- ---- the structure rule of number 11. The initial states are not read again
 

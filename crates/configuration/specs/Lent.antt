@@ -11,13 +11,13 @@ use Rattle.rows.specs.Splice.{cut}
 use Rattle.rows.specs.Laws.{length-cut}
 use Rattle.ledger.specs.Lists.{byte, sum}
 use Rattle.ledger.specs.Config as config
-use Rattle.ledger.specs.Config.{Limits, shapesIn, configIn, front, goodHead}
+use Rattle.ledger.specs.Config.{Limits, longest, shapesIn, configIn, front, goodHead}
 use Rattle.ledger.specs.Theorems.Twos.{twos-length}
 use Rattle.tables.specs.declared.shape.Shape.{Shape}
 use Rattle.tables.specs.Shows.{Of}
 use Rattle.configuration.specs.declared.Lent.the-variants.{Good}
 use Rattle.configuration.specs.Block.{and-no, product, goodShapes, goodQueues, rule, frameRule, shapes-in}
-use Rattle.configuration.specs.Limits.{longest, Made}
+use Rattle.configuration.specs.Limits.{Made}
 use Rattle.configuration.specs.Room.{roomIn, room-good, room-bad}
 use Rattle.configuration.specs.Layout.{laidOut, shapeOf, Lends, of-shape}
 

@@ -2,15 +2,11 @@
 use Prim.Native.Nat.{ℕ, _+_, _*_, _≤_}
 use native.Mathlib.Omega.{arith}
 use Rattle.ledger.specs.Config as config
-use Rattle.ledger.specs.Config.{controller, mostPairs}
+use Rattle.ledger.specs.Config.{controller}
 use Rattle.configuration.specs.declared.limits.Limits.{Limits}
 
 abbrev pub limitsOf : Limits → config.Limits
 limitsOf m = record { tasks = m .tasks; queues = m .queues; timers = m .timers; messages = m .messages; bytes = m .bytes }
-
--- the longest frame
-abbrev pub longest : config.Limits → ℕ
-longest m = 8 + m .tasks + 2 * m .queues + 2 * mostPairs
 
 -- no more than a plane has bits for, and than the controller has
 pub record Made (m : config.Limits) : Type 0 where

@@ -11,10 +11,10 @@ use tables::shape::Shape;
 ghost use mathlib.Core.Path.{_≡_};
 ghost use Prim.Native.Nat.{_≤_};
 ghost use lib.ListN.{length};
-ghost use Rattle.ledger.specs.Config.{configIn, configRefusal};
+ghost use Rattle.ledger.specs.Config.{longest, configIn, configRefusal};
 ghost use Rattle.tables.specs.Shows.{Of};
 ghost use Rattle.queues.specs.Rings.{ringOf};
-ghost use Rattle.configuration.specs.Limits.{limitsOf, longest, Made};
+ghost use Rattle.configuration.specs.Limits.{limitsOf, Made};
 ghost use Rattle.configuration.specs.Layout.{frameBytes, laidOut, Lends};
 
 // The regions of the tables, one behind the other.

@@ -1,5 +1,5 @@
 -- The line that has no end yet, and what is held of it.
-use Prim.Native.Nat.{ℕ, suc, _+_, _-_, _≤_, _<_}
+use Prim.Native.Nat.{ℕ, suc, _+_, _-_, _*_, _≤_, _<_}
 use mathlib.Core.Path.{_≡_, refl, sym, ap, _∙_, subst}
 use mathlib.Core.Bool.{Bool, true, false}
 use mathlib.Core.List.{List, [], _∷_, _++_, append-assoc, append-nil}
@@ -11,7 +11,7 @@ use lib.Dec.{eqb, leb}
 use lib.ListN.{length, take, drop, set, getD, length-append, length-take, length-drop}
 use lib.Seq.{take-suc, take-all, take-suc-set, take-append-le, getD-drop}
 use Rattle.rows.specs.Splice.{cut}
-use Rattle.ledger.specs.Lines.{frameOf}
+use Rattle.ledger.specs.Lines.{longestFrame, frameOf}
 use Rattle.executive.specs.Meeting.{never}
 use Rattle.feeding.specs.declared.gathering.Gathered.{Gathered}
 use Rattle.feeding.specs.Input.{Stands, first, runs, over, lineFed, Fed, behind, fed}
@@ -19,7 +19,7 @@ use Rattle.feeding.specs.Whole.{parts}
 
 -- one more digit than the longest line has: a line that is held so far is too long
 abbrev pub most : ℕ
-most = 653
+most = 2 * longestFrame + 1
 
 -- the buffer's first bytes are the line's
 pub record Keeps (l : List ℕ) (held : ℕ) (line : List ℕ) : Type 0 where
@@ -45,7 +45,7 @@ pub record Gathers (input : List ℕ) (from : ℕ) (line : List ℕ) (held : ℕ
 
 too-long : (l : List ℕ) → most ≤ length l → frameOf l ≡ none
 unfolding frameOf
-too-long l h = rw (lt-leb (length l) 652 (omega arith))
+too-long l h = rw (lt-leb (length l) (2 * longestFrame) (omega arith))
 
 frame-cut : (l : List ℕ) → frameOf (take most l) ≡ frameOf l
 frame-cut l = go (leb (length l) most) refl

@@ -10,7 +10,7 @@ use lib.Seq.{take-at, take-suc-set}
 use borrow.Rule.Slice.PartMut.{putMid}
 use Rattle.rows.specs.Splice.{cut, splice}
 use Rattle.rows.specs.Laws.{length-cut, length-splice, lent-back}
-use Rattle.ledger.specs.Lines.{digitsOf, lineOf, writeLine, writtenInto}
+use Rattle.ledger.specs.Lines.{longestFrame, digitsOf, lineOf, writeLine, writtenInto}
 use Rattle.ledger.specs.Theorems.Lines.{length-digits}
 use Rattle.line.specs.Answers.{leftIn, Gives}
 use Rattle.line.specs.declared.Written.{Written}
@@ -28,7 +28,7 @@ module _ (out a part : List ℕ) (w : Written) (p n : ℕ) (room : p + 41 ≤ le
 
   left : Gives (writeLine (length lent) a) lent part w → part ≡ digits ++ drop (length digits) lent
   unfolding writeLine lineOf writtenInto leftIn
-  left g = g .left ∙ rw (le-leb (length a) 326 (omega arith), le-ltb (length lent) (length digits) (omega (arith, many, length-cut out p (length out) (omega arith))))
+  left g = g .left ∙ rw (le-leb (length a) longestFrame (omega arith), le-ltb (length lent) (length digits) (omega (arith, many, length-cut out p (length out) (omega arith))))
 
   pub printed-line : Gives (writeLine (length lent) a) lent part w
       → take (p + 2 * n + 1) (set (putMid p (length out - p) out part) (p + 2 * n) 0x0A) ≡ take p out ++ print a

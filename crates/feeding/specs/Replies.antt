@@ -12,7 +12,7 @@ use lib.Seq.{take-at}
 use Rattle.ledger.specs.Config.{Config, configIn, configRefusal, controller}
 use Rattle.ledger.specs.Ledger.{Ledger, fresh}
 use Rattle.ledger.specs.Session.{answer, step, refusedConfiguration}
-use Rattle.ledger.specs.Lines.{frameOf, stepLine, readLine, writtenInto}
+use Rattle.ledger.specs.Lines.{longestFrame, frameOf, stepLine, readLine, writtenInto}
 use Rattle.ledger.specs.Theorems.Lines.{frame-is-short}
 use Rattle.ledger.specs.Theorems.Once.{Once, once-step, once-fresh}
 use Rattle.tables.specs.declared.shape.Shape.{Shape}
@@ -85,7 +85,7 @@ unfoldable lengthIn : Written → ℕ
 lengthIn (written-as.Refused n) = 0
 lengthIn (written-as.Length n) = n
 
-module _ (line before after : List ℕ) (w : Written) (g : Gives (readLine (length before) line) before after w) (room : 326 ≤ length before) where
+module _ (line before after : List ℕ) (w : Written) (g : Gives (readLine (length before) line) before after w) (room : longestFrame ≤ length before) where
   says-frame : (f : List ℕ) → frameOf line ≡ some f → (w ≡ written-as.Length (length f)) × (after ≡ f ++ drop (length f) before)
   unfolding readLine writtenInto answerTo leftIn
   says-frame f e =

@@ -1,10 +1,11 @@
 // The bytes of a line, gathered up to its end. A line that is too long is held only as far as that shows.
+use line::LONGEST_FRAME;
 ghost use Prim.Native.Nat.{_≤_, _<_};
 ghost use lib.ListN.{length};
 ghost use Rattle.feeding.specs.Line.{most, Gathers};
 
 // One more digit than the longest line has.
-pub const HELD: usize = 653;
+pub const HELD: usize = 2 * LONGEST_FRAME + 1;
 
 // The next byte of the input, the bytes held of the line, and whether its end was met.
 pub struct Gathered {

@@ -2,6 +2,7 @@
 use super::Stage;
 use configuration::Lent;
 use configuration::limits::controller;
+use line::LONGEST_FRAME;
 use line::Written;
 ghost use Prim.Native.Nat.{_≤_};
 ghost use lib.ListN.{length};
@@ -22,7 +23,7 @@ pub fn reply_first(
     requires { ⌜ Full (memory (now config) (now tables) (now slots) (now timers) (now answer)) ⌝ }
     ensures { λ r. ⌜ FirstReply (frameOf (now (line .entry))) (memory (now (config .exit)) (now (tables .exit)) (now (slots .exit)) (now (timers .exit)) (now (answer .exit))) r ⌝ }
 {
-    let mut frame = [0u8; 326];
+    let mut frame = [0u8; LONGEST_FRAME];
     let w = line::read(line, &mut frame);
     match w {
         Written::Refused(_) => {
@@ -72,7 +73,7 @@ pub fn reply_next(
     ensures { λ _. ⌜ GoesOn (frameOf (now (line .entry))) (memory (now (config .entry)) (now (tables .entry)) (now (slots .entry)) (now (timers .entry)) (now (answer .entry)))
         (memory (now (config .entry)) (now (tables .exit)) (now (slots .exit)) (now (timers .exit)) (now (answer .exit))) ⌝ }
 {
-    let mut frame = [0u8; 326];
+    let mut frame = [0u8; LONGEST_FRAME];
     let w = line::read(line, &mut frame);
     match w {
         Written::Refused(_) => refuse_line(config, tables, slots, answer),

@@ -6,10 +6,10 @@ use mathlib.Core.Path.{_≡_, refl}
 use mathlib.Core.List.{List, [], _∷_, _++_, map}
 use mathlib.Core.Option.{none as nothing, some}
 use lib.ListN.{replicate, take}
-use Rattle.ledger.specs.Config.{configIn, configRefusal}
+use Rattle.ledger.specs.Config.{configIn, controller, longest, configRefusal}
 use Rattle.ledger.specs.Ledger.{PENDING, WAITING, begin, dequeue, Timer, Ledger, emptySlot, task, semaphoreOf, mailbox, queue, held, fresh}
 use Rattle.ledger.specs.Session.{runFrom}
-use Rattle.ledger.specs.Lines.{number, result, frameOf, lineOf, readLine, writeLine, output}
+use Rattle.ledger.specs.Lines.{longestFrame, number, result, frameOf, lineOf, readLine, writeLine, output}
 use Rattle.ledger.specs.Computing.Hex.{hex, letters, text}
 use Rattle.ledger.specs.Computing.Quick.{everything}
 use Rattle.ledger.specs.Computing.Sessions.{after, two, timing, number-of}
@@ -169,6 +169,7 @@ pub record Table : Type 0 where
   and-may-have-652 : frameOf (replicate 652 0x30) ≡ some (replicate 326 0)
   a-frame-above-326-bytes-has-no-line : lineOf (replicate 327 0) ≡ nothing
   and-one-of-326-has : lineOf (replicate 326 0) ≡ some (replicate 652 0x30)
+  the-longest-configuration-has-a-line : longest controller ≡ longestFrame
   reading-tests-1-before-11 : readLine 0 (letters "0") ≡ number 1
   then-the-room : readLine 4 (letters "0701000000") ≡ number 11
   and-writing-too : writeLine 9 (hex "0701000000") ≡ number 11
@@ -285,6 +286,7 @@ the-table = record {
   a-line-has-at-most-652-digits = refl;
   and-may-have-652 = refl;
   a-frame-above-326-bytes-has-no-line = refl;
+  the-longest-configuration-has-a-line = refl;
   and-one-of-326-has = refl;
   reading-tests-1-before-11 = refl;
   then-the-room = refl;

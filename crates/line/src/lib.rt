@@ -8,7 +8,7 @@ pub use reading::read;
 pub use writing::write;
 
 // The most bytes of a frame. Its line has two digits for each.
-const LONGEST_FRAME: usize = 326;
+pub const LONGEST_FRAME: usize = 326;
 
 // What a call gives back: document 01's number, or the length of the result in the lent buffer.
 pub enum Written {

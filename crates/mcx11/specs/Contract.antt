@@ -5,14 +5,13 @@ use mathlib.Core.Bool.{Bool, true, false, _&&_, _||_}
 use mathlib.Core.List.{List}
 use lib.Dec.{ltb, leb}
 use lib.ListN.{length}
-use Rattle.ledger.specs.Config.{Config, Limits, controller, configIn, configRefusal}
+use Rattle.ledger.specs.Config.{Config, Limits, controller, configIn, configRefusal, longest}
 use Rattle.ledger.specs.Ledger.{Ledger, fresh}
 use Rattle.ledger.specs.Refusals.{refusal}
 use Rattle.ledger.specs.Session as session
 use Rattle.tables.specs.Layout.{recordsAt}
 use Rattle.tables.specs.Shows.{ShowsAs, Shows}
 use Rattle.mailboxes.specs.Room.{counted, wholeIn}
-use Rattle.configuration.specs.Limits.{longest}
 use Rattle.configuration.specs.Block.{frameRule}
 use Rattle.configuration.specs.Layout.{shapeOf}
 use Rattle.configuration.specs.Started.{timersBytes}

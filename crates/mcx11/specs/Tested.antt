@@ -8,7 +8,7 @@ use lib.Dec.{leb}
 use borrow.Author.Tests.{leb-true}
 use lib.ListN.{length, take, drop, length-take, length-drop}
 use Rattle.ledger.specs.Lists.{byte, word}
-use Rattle.ledger.specs.Config.{Config, Limits, controller, configIn, front}
+use Rattle.ledger.specs.Config.{Config, Limits, controller, longest, configIn, front}
 use Rattle.ledger.specs.Theorems.Checks.{and-left, and-right}
 use Rattle.tables.specs.declared.shape.Shape.{Shape}
 use Rattle.tables.specs.Layout.{Fits, fitting}
@@ -16,7 +16,7 @@ use Rattle.tables.specs.Shows.{bytesOf, Of}
 use Rattle.mailboxes.specs.Room.{soundIn}
 use Rattle.configuration.specs.declared.Lent.{Lent}
 use Rattle.configuration.specs.declared.Lent.the-variants.{Bad, Good}
-use Rattle.configuration.specs.Limits.{longest, Made, controller-made}
+use Rattle.configuration.specs.Limits.{Made, controller-made}
 use Rattle.configuration.specs.Block.{rule, frameRule}
 use Rattle.configuration.specs.Layout.{shapeOf, of-one, of-shape, Lends, rule-head, rule-room}
 use Rattle.ledger.specs.Theorems.Twos.{twos-length}

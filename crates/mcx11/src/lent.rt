@@ -13,7 +13,7 @@ ghost use lib.Dec.{leb};
 ghost use lib.ListN.{length};
 ghost use Rattle.tables.specs.Layout.{Fits};
 ghost use Rattle.mailboxes.specs.Room.{soundIn};
-ghost use Rattle.configuration.specs.Limits as limit;
+ghost use Rattle.ledger.specs.Config as limit;
 ghost use Rattle.configuration.specs.Limits.{limitsOf, Made};
 ghost use Rattle.configuration.specs.Layout.{Lends};
 ghost use Rattle.configuration.specs.declared.Lent.the-variants as variants;

@@ -4,8 +4,8 @@ use denote.Ref.{now}
 use mathlib.Core.Path.{sym, ap, _∙_, subst}
 use Rattle.tables.specs.Layout.{fitting}
 use Rattle.executive.specs.Meeting.{never}
-use Rattle.ledger.specs.Config.{Limits}
-use Rattle.configuration.specs.Limits.{longest, Made, controller-made}
+use Rattle.ledger.specs.Config.{Limits, longest}
+use Rattle.configuration.specs.Limits.{Made, controller-made}
 use Rattle.parts.specs.Parts.{keptFrame}
 use Rattle.mcx11.specs.Tested.{lent-bad, lent-good, frame-fits}
 use Rattle.feeding.specs.Replies.{refuses-line}
