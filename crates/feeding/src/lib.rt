@@ -5,6 +5,7 @@ mod gathering; // gathering.rt: the bytes of a line, up to its end
 mod printing; // printing.rt: an answer as a line of output
 mod replying; // replying.rt: the answer to a line
 
+pub use gathering::HELD;
 use gathering::gather;
 use printing::print;
 use replying::reply_first;

@@ -1,6 +1,7 @@
 // The session program: lines of frames from standard input, their answers to standard output.
 // Promises nothing by itself, since no contract can say what is read or written: each block goes through `feeding::feed`.
 // Rests on feeding, whose theorem `session` is about every list of blocks, and on io and libc to read and write.
+use feeding::HELD;
 use feeding::Reached;
 use feeding::Stage;
 use libc::STDERR_FILENO;
@@ -45,7 +46,7 @@ fn write_out(out: &[u8], printed: usize) -> bool
 // Reads a block, feeds it and writes what was printed. An error is not the end of the input, and no line ends with it.
 fn turn(
     reached: Reached,
-    line: &mut [u8; 653],
+    line: &mut [u8; HELD],
     config: &mut [u8; 336],
     tables: &mut [u8; 7517],
     slots: &mut [u8; 2024],
@@ -93,7 +94,7 @@ fn turn(
 // The end of the input.
 fn end(
     reached: Reached,
-    line: &[u8; 653],
+    line: &[u8; HELD],
     config: &mut [u8; 336],
     tables: &mut [u8; 7517],
     slots: &mut [u8; 2024],
@@ -111,7 +112,7 @@ fn end(
 // Feeds all of the input. A proved loop has to end, and nothing says that an input does, so the turns are counted down from a
 // number that no run uses up.
 fn main() {
-    let mut line = [0u8; 653];
+    let mut line = [0u8; HELD];
     let mut config = [0u8; 336];
     let mut tables = [0u8; 7517];
     let mut slots = [0u8; 2024];

@@ -33,9 +33,10 @@ returns-3 c =
     wrong-length (limitsOf (c .before .before .before .before .before .controller .result)) (c .before .before .before .before .before .controller .ensures) (now (c .before .before .before .before .before .before .before .before .args .frame)) (omega arith) (sym (not-false _ (c .before .before .before .if2 .left)) ∙ c .before .before .before .before .good-head .ensures) _ (c .before .before .front .ensures) (sym (not-true _ (c .if3 .taken)) ∙ c .before .good-length .ensures)
 
 good-rest-requires : tie.Need-good-rest-requires
-good-rest-requires c κs =
-    (subst Made (sym (c .before .before .before .before .before .controller .ensures)) controller-made,
-    front-inside (limitsOf (c .before .before .before .before .before .controller .result)) (c .before .before .before .before .before .controller .ensures) (now (c .before .before .before .before .before .before .before .before .args .frame)) (omega arith) (sym (not-false _ (c .before .before .before .if2 .left)) ∙ c .before .before .before .before .good-head .ensures) _ (c .before .before .front .ensures) (sym (not-false _ (c .if3 .left)) ∙ c .before .good-length .ensures))
+good-rest-requires c κs = (
+  subst Made (sym (c .before .before .before .before .before .controller .ensures)) controller-made,
+  front-inside (limitsOf (c .before .before .before .before .before .controller .result)) (c .before .before .before .before .before .controller .ensures) (now (c .before .before .before .before .before .before .before .before .args .frame)) (omega arith) (sym (not-false _ (c .before .before .before .if2 .left)) ∙ c .before .before .before .before .good-head .ensures) _ (c .before .before .front .ensures) (sym (not-false _ (c .if3 .left)) ∙ c .before .good-length .ensures),
+)
 
 returns-4 : tie.Need-returns-4
 returns-4 c =
