@@ -154,14 +154,15 @@ fn doxygen_reads_the_comments() {
 
 // ---- the readers of the state
 
-/// The items of the state as tests/c/state.c prints what the header reads.
-fn state(items: &Items, configuration: &Configuration) -> String {
+/// The items of the state, and the pairs of the configuration frame, as tests/c/state.c prints what the header reads.
+fn state(items: &Items, configuration: &Configuration, frame: &[u8]) -> String {
     let mut told = String::new();
     let ticks_left = configuration.ticks_per_tock - items.ticks;
     writeln!(told, "tasks {} ticks left {ticks_left} timers {}", items.tasks.len(), items.timers.len()).unwrap();
-    let pairs = (1..).zip(&configuration.pairs).filter(|(_, pair)| (pair.first, pair.then) != (0, 0));
-    let pairs: String = pairs.map(|(number, pair)| format!(" {number} {}-{}", pair.first, pair.then)).collect();
-    writeln!(told, "pairs {}:{pairs}", configuration.pairs.len()).unwrap();
+    let pairs = frame[8 + items.tasks.len() + 2 * items.queues.len()..].chunks_exact(2);
+    let named = (1..).zip(pairs.clone()).filter(|(_, pair)| *pair != [0, 0]);
+    let named: String = named.map(|(number, pair)| format!(" {number} {}-{}", pair[0], pair[1])).collect();
+    writeln!(told, "pairs {}:{named}", pairs.len()).unwrap();
     for (index, task) in items.tasks.iter().enumerate() {
         let number = index as u8 + 1;
         let (blocks, own) = (bits(task.blocks), configuration.semaphore_of_task(number));
@@ -216,7 +217,7 @@ fn of_session(script: &Script, every: usize, memories: &mut Vec<u8>, states: &mu
         memory.frame(frame);
         if index % every == 0 {
             memories.extend(memory.blocks().concat());
-            states.push_str(&state(&other.items(), other.configuration()));
+            states.push_str(&state(&other.items(), other.configuration(), &script.configuration));
         }
     }
 }
@@ -273,7 +274,7 @@ fn the_readers_stay_inside_whatever_the_memory_holds() {
         }
         match rules::configuration(&memory.config) {
             Some(configuration) if rules::broken(&memory).is_none() => {
-                states.push_str(&state(&memory.items(&configuration), &configuration));
+                states.push_str(&state(&memory.items(&configuration), &configuration, memory.kept_frame()));
                 good.extend(memory.blocks().concat());
             }
             _ => bad.extend(memory.blocks().concat()),
