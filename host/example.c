@@ -14,8 +14,8 @@ static uint8_t before; /* the task that ran before the call */
 static const char *advice(uint8_t number)
 {
     switch (number) {
-    case MCX11_NUMBER_LINE: return "send upper-case digits in pairs, 400 at most, and nothing else";
-    case MCX11_NUMBER_LENGTH: return "send five bytes, for an enqueue also its entry, for a configuration 8 + T + 2Q";
+    case MCX11_NUMBER_LINE: return "send upper-case digits in pairs, 652 at most, and nothing else";
+    case MCX11_NUMBER_LENGTH: return "send five bytes, for an enqueue also its entry, for a configuration 8 + T + 2Q and its pairs";
     case MCX11_NUMBER_CONFIGURATION: return "correct the configuration's values; none was started";
     case MCX11_NUMBER_CODE: return "send a code from $01 to $11";
     case MCX11_NUMBER_TASK: return "name a task of the configuration, and 0 only for self or any";
@@ -31,6 +31,7 @@ static const char *advice(uint8_t number)
     case MCX11_NUMBER_ALL_TIMERS_ACTIVE: return "try again later, or configure more timers";
     case MCX11_NUMBER_HAS_A_TIMER: return "purge the old timer first";
     case MCX11_NUMBER_IDLE_OR_WAITING: return "delay tasks that are neither idle nor waiting";
+    case MCX11_NUMBER_BEFORE_FIRST: return "execute its first tasks before it";
     default: return "this number is new: see docs/HOST.md";
     }
 }
@@ -129,13 +130,27 @@ static uint16_t once(uint16_t ms)
     return MCX11_ONCE(tocks);
 }
 
+/* The configuration's pair says that the lap, task 3, is not started while the station, task 1, is idle. Task 2 starts the station,
+   if that is why the lap is refused. The station has the lower number and runs at once; task 2 asks again when it runs again. */
+static void start_the_lap(void)
+{
+    const uint8_t number = mcx11_execute(&ride, 3);
+
+    tell("task 2: execute task 3, the lap", number);
+    if (number != MCX11_NUMBER_BEFORE_FIRST)
+        return;
+    tell("task 2: the station is idle, so execute task 1 first", mcx11_execute(&ride, 1));
+    tell("task 1: delay of 125 ms", mcx11_delay(&ride, MCX11_SELF, MCX11_OWN, once(125)));
+    tell("task 2: execute task 3, the lap", mcx11_execute(&ride, 3));
+}
+
 int main(void)
 {
     static const uint8_t entry[] = {0x41};
-    static mcx11_configuration_t configuration; /* static, so that all tasks are runnable */
+    static mcx11_configuration_t configuration; /* static, so that all bytes are 0 */
     uint8_t number;
 
-    configuration.tasks = 2;
+    configuration.tasks = 3;
     configuration.named_semaphores = 1;
     configuration.queues = 1;
     configuration.timers = 1;
@@ -144,6 +159,10 @@ int main(void)
     configuration.milliseconds_per_tock = TOCK_MS;
     configuration.queue[1].width = 1;
     configuration.queue[1].depth = 1;
+    configuration.idle[3] = 1;
+    configuration.pairs = 1;
+    configuration.pair[1].first = 1;
+    configuration.pair[1].then = 3;
 
     tell("tick before the configuration", mcx11_tick(&ride));
     number = mcx11_configure_from(&ride, &configuration);
@@ -167,5 +186,8 @@ int main(void)
     tell("task 2: wait for semaphore 1", mcx11_wait(&ride, 1));
     tell("clock: tick", mcx11_tick(&ride));
     open_the_gate();
+    tell("task 1: terminate itself", mcx11_terminate(&ride, MCX11_SELF));
+    start_the_lap();
+    tell("task 2: suspend itself", mcx11_suspend(&ride, MCX11_SELF));
     return EXIT_SUCCESS;
 }

@@ -19,15 +19,15 @@ extern "C" {
 
 /** @name The version: docs/CHANGES.md says what each changed for hosts
  * @{ */
-#define MCX11_VERSION_MAJOR 3 /**< a host has to be changed */
+#define MCX11_VERSION_MAJOR 4 /**< a host has to be changed */
 #define MCX11_VERSION_MINOR 0 /**< something is new, or the lent memory has another layout */
 #define MCX11_VERSION_PATCH 0 /**< something is mended */
-#define MCX11_VERSION "3.0.0" /**< the three as a text */
+#define MCX11_VERSION "4.0.0" /**< the three as a text */
 /** @} */
 
 /** @name The sizes of the lent blocks
  * @{ */
-#define MCX11_CONFIG_BYTES 208  /**< of mcx11_t::config */
+#define MCX11_CONFIG_BYTES 336  /**< of mcx11_t::config */
 #define MCX11_TABLES_BYTES 7517 /**< of mcx11_t::tables */
 #define MCX11_SLOTS_BYTES 2024  /**< of mcx11_t::slots */
 #define MCX11_TIMERS_BYTES 659  /**< of mcx11_t::timers */
@@ -36,11 +36,12 @@ extern "C" {
 
 /** @name The most there can be
  * @{ */
-#define MCX11_FRAME_BYTES 200 /**< the longest frame that a line has room for */
-#define MCX11_LINE_DIGITS 400 /**< the longest line of digits */
+#define MCX11_FRAME_BYTES 326 /**< the longest frame, a configuration's; a line has room for it */
+#define MCX11_LINE_DIGITS 652 /**< the longest line of digits */
 #define MCX11_ENTRY_BYTES 16  /**< the widest entry of a queue */
 #define MCX11_MOST_TASKS 126  /**< T */
 #define MCX11_MOST_QUEUES 32  /**< Q */
+#define MCX11_MOST_PAIRS 64   /**< pairs of tasks in a configuration */
 /** @} */
 
 /**
@@ -107,7 +108,8 @@ enum mcx11_number {
     MCX11_NUMBER_MESSAGE_IN_MAILBOX = 22, /**< $16: the message is in a mailbox */
     MCX11_NUMBER_ALL_TIMERS_ACTIVE = 23,  /**< $17: no timer is free */
     MCX11_NUMBER_HAS_A_TIMER = 24,        /**< $18: task and semaphore have a timer */
-    MCX11_NUMBER_IDLE_OR_WAITING = 25     /**< $19: delay of a task that is idle or waiting */
+    MCX11_NUMBER_IDLE_OR_WAITING = 25,    /**< $19: delay of a task that is idle or waiting */
+    MCX11_NUMBER_BEFORE_FIRST = 26        /**< $1A: execute before a first task, one that is idle */
 };
 
 /* ---- The archive's own functions. Of these a host needs the last three alone. */
@@ -196,7 +198,16 @@ typedef struct mcx11_queue_t {
     uint8_t depth; /**< entries, 1 to 255 */
 } mcx11_queue_t;
 
-/** A configuration. Begin with all bytes 0. Both tables are indexed by the number of the task or queue; place 0 is unused. */
+/** Two tasks, 1 to T: while the first is idle, execute of the other is refused with 26. */
+typedef struct mcx11_pair_t {
+    uint8_t first; /**< the lower number of the two */
+    uint8_t then;  /**< if it starts runnable, the first does too */
+} mcx11_pair_t;
+
+/**
+ * A configuration. Begin with all bytes 0: then there are no pairs. The tables are indexed by the number of the task, queue or
+ * pair; place 0 is unused.
+ */
 typedef struct mcx11_configuration_t {
     uint8_t tasks;                              /**< T, 1 to 126 */
     uint8_t named_semaphores;                   /**< S; S + T + 2Q is at most 255 */
@@ -207,16 +218,19 @@ typedef struct mcx11_configuration_t {
     uint16_t milliseconds_per_tock;             /**< 1 to 65,535 */
     uint8_t idle[MCX11_MOST_TASKS + 1];         /**< of task t: 0 it starts runnable, 1 it starts idle */
     mcx11_queue_t queue[MCX11_MOST_QUEUES + 1]; /**< of queue q; widths times depths add up to at most 4,096 */
+    uint8_t pairs;                              /**< how many pairs of tasks, 0 to 64 */
+    mcx11_pair_t pair[MCX11_MOST_PAIRS + 1];    /**< a task may stand in several, and a pair twice */
 } mcx11_configuration_t;
 
 /**
- * Writes the configuration frame. With too many tasks or queues it is the first eight bytes alone, which get the 3 that is due.
+ * Writes the configuration frame. With too many tasks, queues or pairs it is the first eight bytes alone, which get the number that
+ * is due: 3, for pairs 2.
  * @return how many bytes
  */
 static inline size_t mcx11_configuration_bytes(const mcx11_configuration_t *configuration, uint8_t bytes[MCX11_FRAME_BYTES])
 {
     const mcx11_configuration_t *c = configuration;
-    size_t length = 0, t, q;
+    size_t length = 0, t, q, n;
     bytes[length++] = c->tasks;
     bytes[length++] = c->named_semaphores;
     bytes[length++] = c->queues;
@@ -225,13 +239,17 @@ static inline size_t mcx11_configuration_bytes(const mcx11_configuration_t *conf
     bytes[length++] = c->ticks_per_tock;
     bytes[length++] = (uint8_t)(c->milliseconds_per_tock >> 8);
     bytes[length++] = (uint8_t)(c->milliseconds_per_tock & 0xFF);
-    if (c->tasks > MCX11_MOST_TASKS || c->queues > MCX11_MOST_QUEUES)
+    if (c->tasks > MCX11_MOST_TASKS || c->queues > MCX11_MOST_QUEUES || c->pairs > MCX11_MOST_PAIRS)
         return length;
     for (t = 1; t <= c->tasks; t++)
         bytes[length++] = c->idle[t];
     for (q = 1; q <= c->queues; q++) {
         bytes[length++] = c->queue[q].width;
         bytes[length++] = c->queue[q].depth;
+    }
+    for (n = 1; n <= c->pairs; n++) {
+        bytes[length++] = c->pair[n].first;
+        bytes[length++] = c->pair[n].then;
     }
     return length;
 }
@@ -309,7 +327,7 @@ static inline uint8_t mcx11_suspend(mcx11_t *m, uint8_t task) { return mcx11_cal
 /** Ends the task: it is idle, and its timers and messages are gone. */
 static inline uint8_t mcx11_terminate(mcx11_t *m, uint8_t task) { return mcx11_call(m, MCX11_TERMINATE, task, 0, 0); }
 
-/** Starts the task from its beginning. */
+/** Starts the task from its beginning. Refused with 26 while a task that a pair of the configuration puts first is idle. */
 static inline uint8_t mcx11_execute(mcx11_t *m, uint8_t task) { return mcx11_call(m, MCX11_EXECUTE, task, 0, 0); }
 
 /** Starts a timer, and has the task wait on the semaphore that it will signal. The tocks: MCX11_ONCE(n) or MCX11_EVERY(n). */
@@ -400,11 +418,11 @@ static inline const char *mcx11_number_name(uint8_t number)
 {
     static const char *const from_0[] = {"accepted",  "line",  "length",  "configuration", "code",         "task",
                                          "semaphore", "queue", "message", "tock value",    "milliseconds", "memory"};
-    static const char *const from_20[] = {"null task runs",    "semaphore waiting", "message in mailbox",
-                                          "all timers active", "has a timer",       "idle or waiting"};
+    static const char *const from_20[] = {"null task runs", "semaphore waiting", "message in mailbox", "all timers active",
+                                          "has a timer",    "idle or waiting",   "before first"};
     if (number <= MCX11_NUMBER_MEMORY)
         return from_0[number];
-    if (number >= MCX11_NUMBER_NULL_TASK_RUNS && number <= MCX11_NUMBER_IDLE_OR_WAITING)
+    if (number >= MCX11_NUMBER_NULL_TASK_RUNS && number <= MCX11_NUMBER_BEFORE_FIRST)
         return from_20[number - MCX11_NUMBER_NULL_TASK_RUNS];
     return "unknown";
 }

@@ -35,8 +35,8 @@ enum mcx11_at {
 
 /* How many there are of each, and where their bytes begin in their blocks. */
 struct mcx11_layout_t {
-    size_t tasks, named, semaphores, queues, timers, messages;
-    size_t at_sizes, at_ticks, at_count, at_planes, at_semaphores, at_rings, at_messages, at_entries;
+    size_t tasks, named, semaphores, queues, timers, messages, pairs;
+    size_t at_sizes, at_pairs, at_ticks, at_count, at_planes, at_semaphores, at_rings, at_messages, at_entries;
 };
 
 static inline struct mcx11_layout_t mcx11_layout(const mcx11_t *m)
@@ -44,6 +44,7 @@ static inline struct mcx11_layout_t mcx11_layout(const mcx11_t *m)
     const uint8_t *c = m->config + MCX11_AT_FRAME;
     const size_t semaphores = (size_t)c[0] + c[1] + c[2] + c[2];
     const size_t one = c[0] <= MCX11_MOST_TASKS && c[2] <= MCX11_MOST_QUEUES && c[3] <= 64 && c[4] <= 64 && semaphores <= 255;
+    const size_t length = (size_t)m->config[MCX11_AT_PART] << 8 | m->config[MCX11_AT_PART + 1], end = MCX11_AT_FRAME + length;
     struct mcx11_layout_t at; /* where the counts are no configuration's, there is nothing at all */
     at.tasks = one * c[0];
     at.named = one * c[1];
@@ -52,6 +53,8 @@ static inline struct mcx11_layout_t mcx11_layout(const mcx11_t *m)
     at.messages = one * c[4];
     at.semaphores = one * semaphores;
     at.at_sizes = MCX11_AT_FRAME + 8 + at.tasks;
+    at.at_pairs = at.at_sizes + 2 * at.queues;
+    at.pairs = one && length <= MCX11_FRAME_BYTES && end >= at.at_pairs ? (end - at.at_pairs) / 2 : 0;
     at.at_ticks = MCX11_AT_PART;
     at.at_count = at.at_ticks + 1;
     at.at_planes = at.at_count + 1;
@@ -182,6 +185,21 @@ static inline mcx11_queue_t mcx11_queue_size(const mcx11_t *m, uint8_t queue)
         size.depth = m->config[at.at_sizes + 2 * ((size_t)queue - 1) + 1];
     }
     return size;
+}
+
+/** How many pairs of tasks the configuration has. */
+static inline uint8_t mcx11_pairs(const mcx11_t *m) { return (uint8_t)mcx11_layout(m).pairs; }
+
+/** A pair of the configuration, by its number from 1 on. */
+static inline mcx11_pair_t mcx11_pair(const mcx11_t *m, uint8_t pair)
+{
+    const struct mcx11_layout_t at = mcx11_layout(m);
+    mcx11_pair_t both = {0, 0};
+    if (pair >= 1 && pair <= at.pairs) {
+        both.first = m->config[at.at_pairs + 2 * ((size_t)pair - 1)];
+        both.then = m->config[at.at_pairs + 2 * ((size_t)pair - 1) + 1];
+    }
+    return both;
 }
 
 /** How many entries the queue holds. */

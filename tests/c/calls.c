@@ -64,14 +64,15 @@ static uint8_t call(const uint8_t *f, size_t length)
     }
 }
 
-/* The same configuration by names: its bytes come back. */
+/* The same configuration by names: its bytes come back, unless it has too many pairs. */
 static uint8_t configure(const uint8_t *f, size_t length)
 {
     mcx11_configuration_t named;
     uint8_t bytes[MCX11_FRAME_BYTES];
-    size_t t, q;
+    const size_t fixed = length < 8 ? 8 : (size_t)8 + f[0] + f[2] + f[2];
+    size_t t, q, n;
     memset(&named, 0, sizeof named);
-    if (length < 8 || f[0] > MCX11_MOST_TASKS || f[2] > MCX11_MOST_QUEUES || length != (size_t)8 + f[0] + f[2] + f[2])
+    if (length < fixed || f[0] > MCX11_MOST_TASKS || f[2] > MCX11_MOST_QUEUES || (length - fixed) % 2 != 0)
         return mcx11_configure(&ride, f, length);
     named.tasks = f[0];
     named.named_semaphores = f[1];
@@ -86,6 +87,13 @@ static uint8_t configure(const uint8_t *f, size_t length)
         named.queue[q].width = f[8 + f[0] + 2 * q - 2];
         named.queue[q].depth = f[8 + f[0] + 2 * q - 1];
     }
+    named.pairs = (uint8_t)((length - fixed) / 2);
+    for (n = 1; n <= named.pairs && n <= MCX11_MOST_PAIRS; n++) {
+        named.pair[n].first = f[fixed + 2 * n - 2];
+        named.pair[n].then = f[fixed + 2 * n - 1];
+    }
+    if (named.pairs > MCX11_MOST_PAIRS)
+        return mcx11_configure_from(&ride, &named);
     if (mcx11_configuration_bytes(&named, bytes) != length || memcmp(bytes, f, length) != 0)
         return 255;
     return mcx11_configure_from(&ride, &named);

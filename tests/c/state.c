@@ -15,6 +15,18 @@ static void print_bytes(const uint8_t *bytes, size_t length)
         printf("%s%02X", i == 0 ? " " : "", bytes[i]);
 }
 
+static void print_pairs(void)
+{
+    unsigned n;
+    printf("pairs %u:", mcx11_pairs(&ride));
+    for (n = 0; n <= 255; n++) {
+        const mcx11_pair_t pair = mcx11_pair(&ride, (uint8_t)n);
+        if (pair.first != 0 || pair.then != 0)
+            printf(" %u %u-%u", n, pair.first, pair.then);
+    }
+    printf("\n");
+}
+
 static void print_task(uint8_t task)
 {
     printf("task %u blocks %u own %u mailbox %u slot", task, mcx11_blocks(&ride, task), mcx11_own_semaphore(&ride, task),
@@ -49,6 +61,7 @@ int main(void)
         if (mcx11_answer_length(&ride) >= MCX11_ANSWER_BYTES || mcx11_value_length(&ride) > MCX11_ENTRY_BYTES)
             return 1;
         printf("tasks %u ticks left %u timers %u\n", mcx11_tasks(&ride), mcx11_ticks_left(&ride), mcx11_timer_count(&ride));
+        print_pairs();
         for (i = 0; i <= 255; i++) {
             if (mcx11_slot(&ride, (uint8_t)i) != NULL || mcx11_blocks(&ride, (uint8_t)i) != 0 ||
                 mcx11_own_semaphore(&ride, (uint8_t)i) != 0 || mcx11_mailbox_count(&ride, (uint8_t)i) != 0)

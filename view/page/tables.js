@@ -7,8 +7,8 @@ const counted = (count, what) => `${grouped(count)} ${what}${count === 1 ? "" : 
 // Things by their names, as src/words.rs says them.
 class Speech {
   constructor(session) {
-    const { tasks, named, queues } = session.configuration;
-    Object.assign(this, { names: session.names, named, nameable: named + tasks, queues: queues.length });
+    const { tasks, named, queues, pairs } = session.configuration;
+    Object.assign(this, { names: session.names, named, nameable: named + tasks, queues: queues.length, pairs });
   }
 
   task(task) { return task === 0 ? "the null task" : this.names.get(`t${task}`) || `task ${task}`; }
@@ -30,6 +30,13 @@ class Speech {
   awaited(semaphore) {
     if (semaphore <= this.nameable) return this.semaphore(semaphore);
     return `${this.isNotFull(semaphore) ? "room in" : "an entry of"} ${this.queue(this.queueOf(semaphore))}`;
+  }
+
+  // Of a task that the configuration's pairs start only after others: which, and whether they are idle.
+  onlyAfter(task, state) {
+    const firsts = this.pairs.filter(([, then]) => then === task).map(([first]) => first);
+    const words = (first) => `${this.names.get(`t${first}`) || first}${state.blocks[first] & BLOCK.idle ? " (idle)" : ""}`;
+    return [...new Set(firsts)].sort((one, other) => one - other).map(words).join(", ");
   }
 
   request([kind, named, ...entry]) {
@@ -187,6 +194,8 @@ class Tables {
     if (row.gone) line.className = "gone";
     const first = line.insertCell();
     first.append(...this.subjects(key));
+    const after = name === "tasks" ? this.speech.onlyAfter(Number(key.slice(1)), state) : "";
+    if (after) first.append(element("span", "after", ` only after ${after}`));
     row.cells.forEach((text, place) => {
       const cell = line.insertCell();
       cell.textContent = text;

@@ -135,6 +135,7 @@ fn configured(configuration: &Configuration) -> Json {
     let Configuration { tasks, named_semaphores, timers, messages, ticks_per_tock, milliseconds_per_tock, .. } =
         *configuration;
     let sizes = configuration.queues.iter().map(|size| vec![size.width, size.depth].into());
+    let pairs = configuration.pairs.iter().map(|pair| vec![pair.first, pair.then].into());
     Json::Object(vec![
         ("tasks", tasks.into()),
         ("named", named_semaphores.into()),
@@ -143,6 +144,7 @@ fn configured(configuration: &Configuration) -> Json {
         ("ticks", ticks_per_tock.into()),
         ("milliseconds", usize::from(milliseconds_per_tock).into()),
         ("queues", Json::List(sizes.collect())),
+        ("pairs", Json::List(pairs.collect())),
     ])
 }
 

@@ -1,6 +1,7 @@
 //! The rule that a refused frame broke, in words.
 
 use plain_executive::command::*;
+use plain_executive::configuration::MOST_PAIRS;
 use plain_executive::executive::Executive;
 use plain_executive::line::{self, MOST_DIGITS};
 use plain_executive::numbers::*;
@@ -8,11 +9,11 @@ use plain_executive::semaphore::Semaphore;
 use plain_executive::tasks::Block;
 
 use crate::replay::Step;
-use crate::words::{counted, Words};
+use crate::words::{counted, listed, Words};
 
 /// Each number's rule in few words; empty where there is no such number.
-pub const SHORT: [&str; 26] = {
-    let mut short = [""; 26];
+pub const SHORT: [&str; 27] = {
+    let mut short = [""; 27];
     short[1] = "no line of digits";
     short[2] = "length";
     short[3] = "configuration value";
@@ -30,6 +31,7 @@ pub const SHORT: [&str; 26] = {
     short[23] = "all timers are active";
     short[24] = "task and semaphore have a timer";
     short[25] = "delay of a task that is idle or waiting";
+    short[26] = "execute before a first task, one that is idle";
     short
 };
 
@@ -56,6 +58,7 @@ pub fn rule(words: &Words, step: &Step) -> String {
         },
         HAS_A_TIMER => format!("{} has a timer on {} already", words.task(met.of_a()), met.semaphore(met.of_a())),
         IDLE_OR_WAITING => met.idle_or_waiting(),
+        BEFORE_FIRST => met.before_first(),
         number => SHORT[usize::from(number)].to_string(),
     }
 }
@@ -81,13 +84,12 @@ pub fn line_rule(text: &[u8]) -> String {
 /// What is wrong with a configuration that met this number.
 pub fn configuration_rule(text: &[u8], number: Number) -> String {
     let Ok(frame) = line::read(text) else { return line_rule(text) };
-    let [tasks, named, queues, timers, messages, ticks, high, low, ref states @ ..] = frame[..] else {
+    let [tasks, named, queues, timers, messages, ticks, high, low, ref rest @ ..] = frame[..] else {
         return format!("it has {}, and the first eight are needed", counted(frame.len(), "byte"));
     };
     let sum = usize::from(named) + usize::from(tasks) + 2 * usize::from(queues);
-    let due = 8 + usize::from(tasks) + 2 * usize::from(queues);
     if number == LENGTH {
-        return format!("it has {}, and 8 + T + 2Q is {due}", counted(frame.len(), "byte"));
+        return wrong_length(frame.len(), 8 + usize::from(tasks) + 2 * usize::from(queues));
     }
     let told = |holds: bool, what: String| (!holds).then_some(what);
     told((1..=126).contains(&tasks), format!("T, the number of tasks, is {tasks}, not 1 to 126"))
@@ -97,20 +99,60 @@ pub fn configuration_rule(text: &[u8], number: Number) -> String {
         .or_else(|| told(ticks > 0, "K, the ticks of a tock, is 0, not 1 to 255".to_string()))
         .or_else(|| told(high > 0 || low > 0, "a tock has 0 milliseconds, not 1 to 65,535".to_string()))
         .or_else(|| told(sum <= 255, format!("S + T + 2Q is {sum}, not at most 255")))
-        .unwrap_or_else(|| states_and_sizes(states, tasks.into()))
+        .or_else(|| wrong_rest(rest, tasks.into(), queues.into()))
+        .unwrap_or_else(|| SHORT[usize::from(CONFIGURATION)].to_string())
 }
 
-fn states_and_sizes(rest: &[u8], tasks: usize) -> String {
-    let (states, sizes) = rest.split_at(tasks.min(rest.len()));
-    if let Some(place) = states.iter().position(|state| *state > 1) {
-        return format!("the initial state of task {} is {}, not 0 or 1", place + 1, states[place]);
+/// Of a configuration of so many bytes, where 8 + T + 2Q is the other number.
+fn wrong_length(bytes: usize, fixed: usize) -> String {
+    match bytes.checked_sub(fixed) {
+        None => format!("it has {}, and 8 + T + 2Q is {fixed}", counted(bytes, "byte")),
+        Some(rest) if rest > 2 * MOST_PAIRS => {
+            format!("it has {rest} bytes of pairs, and {MOST_PAIRS} pairs have {}", 2 * MOST_PAIRS)
+        }
+        Some(rest) => format!("it has {} of pairs, and a pair has two", counted(rest, "byte")),
     }
-    let possible = |size: &[u8]| (1..=16).contains(&size[0]) && size[1] > 0;
-    if let Some(place) = sizes.chunks_exact(2).position(|size| !possible(size)) {
-        let size = &sizes[2 * place..];
-        return format!("queue {} has width {} (1 to 16) and depth {} (1 to 255)", place + 1, size[0], size[1]);
+}
+
+/// What stands behind the first eight bytes of a configuration whose length is right.
+fn wrong_rest(rest: &[u8], tasks: usize, queues: usize) -> Option<String> {
+    let (states, rest) = rest.split_at_checked(tasks)?;
+    let (sizes, pairs) = rest.split_at_checked(2 * queues)?;
+    wrong_state(states).or_else(|| wrong_size(sizes)).or_else(|| wrong_pair(pairs, states))
+}
+
+fn wrong_state(states: &[u8]) -> Option<String> {
+    let place = states.iter().position(|state| *state > 1)?;
+    Some(format!("the initial state of task {} is {}, not 0 or 1", place + 1, states[place]))
+}
+
+fn wrong_size(sizes: &[u8]) -> Option<String> {
+    let mut bytes = 0;
+    for (number, size) in (1..).zip(sizes.chunks_exact(2)) {
+        let (width, depth) = (size[0], size[1]);
+        if !(1..=16).contains(&width) || depth == 0 {
+            return Some(format!("queue {number} has width {width} (1 to 16) and depth {depth} (1 to 255)"));
+        }
+        bytes += usize::from(width) * usize::from(depth);
     }
-    "the queues' widths times depths add up to more than 4,096".to_string()
+    (bytes > 4096).then(|| "the queues' widths times depths add up to more than 4,096".to_string())
+}
+
+fn wrong_pair(pairs: &[u8], states: &[u8]) -> Option<String> {
+    let idle = |task: u8| states[usize::from(task) - 1] == 1;
+    let wrong = |(number, pair): (usize, &[u8])| {
+        let (first, then, tasks) = (pair[0], pair[1], states.len());
+        let are_tasks = [first, then].iter().all(|task| (1..=tasks).contains(&usize::from(*task)));
+        if !are_tasks {
+            return Some(format!("pair {number} has first {first} and then {then}, not 1 to {tasks}"));
+        }
+        if first >= then {
+            return Some(format!("pair {number} has first {first} and then {then}: the first has to be the lower"));
+        }
+        (idle(first) && !idle(then))
+            .then(|| format!("task {then} starts runnable, and its first, task {first}, starts idle"))
+    };
+    (1..).zip(pairs.chunks_exact(2)).find_map(wrong)
 }
 
 fn none_of(what: &str, number: u16, most: u8) -> String {
@@ -208,5 +250,14 @@ impl Met<'_> {
     fn idle_or_waiting(&self) -> String {
         let idle = self.executive.tasks().get(self.of_a()).blocks().has(Block::Idle);
         format!("{} {}", self.words.task(self.of_a()), if idle { "is idle" } else { "waits already" })
+    }
+
+    fn before_first(&self) -> String {
+        let words = self.words;
+        let firsts = words.firsts(self.a).into_iter();
+        let idle = firsts.filter(|first| self.executive.tasks().get(*first).blocks().has(Block::Idle));
+        let idle: Vec<String> = idle.map(|first| words.task(first)).collect();
+        let (are, them) = if idle.len() == 1 { ("is", "it") } else { ("are", "them") };
+        format!("{} {are} idle, and {} starts only after {them}", listed(&idle), words.task(self.a))
     }
 }

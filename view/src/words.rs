@@ -1,5 +1,7 @@
 //! Frames and answers in words.
 
+use std::collections::BTreeSet;
+
 use plain_executive::answer;
 use plain_executive::command::*;
 use plain_executive::configuration::Configuration;
@@ -25,6 +27,14 @@ pub fn grouped(count: usize) -> String {
     let digits = count.to_string();
     let parts: Vec<&str> = digits.as_bytes().rchunks(3).rev().map(|part| std::str::from_utf8(part).unwrap()).collect();
     parts.join(",")
+}
+
+/// "task 1", "task 1 and task 2", "task 1, task 2 and task 3".
+pub fn listed(told: &[String]) -> String {
+    match told {
+        [front @ .., last] if !front.is_empty() => format!("{} and {last}", front.join(", ")),
+        _ => told.concat(),
+    }
 }
 
 pub fn hex(bytes: &[u8]) -> String {
@@ -99,7 +109,7 @@ impl Words<'_> {
     /// What the frame asks for.
     pub fn asked(&self, step: &Step) -> String {
         if step.number == 0 {
-            return configured(self.configuration);
+            return configured(self.configuration) + &self.only_after();
         }
         match step.frame {
             None => format!("a line of {}", counted(step.line.len(), "character")),
@@ -111,6 +121,20 @@ impl Words<'_> {
             }
             Some(frame) => format!("frame {}", hex(frame)),
         }
+    }
+
+    /// The tasks that must not be idle when a task is started, each once.
+    pub fn firsts(&self, task: u8) -> BTreeSet<u8> {
+        self.configuration.firsts(task).collect()
+    }
+
+    /// The pairs of the configuration, by the tasks that are started only after others.
+    fn only_after(&self) -> String {
+        let after = |task: u8| {
+            let firsts: Vec<String> = self.firsts(task).into_iter().map(|first| self.task(first)).collect();
+            (!firsts.is_empty()).then(|| format!("; {} starts only after {}", self.task(task), listed(&firsts)))
+        };
+        (1..=self.configuration.tasks).filter_map(after).collect()
     }
 
     /// The answer, and what the frame did that the answer does not show.

@@ -141,6 +141,24 @@ fn a_signal_says_whom_it_woke() {
     assert_eq!(told, frames.map(|(_, due)| due));
 }
 
+#[test]
+fn pairs_say_who_starts_only_after_whom() {
+    let frames = [
+        ("0C04000000", "refused 26, task 3 is idle, and task 4 starts only after it; task 1 goes on"),
+        ("0B02000000", "task 1 runs"),
+        ("0C03000000", "refused 26, task 2 is idle, and task 3 starts only after it; task 1 goes on"),
+        ("0B00000000", "task 5 runs, begins"),
+        ("0C03000000", "refused 26, task 1 and task 2 are idle, and task 3 starts only after them; task 5 goes on"),
+    ];
+    let lines: String = frames.iter().map(|(frame, _)| format!("{frame}\n")).collect();
+    let said = words(format!("050000000001006400000101000103020303040103\n{lines}").as_bytes());
+    let configuration = "0  configuration of 5 tasks, 0 named semaphores, 0 queues, 0 timers, 0 messages; a tock is 1 tick and \
+                         100 ms; task 3 starts only after task 1 and task 2; task 4 starts only after task 3: task 1 runs, begins";
+    assert_eq!(said.lines().next(), Some(configuration));
+    let told: Vec<&str> = said.lines().skip(1).map(|line| line.split_once(": ").expect("an answer").1).collect();
+    assert_eq!(told, frames.map(|(_, due)| due));
+}
+
 /// Sessions with a frame for each number, and what is said of it.
 #[test]
 fn each_refusal_says_its_rule() {
@@ -203,12 +221,13 @@ fn random_sessions_are_told_whole() {
         }
         assert_eq!(said.lines().count(), text(&answers).lines().count());
     }
-    let due: BTreeSet<u8> = [0, 2, 4, 5, 6, 7, 8, 9, 20, 21, 22, 23, 24, 25].into();
+    let due: BTreeSet<u8> = [0, 2, 4, 5, 6, 7, 8, 9, 20, 21, 22, 23, 24, 25, 26].into();
     assert!(met.is_superset(&due), "{met:?}");
 }
 
 #[test]
 fn a_refused_configuration_ends_with_1_and_says_why() {
+    let too_many = format!("0200000000010001{}", "00".repeat(2) + &"0102".repeat(65));
     let cases = [
         ("00010101010100010000", "is refused with 3, so the session ends: T, the number of tasks, is 0, not 1 to 126"),
         ("0101", "is refused with 2, so the session ends: it has 2 bytes, and the first eight are needed"),
@@ -221,6 +240,23 @@ fn a_refused_configuration_ends_with_1_and_says_why() {
             "020101010101007D00020101",
             "is refused with 3, so the session ends: the initial state of task 2 is 2, not 0 or 1",
         ),
+        (
+            "03000000000100010000010104",
+            "is refused with 3, so the session ends: pair 1 has first 1 and then 4, not 1 to 3",
+        ),
+        (
+            "030000000001000100000101030301",
+            "is refused with 3, so the session ends: pair 2 has first 3 and then 1: the first has to be the lower",
+        ),
+        (
+            "03000000000100010100000103",
+            "is refused with 3, so the session ends: task 3 starts runnable, and its first, task 1, starts idle",
+        ),
+        (
+            "030000000001000100000101",
+            "is refused with 2, so the session ends: it has 1 byte of pairs, and a pair has two",
+        ),
+        (&too_many, "is refused with 2, so the session ends: it has 130 bytes of pairs, and 64 pairs have 128"),
         ("02zz", "is refused with 1, so the session ends: character 3 is 'z', which is no digit"),
     ];
     for (line, rule) in cases {

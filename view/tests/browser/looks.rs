@@ -180,6 +180,19 @@ fn what_a_frame_changed_is_marked_and_the_trail_told() {
     assert_eq!(since, "#9 (3 frames)");
 }
 
+/// A task that is started only after others says so beside its name, and which of them are idle.
+#[test]
+fn pairs_stand_beside_the_tasks() {
+    let input = b"050000000001006400000101000103020303040103\n0B02000000\n";
+    let page = page_of("pairs", &[("pairs.session", input)], "t1 station");
+    let mut opened = browser("pairs");
+    opened.browser.open(&page, "#f=1");
+    let told = "[...document.querySelectorAll('.tasks tr[data-key]')].map(row => row.cells[0].textContent).join('|')";
+    let due = "1 station|task 2|task 3 only after station, 2 (idle)|task 4 only after 3 (idle)|task 5";
+    assert_eq!(opened.browser.text(told), due);
+    assert_eq!(opened.browser.complaints, Vec::<String>::new());
+}
+
 /// At both widths, in both themes, with every part shown.
 #[test]
 fn no_text_is_below_twelve_pixels_and_nothing_is_wider_than_the_page() {
