@@ -33,7 +33,10 @@ pub mod HandedOver
 -- whom a signal request tells, before settling and after its frame (request-tells, signal-tells), and that nobody else is told (told-by-own-signal)
 pub mod Told
 pub mod ToldAfter
+pub mod Walk
 pub mod Callers
+-- a task is started only after its firsts (started-after, begins-after)
+pub mod Starts
 -- messages 1 to G, none twice: every step of every ledger keeps it (once-step)
 pub mod Once
 -- lines and frames are inverse to each other (written-reads-back, read-is-the-line); a tock value at every width (negative, lowest); milliseconds as the nearest tocks (nearest-is, only-nearest)

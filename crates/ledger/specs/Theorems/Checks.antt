@@ -7,7 +7,7 @@ use native.Mathlib.Omega.{arith}
 use borrow.Author.Tests.{leb-true, eqb-true, eqb-false}
 use lib.Dec.{eqb, leb}
 use lib.ListN.{length, getD}
-use Rattle.ledger.specs.Lists.{Check, first, at, all, within}
+use Rattle.ledger.specs.Lists.{Check, first, at, any, all, within}
 use Rattle.ledger.specs.Theorems.Items.{Numbered}
 
 pub and-left : (a b : Bool) → (a && b) ≡ true → a ≡ true
@@ -96,3 +96,15 @@ module _ {A : Type 0} where
   unfolding at
   at-all p xs zero d h k = absurd (omega arith)
   at-all p xs (suc n) d h k = getD-all p xs n d h (omega arith)
+
+  -- and where none passes
+  getD-any : (p : A → Bool) (xs : List A) (i : ℕ) (d : A) → any p xs ≡ false → i < length xs → p (getD xs i d) ≡ false
+  unfolding any
+  getD-any p [] i d h k = absurd (omega arith)
+  getD-any p (x ∷ xs) zero d h k = or-left (p x) (any p xs) h
+  getD-any p (x ∷ xs) (suc i) d h k = getD-any p xs i d (or-right (p x) (any p xs) h) (omega arith)
+
+  pub at-any : (p : A → Bool) (xs : List A) (n : ℕ) (d : A) → any p xs ≡ false → Numbered (length xs) n → p (at xs n d) ≡ false
+  unfolding at
+  at-any p xs zero d h k = absurd (omega arith)
+  at-any p xs (suc n) d h k = getD-any p xs n d h (omega arith)

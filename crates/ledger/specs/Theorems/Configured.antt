@@ -5,7 +5,7 @@ use mathlib.Core.Bool.{true, not, _&&_}
 use mathlib.Core.List.{List, [], _∷_}
 use native.Mathlib.Omega.{arith}
 use borrow.Author.Tests.{leb-true, not-false}
-use lib.Dec.{ltb}
+use lib.Dec.{leb, ltb}
 use lib.ListN.{length, length-take, length-drop}
 use Rattle.ledger.specs.Lists.{_⇒_, all, within}
 use Rattle.ledger.specs.Config.{QueueShape, Config, configIn, controller, mostPairs, front, goodHead, goodLength, goodPair, goodRest, configRefusal}
@@ -26,6 +26,7 @@ pub record Configured (c : Config) : Type 0 where
   pub ticks : Numbered 255 (c .K)
   pub semaphores : c .S + c .T + 2 * c .Q ≤ 255
   pub states : length (c .states) ≡ c .T
+  pub low : all (λ s. leb s 1) (c .states) ≡ true
   pub shapes : length (c .shapes) ≡ c .Q
   pub shaped : (q : ℕ) → Numbered (c .Q) q → Shaped (shape c q)
   pub pairs : all (goodPair (c .T) (c .states)) (c .pairs) ≡ true
@@ -48,6 +49,7 @@ checked c h r s q =
       ticks = within-numbered 255 (c .K) (search (and-left, and-right) depth 9);
       semaphores = leb-true (c .S + c .T + 2 * c .Q) 255 (search (and-left, and-right) depth 9);
       states = s;
+      low = search (and-left, and-right) depth 9;
       shapes = q;
       shaped = all-shaped c q (search (and-left, and-right) depth 9);
       pairs = search (and-left, and-right) depth 9;
