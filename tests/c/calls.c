@@ -69,9 +69,11 @@ static uint8_t configure(const uint8_t *f, size_t length)
 {
     mcx11_configuration_t named;
     uint8_t bytes[MCX11_FRAME_BYTES];
-    size_t t, q;
+    size_t t, q, p, pairs_at;
     memset(&named, 0, sizeof named);
-    if (length < 8 || f[0] > MCX11_MOST_TASKS || f[2] > MCX11_MOST_QUEUES || length != (size_t)8 + f[0] + f[2] + f[2])
+    pairs_at = length < 8 ? 8 : (size_t)8 + f[0] + f[2] + f[2];
+    if (length < pairs_at || f[0] > MCX11_MOST_TASKS || f[2] > MCX11_MOST_QUEUES || (length - pairs_at) % 2 != 0 ||
+        length - pairs_at > 2 * MCX11_MOST_PAIRS)
         return mcx11_configure(&ride, f, length);
     named.tasks = f[0];
     named.named_semaphores = f[1];
@@ -85,6 +87,11 @@ static uint8_t configure(const uint8_t *f, size_t length)
     for (q = 1; q <= f[2]; q++) {
         named.queue[q].width = f[8 + f[0] + 2 * q - 2];
         named.queue[q].depth = f[8 + f[0] + 2 * q - 1];
+    }
+    named.pairs = (uint8_t)((length - pairs_at) / 2);
+    for (p = 1; p <= named.pairs; p++) {
+        named.pair[p].first = f[pairs_at + 2 * p - 2];
+        named.pair[p].then = f[pairs_at + 2 * p - 1];
     }
     if (mcx11_configuration_bytes(&named, bytes) != length || memcmp(bytes, f, length) != 0)
         return 255;
