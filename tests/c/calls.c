@@ -7,7 +7,7 @@
 #include <stdio.h>
 #include <string.h>
 
-static mcx11_t ride, copy;
+static mcx11_t ride, copy, spare;
 
 static void print_line(const uint8_t *bytes, size_t length)
 {
@@ -98,11 +98,24 @@ static uint8_t configure(const uint8_t *f, size_t length)
     return mcx11_configure_from(&ride, &named);
 }
 
+/* More pairs than there is room for get the number that is due. */
+static uint8_t too_many_pairs(void)
+{
+    mcx11_configuration_t named;
+    memset(&named, 0, sizeof named);
+    named.tasks = named.ticks_per_tock = 1;
+    named.milliseconds_per_tock = 1;
+    named.pairs = MCX11_MOST_PAIRS + 1;
+    return mcx11_configure_from(&spare, &named);
+}
+
 int main(void)
 {
     char text[MCX11_LINE_DIGITS + 2];
     int configured = 0;
 
+    if (too_many_pairs() != MCX11_NUMBER_LENGTH)
+        return 1;
     while (fgets(text, sizeof text, stdin) != NULL) {
         uint8_t frame[MCX11_FRAME_BYTES], ours, theirs;
         const int32_t digits = mcx11_read_line((const uint8_t *)text, strcspn(text, "\n"), frame, MCX11_FRAME_BYTES);

@@ -41,6 +41,13 @@ static void print_timer(uint8_t task, uint8_t semaphore)
         printf("timer %u %u left %lu period %lu\n", task, semaphore, (unsigned long)left, (unsigned long)period);
 }
 
+static void print_pair(uint8_t pair)
+{
+    const mcx11_pair_t both = mcx11_pair(&ride, pair);
+    if (both.first != 0 || both.then != 0)
+        printf("pair %u first %u then %u\n", pair, both.first, both.then);
+}
+
 /* Every number a byte can have, also those that there are not. */
 int main(void)
 {
@@ -48,7 +55,8 @@ int main(void)
         unsigned i, j;
         if (mcx11_answer_length(&ride) >= MCX11_ANSWER_BYTES || mcx11_value_length(&ride) > MCX11_ENTRY_BYTES)
             return 1;
-        printf("tasks %u ticks left %u timers %u\n", mcx11_tasks(&ride), mcx11_ticks_left(&ride), mcx11_timer_count(&ride));
+        printf("tasks %u ticks left %u timers %u pairs %u\n", mcx11_tasks(&ride), mcx11_ticks_left(&ride),
+               mcx11_timer_count(&ride), mcx11_pairs(&ride));
         for (i = 0; i <= 255; i++) {
             if (mcx11_slot(&ride, (uint8_t)i) != NULL || mcx11_blocks(&ride, (uint8_t)i) != 0 ||
                 mcx11_own_semaphore(&ride, (uint8_t)i) != 0 || mcx11_mailbox_count(&ride, (uint8_t)i) != 0)
@@ -67,6 +75,8 @@ int main(void)
         for (i = 0; i <= 255; i++)
             for (j = 0; j <= 255; j++)
                 print_timer((uint8_t)i, (uint8_t)j);
+        for (i = 0; i <= 255; i++)
+            print_pair((uint8_t)i);
         printf("\n");
     }
     return 0;

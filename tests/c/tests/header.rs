@@ -142,11 +142,12 @@ fn doxygen_reads_the_comments() {
 
 // ---- the readers of the state
 
-/// The items of the state as tests/c/state.c prints what the header reads.
-fn state(items: &Items, configuration: &Configuration) -> String {
+/// The items of the state and the bytes of the pairs, as tests/c/state.c prints what the header reads.
+fn state(items: &Items, configuration: &Configuration, pairs: &[u8]) -> String {
     let mut told = String::new();
     let ticks_left = configuration.ticks_per_tock - items.ticks;
-    writeln!(told, "tasks {} ticks left {ticks_left} timers {}", items.tasks.len(), items.timers.len()).unwrap();
+    let counts = [items.tasks.len(), items.timers.len(), pairs.len() / 2];
+    writeln!(told, "tasks {} ticks left {ticks_left} timers {} pairs {}", counts[0], counts[1], counts[2]).unwrap();
     for (index, task) in items.tasks.iter().enumerate() {
         let number = index as u8 + 1;
         let (blocks, own) = (bits(task.blocks), configuration.semaphore_of_task(number));
@@ -166,7 +167,9 @@ fn state(items: &Items, configuration: &Configuration) -> String {
         let (queue, count) = (index + 1, held.len());
         writeln!(told, "queue {queue} width {} depth {} holds {count}:{entries} none", size.width, size.depth).unwrap();
     }
-    told + &timers(items) + "\n"
+    let pair = |(number, pair): (usize, &[u8])| format!("pair {number} first {} then {}\n", pair[0], pair[1]);
+    let some = (1..).zip(pairs.chunks_exact(2)).filter(|(_, pair)| **pair != [0, 0]);
+    told + &timers(items) + &some.map(pair).collect::<String>() + "\n"
 }
 
 /// By task and semaphore. In damaged memory two may have the same; the first counts.
@@ -201,7 +204,7 @@ fn of_session(script: &Script, every: usize, memories: &mut Vec<u8>, states: &mu
         memory.frame(frame);
         if index % every == 0 {
             memories.extend(memory.blocks().concat());
-            states.push_str(&state(&other.items(), other.configuration()));
+            states.push_str(&state(&other.items(), other.configuration(), memory.pair_bytes(other.configuration())));
         }
     }
 }
@@ -215,7 +218,18 @@ fn the_readers_tell_the_other_implementations_state() {
         let script = Generator::new(seed).script(tasks..=tasks, 300);
         of_session(&script, 20, &mut memories, &mut states);
     }
-    for word in ["DONE", "WAITING", "holds 2", "mailbox 2", "blocks 4", "blocks 8", "blocks 1 ", "blocks 2 ", "timer"] {
+    for word in [
+        "DONE",
+        "WAITING",
+        "holds 2",
+        "mailbox 2",
+        "blocks 4",
+        "blocks 8",
+        "blocks 1 ",
+        "blocks 2 ",
+        "timer",
+        "pair 64",
+    ] {
         assert!(states.contains(word), "never reached: {word}");
     }
     let folder = scratch("state");
@@ -257,7 +271,11 @@ fn the_readers_stay_inside_whatever_the_memory_holds() {
         }
         match rules::configuration(&memory.config) {
             Some(configuration) if rules::broken(&memory).is_none() => {
-                states.push_str(&state(&memory.items(&configuration), &configuration));
+                states.push_str(&state(
+                    &memory.items(&configuration),
+                    &configuration,
+                    memory.pair_bytes(&configuration),
+                ));
                 good.extend(memory.blocks().concat());
             }
             _ => bad.extend(memory.blocks().concat()),
