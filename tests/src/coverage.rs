@@ -81,6 +81,11 @@ impl Coverage {
         situations::names().chain(refusals::names()).filter(|name| self.counts[name] == 0).collect()
     }
 
+    /// The causes of refused configurations that were not reached.
+    pub fn missing_of_refused(&self) -> Vec<String> {
+        configurations::refused_names().filter(|name| self.counts[name] == 0).collect()
+    }
+
     fn count(&mut self, reached: impl IntoIterator<Item = String>) {
         for name in reached {
             *self.counts.get_mut(&name).unwrap_or_else(|| panic!("no situation has this name: {name}")) += 1;

@@ -96,11 +96,15 @@ const LENGTH_AND_REST: &str = "a wrong length, and a wrong state";
 const LENGTH_AND_PAIR: &str = "a wrong length, and a wrong pair";
 
 pub fn names() -> impl Iterator<Item = String> {
+    refused_names().chain(ACCEPTED.iter().map(|(name, _)| accepted(name)))
+}
+
+pub fn refused_names() -> impl Iterator<Item = String> {
     let threes = FIXED.iter().chain(&REST).map(|(name, _)| refused(CONFIGURATION, name));
     let three = refused(CONFIGURATION, SUM_AND_LENGTH);
     let twos = [SHORTER_THAN_EIGHT, TOO_SHORT, ODD, MORE_PAIRS, TOO_LONG, LENGTH_AND_REST, LENGTH_AND_PAIR];
     let twos = twos.map(|name| refused(LENGTH, name));
-    threes.chain([three]).chain(twos).chain(ACCEPTED.iter().map(|(name, _)| accepted(name)))
+    threes.chain([three]).chain(twos)
 }
 
 pub fn reached(frame: &[u8]) -> Vec<String> {
