@@ -7,7 +7,7 @@
 #include <stdio.h>
 #include <string.h>
 
-static mcx11_t ride, copy, spare;
+static mcx11_t ride, copy;
 
 static void print_line(const uint8_t *bytes, size_t length)
 {
@@ -64,16 +64,15 @@ static uint8_t call(const uint8_t *f, size_t length)
     }
 }
 
-/* The same configuration by names: its bytes come back. */
+/* The same configuration by names: its bytes come back, unless it has too many pairs. */
 static uint8_t configure(const uint8_t *f, size_t length)
 {
     mcx11_configuration_t named;
     uint8_t bytes[MCX11_FRAME_BYTES];
-    size_t t, q, p, pairs_at;
+    const size_t fixed = length < 8 ? 8 : (size_t)8 + f[0] + f[2] + f[2];
+    size_t t, q, n;
     memset(&named, 0, sizeof named);
-    pairs_at = length < 8 ? 8 : (size_t)8 + f[0] + f[2] + f[2];
-    if (length < pairs_at || f[0] > MCX11_MOST_TASKS || f[2] > MCX11_MOST_QUEUES || (length - pairs_at) % 2 != 0 ||
-        length - pairs_at > 2 * MCX11_MOST_PAIRS)
+    if (length < fixed || f[0] > MCX11_MOST_TASKS || f[2] > MCX11_MOST_QUEUES || (length - fixed) % 2 != 0)
         return mcx11_configure(&ride, f, length);
     named.tasks = f[0];
     named.named_semaphores = f[1];
@@ -88,25 +87,16 @@ static uint8_t configure(const uint8_t *f, size_t length)
         named.queue[q].width = f[8 + f[0] + 2 * q - 2];
         named.queue[q].depth = f[8 + f[0] + 2 * q - 1];
     }
-    named.pairs = (uint8_t)((length - pairs_at) / 2);
-    for (p = 1; p <= named.pairs; p++) {
-        named.pair[p].first = f[pairs_at + 2 * p - 2];
-        named.pair[p].then = f[pairs_at + 2 * p - 1];
+    named.pairs = (uint8_t)((length - fixed) / 2);
+    for (n = 1; n <= named.pairs && n <= MCX11_MOST_PAIRS; n++) {
+        named.pair[n].first = f[fixed + 2 * n - 2];
+        named.pair[n].then = f[fixed + 2 * n - 1];
     }
+    if (named.pairs > MCX11_MOST_PAIRS)
+        return mcx11_configure_from(&ride, &named);
     if (mcx11_configuration_bytes(&named, bytes) != length || memcmp(bytes, f, length) != 0)
         return 255;
     return mcx11_configure_from(&ride, &named);
-}
-
-/* More pairs than there is room for get the number that is due. */
-static uint8_t too_many_pairs(void)
-{
-    mcx11_configuration_t named;
-    memset(&named, 0, sizeof named);
-    named.tasks = named.ticks_per_tock = 1;
-    named.milliseconds_per_tock = 1;
-    named.pairs = MCX11_MOST_PAIRS + 1;
-    return mcx11_configure_from(&spare, &named);
 }
 
 int main(void)
@@ -114,8 +104,6 @@ int main(void)
     char text[MCX11_LINE_DIGITS + 2];
     int configured = 0;
 
-    if (too_many_pairs() != MCX11_NUMBER_LENGTH)
-        return 1;
     while (fgets(text, sizeof text, stdin) != NULL) {
         uint8_t frame[MCX11_FRAME_BYTES], ours, theirs;
         const int32_t digits = mcx11_read_line((const uint8_t *)text, strcspn(text, "\n"), frame, MCX11_FRAME_BYTES);

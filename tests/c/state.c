@@ -15,6 +15,18 @@ static void print_bytes(const uint8_t *bytes, size_t length)
         printf("%s%02X", i == 0 ? " " : "", bytes[i]);
 }
 
+static void print_pairs(void)
+{
+    unsigned n;
+    printf("pairs %u:", mcx11_pairs(&ride));
+    for (n = 0; n <= 255; n++) {
+        const mcx11_pair_t pair = mcx11_pair(&ride, (uint8_t)n);
+        if (pair.first != 0 || pair.then != 0)
+            printf(" %u %u-%u", n, pair.first, pair.then);
+    }
+    printf("\n");
+}
+
 static void print_task(uint8_t task)
 {
     printf("task %u blocks %u own %u mailbox %u slot", task, mcx11_blocks(&ride, task), mcx11_own_semaphore(&ride, task),
@@ -41,13 +53,6 @@ static void print_timer(uint8_t task, uint8_t semaphore)
         printf("timer %u %u left %lu period %lu\n", task, semaphore, (unsigned long)left, (unsigned long)period);
 }
 
-static void print_pair(uint8_t pair)
-{
-    const mcx11_pair_t both = mcx11_pair(&ride, pair);
-    if (both.first != 0 || both.then != 0)
-        printf("pair %u first %u then %u\n", pair, both.first, both.then);
-}
-
 /* Every number a byte can have, also those that there are not. */
 int main(void)
 {
@@ -55,8 +60,8 @@ int main(void)
         unsigned i, j;
         if (mcx11_answer_length(&ride) >= MCX11_ANSWER_BYTES || mcx11_value_length(&ride) > MCX11_ENTRY_BYTES)
             return 1;
-        printf("tasks %u ticks left %u timers %u pairs %u\n", mcx11_tasks(&ride), mcx11_ticks_left(&ride),
-               mcx11_timer_count(&ride), mcx11_pairs(&ride));
+        printf("tasks %u ticks left %u timers %u\n", mcx11_tasks(&ride), mcx11_ticks_left(&ride), mcx11_timer_count(&ride));
+        print_pairs();
         for (i = 0; i <= 255; i++) {
             if (mcx11_slot(&ride, (uint8_t)i) != NULL || mcx11_blocks(&ride, (uint8_t)i) != 0 ||
                 mcx11_own_semaphore(&ride, (uint8_t)i) != 0 || mcx11_mailbox_count(&ride, (uint8_t)i) != 0)
@@ -75,8 +80,6 @@ int main(void)
         for (i = 0; i <= 255; i++)
             for (j = 0; j <= 255; j++)
                 print_timer((uint8_t)i, (uint8_t)j);
-        for (i = 0; i <= 255; i++)
-            print_pair((uint8_t)i);
         printf("\n");
     }
     return 0;

@@ -6,7 +6,7 @@ mod tools;
 use c::damage::damage;
 use c::lent::{Lent, FRAME, SIZES};
 use c::rules;
-use plain_executive::configuration::Configuration;
+use plain_executive::configuration::{Configuration, MOST_PAIRS};
 use plain_executive::executive::Executive;
 use plain_executive::generator::{cascade, Generator, Script};
 use plain_executive::items::Items;
@@ -24,12 +24,24 @@ use tools::{built, frames_of, languages, printed, repository, run, scratch, stor
 fn sessions() -> Vec<Vec<u8>> {
     let stories = stories().into_iter().map(|story| frames_of(&story));
     let random = (0..60).map(|seed| Generator::new(seed).script(1..=20, 300).lines());
-    stories.chain(random).collect()
+    let too_many = [&[1, 0, 0, 0, 0, 1, 0, 1, 0][..], &[1; 2 * (MOST_PAIRS + 1)]].concat();
+    stories.chain(random).chain([line::write(&too_many).expect("a line")]).collect()
 }
 
 /// What the hook writes of a session: line, answer and number of each call.
 fn traced(program: &std::path::Path, input: &[u8]) -> String {
     printed(&mut Command::new(program), input)
+}
+
+/// A configuration as the call by names feeds it: with too many pairs it is the first eight bytes.
+fn by_names(frame: &[u8]) -> Vec<u8> {
+    let [tasks, _, queues, ..] = *frame else { return frame.to_vec() };
+    let most = 8 + usize::from(tasks) + 2 * usize::from(queues) + 2 * MOST_PAIRS;
+    if frame.len() > most {
+        frame[..8].to_vec()
+    } else {
+        frame.to_vec()
+    }
 }
 
 /// A frame as the call of its code's name feeds it: the fields that the code does not use are 0.
@@ -69,7 +81,7 @@ fn the_calls_by_names_feed_their_frames_and_are_traced() {
         for (index, (fed, answer)) in session::lines(&input).zip(session::lines(&answers)).enumerate() {
             let frame = line::read(fed).expect("a line");
             let (what, called) = if index == 0 {
-                ("configuration", frame.clone())
+                ("configuration", by_names(&frame))
             } else {
                 codes.insert(frame.first().copied());
                 ("frame", canonical(&frame))
@@ -142,12 +154,15 @@ fn doxygen_reads_the_comments() {
 
 // ---- the readers of the state
 
-/// The items of the state and the bytes of the pairs, as tests/c/state.c prints what the header reads.
-fn state(items: &Items, configuration: &Configuration, pairs: &[u8]) -> String {
+/// The items of the state, and the pairs of the configuration frame, as tests/c/state.c prints what the header reads.
+fn state(items: &Items, configuration: &Configuration, frame: &[u8]) -> String {
     let mut told = String::new();
     let ticks_left = configuration.ticks_per_tock - items.ticks;
-    let counts = [items.tasks.len(), items.timers.len(), pairs.len() / 2];
-    writeln!(told, "tasks {} ticks left {ticks_left} timers {} pairs {}", counts[0], counts[1], counts[2]).unwrap();
+    writeln!(told, "tasks {} ticks left {ticks_left} timers {}", items.tasks.len(), items.timers.len()).unwrap();
+    let pairs = frame[8 + items.tasks.len() + 2 * items.queues.len()..].chunks_exact(2);
+    let named = (1..).zip(pairs.clone()).filter(|(_, pair)| *pair != [0, 0]);
+    let named: String = named.map(|(number, pair)| format!(" {number} {}-{}", pair[0], pair[1])).collect();
+    writeln!(told, "pairs {}:{named}", pairs.len()).unwrap();
     for (index, task) in items.tasks.iter().enumerate() {
         let number = index as u8 + 1;
         let (blocks, own) = (bits(task.blocks), configuration.semaphore_of_task(number));
@@ -167,9 +182,7 @@ fn state(items: &Items, configuration: &Configuration, pairs: &[u8]) -> String {
         let (queue, count) = (index + 1, held.len());
         writeln!(told, "queue {queue} width {} depth {} holds {count}:{entries} none", size.width, size.depth).unwrap();
     }
-    let pair = |(number, pair): (usize, &[u8])| format!("pair {number} first {} then {}\n", pair[0], pair[1]);
-    let some = (1..).zip(pairs.chunks_exact(2)).filter(|(_, pair)| **pair != [0, 0]);
-    told + &timers(items) + &some.map(pair).collect::<String>() + "\n"
+    told + &timers(items) + "\n"
 }
 
 /// By task and semaphore. In damaged memory two may have the same; the first counts.
@@ -204,7 +217,7 @@ fn of_session(script: &Script, every: usize, memories: &mut Vec<u8>, states: &mu
         memory.frame(frame);
         if index % every == 0 {
             memories.extend(memory.blocks().concat());
-            states.push_str(&state(&other.items(), other.configuration(), memory.pair_bytes(other.configuration())));
+            states.push_str(&state(&other.items(), other.configuration(), &script.configuration));
         }
     }
 }
@@ -218,18 +231,8 @@ fn the_readers_tell_the_other_implementations_state() {
         let script = Generator::new(seed).script(tasks..=tasks, 300);
         of_session(&script, 20, &mut memories, &mut states);
     }
-    for word in [
-        "DONE",
-        "WAITING",
-        "holds 2",
-        "mailbox 2",
-        "blocks 4",
-        "blocks 8",
-        "blocks 1 ",
-        "blocks 2 ",
-        "timer",
-        "pair 64",
-    ] {
+    let due = "DONE|WAITING|holds 2|mailbox 2|blocks 4|blocks 8|blocks 1 |blocks 2 |timer|pairs 2:";
+    for word in due.split('|') {
         assert!(states.contains(word), "never reached: {word}");
     }
     let folder = scratch("state");
@@ -271,11 +274,7 @@ fn the_readers_stay_inside_whatever_the_memory_holds() {
         }
         match rules::configuration(&memory.config) {
             Some(configuration) if rules::broken(&memory).is_none() => {
-                states.push_str(&state(
-                    &memory.items(&configuration),
-                    &configuration,
-                    memory.pair_bytes(&configuration),
-                ));
+                states.push_str(&state(&memory.items(&configuration), &configuration, memory.kept_frame()));
                 good.extend(memory.blocks().concat());
             }
             _ => bad.extend(memory.blocks().concat()),
