@@ -214,7 +214,7 @@ pub fn growing() -> Vec<Session> {
     sessions.push(signal(MUCH));
     sessions.extend([0, 16, 32, 64].map(|timers| tick(Held { timers, ..LITTLE })));
     sessions.push(tick(MUCH));
-    sessions.extend([LITTLE, Held { tasks: 126, ..LITTLE }].into_iter().flat_map(executing));
+    sessions.extend([LITTLE, Held { tasks: 126, queues: 32, ..LITTLE }].into_iter().flat_map(executing));
     sessions
 }
 
