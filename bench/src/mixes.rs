@@ -2,10 +2,11 @@
 
 use crate::session::{Frame, Session};
 use plain_executive::generator::Generator;
+use plain_executive::line::MOST_BYTES;
 
 const FRAMES: usize = 20_000;
 /// Frames that no line has room for are left out, and those without a byte. They are refused, and change nothing.
-const BYTES: std::ops::RangeInclusive<usize> = 1..=200;
+const BYTES: std::ops::RangeInclusive<usize> = 1..=MOST_BYTES;
 /// Tasks and queues; the number of tasks is the seed too.
 const SIZES: [(u8, u8); 4] = [(6, 4), (33, 8), (65, 16), (125, 32)];
 

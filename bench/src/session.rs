@@ -2,7 +2,7 @@
 
 use std::hint::black_box;
 
-use c::lent::{Lent, Regions, COUNT, FRAME, SIZES};
+use c::lent::{pairs_at, Lent, Regions, COUNT, FRAME, PART, SIZES};
 use plain_executive::configuration::Configuration;
 use plain_executive::executive::Executive;
 use plain_executive::generator::Script;
@@ -111,7 +111,7 @@ impl Session {
     }
 
     /// Before each frame, the break that the test for 11 meets last: in the last message that lies if G lie, else in the last
-    /// queue, else in the frame's length.
+    /// queue, else in the frame's length: it is made too short, or with many pairs too long.
     pub fn breaks(&self) -> Vec<Break> {
         let mut memory = self.memory();
         let configuration = Configuration::read(&self.configuration).expect("accepted");
@@ -119,9 +119,9 @@ impl Session {
         let mut next = |frame: &Frame| {
             let lying = usize::from(memory.tables[COUNT]);
             let number = (lying > 0).then(|| Break::Tables(messages + 4 * (lying - 1) + 1, 0));
-            let last = FRAME + self.configuration.len() - 1;
+            let last = pairs_at(&configuration) - 1;
             let depth = (!configuration.queues.is_empty()).then_some(Break::Config(last, 0));
-            let length = Break::Config(FRAME - 1, self.configuration.len() as u8 ^ 1);
+            let length = Break::Config(PART + 1, (last - FRAME) as u8);
             let candidates = [number, depth, Some(length)];
             let mut found = candidates.into_iter().flatten();
             let found = found.find(|rule| rule.frame(&mut memory.clone(), frame) == MEMORY).expect("a break");

@@ -203,7 +203,7 @@ impl Held {
     }
 }
 
-/// A signal of a semaphore that is DONE, and a tick that ends a tock in which no timer is due.
+/// A signal of a semaphore that is DONE, a tick that ends a tock in which no timer is due, and executes with pairs.
 pub fn growing() -> Vec<Session> {
     let signal = |held: Held| held.session("signal", &[SIGNAL, 0, 64, 0, 0]);
     let tick = |held: Held| held.session("tick", &tick());
@@ -214,5 +214,25 @@ pub fn growing() -> Vec<Session> {
     sessions.push(signal(MUCH));
     sessions.extend([0, 16, 32, 64].map(|timers| tick(Held { timers, ..LITTLE })));
     sessions.push(tick(MUCH));
+    sessions.extend([LITTLE, Held { tasks: 126, queues: 32, ..LITTLE }].into_iter().flat_map(executing));
     sessions
+}
+
+/// Executes of the last task by the first: without a pair, with one, with 64, and with 64 of which the last refuses it.
+fn executing(held: Held) -> [Session; 4] {
+    let last = held.tasks;
+    let session = |name: &str, pairs: &[u8]| {
+        let mut session = held.session(name, &[EXECUTE, last, 0, 0, 0]);
+        let idle = [last - 1, last].map(|task| 7 + usize::from(task));
+        idle.into_iter().for_each(|state| session.configuration[state] = 1);
+        session.configuration.extend(pairs);
+        session
+    };
+    let many = [1, last].repeat(63);
+    [
+        session("execute", &[]),
+        session("execute, 1 pair", &[1, last]),
+        session("execute, 64 pairs", &[many.as_slice(), &[1, last]].concat()),
+        session("execute, 26 by the last of 64 pairs", &[many.as_slice(), &[last - 1, last]].concat()),
+    ]
 }

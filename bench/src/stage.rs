@@ -15,7 +15,7 @@ const AWAY: u8 = 65;
 /// Nobody gets a message from this task, unless a state says so.
 pub const SILENT: u8 = TASKS;
 /// An idle task, whose mailbox has the messages that only lie there.
-const IDLE: u8 = 2;
+pub const IDLE: u8 = 2;
 
 /// Of all queues; each has room for one entry.
 #[derive(Clone, Copy)]
@@ -51,13 +51,15 @@ impl Ends {
 pub struct Stage {
     size: Size,
     pub arranger: u8,
+    /// First and then, two bytes each.
+    pub pairs: Frame,
     frames: Vec<Frame>,
 }
 
 impl Stage {
-    /// All tasks but the arranger are idle.
+    /// All tasks but the arranger are idle. There are no pairs.
     pub fn new(size: Size, arranger: u8) -> Self {
-        Stage { size, arranger, frames: Vec::new() }
+        Stage { size, arranger, pairs: Vec::new(), frames: Vec::new() }
     }
 
     pub fn session(self, state: String, frame: Frame) -> Session {
@@ -70,6 +72,7 @@ impl Stage {
         let mut frame = vec![TASKS, named, queues, TIMERS, MESSAGES, 1, 0, 125];
         frame.extend((1..=TASKS).map(|task| u8::from(task != self.arranger)));
         frame.extend([width, 1].repeat(queues.into()));
+        frame.extend(&self.pairs);
         frame
     }
 

@@ -126,6 +126,7 @@ impl Reader<'_> {
     fn execute(&self, a: u8) -> Result<Command<'static>, Number> {
         self.task(a)?;
         require(a != self.own, TASK)?;
+        require(!self.executive.has_idle_first(a), BEFORE_FIRST)?;
         Ok(Command::Execute(a))
     }
 

@@ -5,6 +5,7 @@ use crate::numbers::{require, Number, CONFIGURATION, LENGTH};
 const FIXED_BYTES: usize = 8;
 const MOST_SEMAPHORES: usize = 255;
 const MOST_QUEUE_BYTES: usize = 4096;
+pub const MOST_PAIRS: usize = 64;
 
 #[derive(Clone, Copy, Debug, PartialEq, Eq)]
 pub struct QueueSize {
@@ -12,6 +13,13 @@ pub struct QueueSize {
     pub width: u8,
     /// Entries in the queue.
     pub depth: u8,
+}
+
+/// One task, and another that is not started while the first is idle.
+#[derive(Clone, Copy, Debug, PartialEq, Eq)]
+pub struct Pair {
+    pub first: u8,
+    pub then: u8,
 }
 
 #[derive(Clone, Debug, PartialEq, Eq)]
@@ -26,6 +34,7 @@ pub struct Configuration {
     pub starts_idle: Vec<bool>,
     /// Of queue 1 on.
     pub queues: Vec<QueueSize>,
+    pub pairs: Vec<Pair>,
 }
 
 impl Configuration {
@@ -40,9 +49,12 @@ impl Configuration {
         require(ticks >= 1 && milliseconds >= 1, CONFIGURATION)?;
         let semaphores = usize::from(named) + task_count + 2 * queue_count;
         require(semaphores <= MOST_SEMAPHORES, CONFIGURATION)?;
-        require(rest.len() == task_count + 2 * queue_count, LENGTH)?;
+        let pair_bytes = rest.len().checked_sub(task_count + 2 * queue_count).ok_or(LENGTH)?;
+        require(pair_bytes % 2 == 0 && pair_bytes <= 2 * MOST_PAIRS, LENGTH)?;
 
-        let (states, sizes) = rest.split_at(task_count);
+        let (states, rest) = rest.split_at(task_count);
+        let (sizes, pairs) = rest.split_at(2 * queue_count);
+        let starts_idle = read_states(states)?;
         Ok(Configuration {
             tasks,
             named_semaphores: named,
@@ -50,8 +62,9 @@ impl Configuration {
             messages,
             ticks_per_tock: ticks,
             milliseconds_per_tock: milliseconds,
-            starts_idle: read_states(states)?,
             queues: read_queues(sizes)?,
+            pairs: read_pairs(pairs, &starts_idle)?,
+            starts_idle,
         })
     }
 
@@ -61,6 +74,11 @@ impl Configuration {
 
     pub fn width(&self, queue: u8) -> usize {
         usize::from(self.queues[usize::from(queue) - 1].width)
+    }
+
+    /// Those that must not be idle when the task is started. One may come twice.
+    pub fn firsts(&self, task: u8) -> impl Iterator<Item = u8> + '_ {
+        self.pairs.iter().filter(move |pair| pair.then == task).map(|pair| pair.first)
     }
 
     /// All semaphores, also those of the queues, which no caller may name.
@@ -98,4 +116,14 @@ fn read_queues(bytes: &[u8]) -> Result<Vec<QueueSize>, Number> {
     let bytes: usize = sizes.iter().map(|size| usize::from(size.width) * usize::from(size.depth)).sum();
     require(bytes <= MOST_QUEUE_BYTES, CONFIGURATION)?;
     Ok(sizes)
+}
+
+/// Both are tasks and the first is the lower. No task starts runnable whose first starts idle.
+fn read_pairs(bytes: &[u8], starts_idle: &[bool]) -> Result<Vec<Pair>, Number> {
+    let pairs: Vec<Pair> = bytes.chunks_exact(2).map(|pair| Pair { first: pair[0], then: pair[1] }).collect();
+    let possible = |pair: &Pair| (1..pair.then).contains(&pair.first) && usize::from(pair.then) <= starts_idle.len();
+    require(pairs.iter().all(possible), CONFIGURATION)?;
+    let idle = |task: u8| starts_idle[usize::from(task) - 1];
+    require(pairs.iter().all(|pair| idle(pair.then) || !idle(pair.first)), CONFIGURATION)?;
+    Ok(pairs)
 }

@@ -12,9 +12,7 @@ use std::collections::BTreeMap;
 pub use step::Step;
 
 use crate::executive::Executive;
-use crate::generator::Script;
-
-const LONGEST_DAMAGED_FRAME: usize = 210;
+use crate::generator::{Script, LONGEST};
 
 #[derive(Clone)]
 pub struct Coverage {
@@ -33,7 +31,7 @@ impl Coverage {
     pub fn new() -> Self {
         let names = situations::names().chain(refusals::names()).chain(configurations::names()).chain(lines::names());
         let counts: BTreeMap<String, u64> = names.map(|name| (name, 0)).collect();
-        Coverage { counts, lengths: vec![0; LONGEST_DAMAGED_FRAME + 1] }
+        Coverage { counts, lengths: vec![0; LONGEST + 1] }
     }
 
     /// Every frame of a session.
@@ -68,7 +66,7 @@ impl Coverage {
     pub fn table(&self) -> String {
         let rows = self.counts.iter().map(|(name, count)| format!("{count:>9}  {name}\n"));
         let fewest = self.lengths.iter().min().copied().unwrap_or(0);
-        rows.chain([format!("{fewest:>9}  frames of each length from 0 to {LONGEST_DAMAGED_FRAME}\n")]).collect()
+        rows.chain([format!("{fewest:>9}  frames of each length from 0 to {LONGEST}\n")]).collect()
     }
 
     /// The situations that were not reached.
@@ -81,6 +79,11 @@ impl Coverage {
     /// The situations of frames that were not reached.
     pub fn missing_of_frames(&self) -> Vec<String> {
         situations::names().chain(refusals::names()).filter(|name| self.counts[name] == 0).collect()
+    }
+
+    /// The causes of refused configurations that were not reached.
+    pub fn missing_of_refused(&self) -> Vec<String> {
+        configurations::refused_names().filter(|name| self.counts[name] == 0).collect()
     }
 
     fn count(&mut self, reached: impl IntoIterator<Item = String>) {

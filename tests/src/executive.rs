@@ -9,7 +9,7 @@ use crate::mailboxes::Mailboxes;
 use crate::numbers::{require, Number, SEMAPHORE_WAITING};
 use crate::queues::Queues;
 use crate::semaphore::Semaphore;
-use crate::tasks::Tasks;
+use crate::tasks::{Block, Tasks};
 use crate::timers::Timers;
 use crate::trail::Notes;
 
@@ -114,6 +114,11 @@ impl Executive {
 
     pub(crate) fn not_waiting(&self, semaphore: u8) -> Result<(), Number> {
         require(!self.semaphore(semaphore).is_waiting(), SEMAPHORE_WAITING)
+    }
+
+    /// Idle alone counts: a first that is suspended or waits, and is not idle, does not.
+    pub(crate) fn has_idle_first(&self, task: u8) -> bool {
+        self.configuration.firsts(task).any(|first| self.tasks.get(first).blocks().has(Block::Idle))
     }
 
     /// A dequeue waits only when the queue is empty.

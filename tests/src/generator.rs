@@ -6,6 +6,7 @@ mod configurations;
 mod damage;
 mod fields;
 mod moves;
+mod pairs;
 
 use std::ops::RangeInclusive;
 
@@ -17,6 +18,7 @@ use crate::tasks::Block;
 use moves::Mood;
 
 pub use cascade::cascade;
+pub use damage::LONGEST;
 
 /// A configuration and the frames behind it.
 #[derive(Clone, Debug, PartialEq, Eq)]

@@ -2,7 +2,7 @@
 
 use crate::numbers::{require, Number, LINE, MEMORY};
 
-pub const MOST_DIGITS: usize = 400;
+pub const MOST_DIGITS: usize = 652;
 pub const MOST_BYTES: usize = MOST_DIGITS / 2;
 
 /// The frame that a line stands for.

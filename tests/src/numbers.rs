@@ -20,6 +20,7 @@ pub const MESSAGE_IN_MAILBOX: Number = 22;
 pub const ALL_TIMERS_ACTIVE: Number = 23;
 pub const HAS_A_TIMER: Number = 24;
 pub const IDLE_OR_WAITING: Number = 25;
+pub const BEFORE_FIRST: Number = 26;
 
 /// `Err(number)` unless the condition holds.
 pub fn require(holds: bool, number: Number) -> Result<(), Number> {

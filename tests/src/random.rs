@@ -18,6 +18,11 @@ impl Random {
         mixed ^ (mixed >> 31)
     }
 
+    /// Numbers of their own: those that follow here stay what they were.
+    pub fn aside(&self) -> Self {
+        Random::new(!self.clone().number())
+    }
+
     pub fn byte(&mut self) -> u8 {
         self.number() as u8
     }

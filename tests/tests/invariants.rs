@@ -1,10 +1,12 @@
 //! What holds after every frame of every random session.
 
+use std::cell::Cell;
+
 use plain_executive::answer::Answer;
-use plain_executive::command::SIGNAL;
+use plain_executive::command::{EXECUTE, SIGNAL, TERMINATE};
 use plain_executive::coverage::causes::causes;
 use plain_executive::executive::Executive;
-use plain_executive::generator::{cascade, Generator};
+use plain_executive::generator::{cascade, Generator, Script};
 use plain_executive::items::{OutcomeItem, TaskItem};
 use plain_executive::semaphore::Semaphore;
 use plain_executive::tasks::{Block, Outcome};
@@ -12,7 +14,8 @@ use plain_executive::tasks::{Block, Outcome};
 const SESSIONS: u64 = 600;
 const FRAMES: usize = 200;
 
-struct Step {
+struct Step<'a> {
+    configuration: &'a [u8],
     before: Executive,
     frame: Vec<u8>,
     answer: Answer,
@@ -22,13 +25,13 @@ struct Step {
 /// Every frame of every session.
 fn each_step(holds: impl Fn(&Step)) {
     let random = (0..SESSIONS).map(|seed| Generator::new(seed).script(tasks(seed), FRAMES));
-    for script in random.chain([cascade()]) {
-        let mut before = Executive::configure(&script.configuration).expect("an accepted configuration");
+    for Script { configuration, frames } in random.chain([cascade()]) {
+        let mut before = Executive::configure(&configuration).expect("an accepted configuration");
         before.keep_history();
-        for frame in script.frames {
+        for frame in frames {
             let mut after = before.clone();
             let answer = after.frame(&frame);
-            let step = Step { before, frame, answer, after };
+            let step = Step { configuration: &configuration, before, frame, answer, after };
             holds(&step);
             before = step.after;
         }
@@ -159,6 +162,56 @@ fn only_the_caller_of_a_signal_is_told() {
             let asked = step.frame.first() == Some(&SIGNAL) && task == step.before.running();
             let (was, is) = (told(&step.before, task), told(&step.after, task));
             assert!(asked || is.is_none() || is == was, "task {task}: {was:?}, {is:?}, {:02X?}", step.frame);
+        }
+    });
+}
+
+/// By the bytes of the configuration and the blocks before the frame alone. And refused with 26 is nothing else.
+#[test]
+fn no_task_is_started_while_a_first_is_idle() {
+    each_step(|step| {
+        let idle = |task: u8| step.before.tasks().get(task).blocks().has(Block::Idle);
+        let named = |then: u8| step.frame.first() == Some(&EXECUTE) && step.frame.get(1) == Some(&then);
+        let mut pairs = pairs_of(step.configuration);
+        let before_first = pairs.any(|(first, then)| named(then) && idle(first));
+        let number = step.answer.refusal();
+        assert!(number != 0 || !before_first, "{:02X?}", step.frame);
+        assert!(number != 26 || before_first, "{:02X?}", step.frame);
+    });
+}
+
+/// The bytes behind the queues, two by two.
+fn pairs_of(configuration: &[u8]) -> impl Iterator<Item = (u8, u8)> + '_ {
+    let behind = 8 + usize::from(configuration[0]) + 2 * usize::from(configuration[2]);
+    configuration[behind..].chunks(2).map(|pair| (pair[0], pair[1]))
+}
+
+/// After any frame they are what the configuration's bytes say.
+#[test]
+fn the_pairs_never_change() {
+    let some = Cell::new(0);
+    each_step(|step| {
+        let pairs = &step.after.configuration().pairs;
+        assert!(pairs.iter().map(|pair| (pair.first, pair.then)).eq(pairs_of(step.configuration)));
+        some.set(some.get() + usize::from(!pairs.is_empty()));
+    });
+    assert!(some.get() > 20_000, "{} frames behind a configuration with pairs", some.get());
+}
+
+/// Nothing of a task but the terminated one is taken away, whatever the pairs say: the others' blocks and outcomes stay, but for
+/// those whom settling reaches.
+#[test]
+fn terminating_a_first_leaves_the_others_running() {
+    each_step(|step| {
+        if step.answer.refusal() != 0 || step.frame[0] != TERMINATE {
+            return;
+        }
+        let (before, after) = (step.before.items(), step.after.items());
+        let ended = if step.frame[1] == 0 { step.before.running() } else { step.frame[1] };
+        for (task, (old, new)) in (1..).zip(before.tasks.iter().zip(&after.tasks)) {
+            let reached = step.answer.reissues() > 0 || task == step.before.running();
+            assert!(task == ended || reached || old == new, "task {task}, {:02X?}", step.frame);
+            assert!(task == ended || !new.blocks.has(Block::Idle) || old.blocks.has(Block::Idle), "task {task}");
         }
     });
 }

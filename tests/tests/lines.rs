@@ -16,7 +16,7 @@ fn digits(frame: &[u8]) -> Vec<u8> {
 #[test]
 fn reading_undoes_writing() {
     let mut random = Random::new(1);
-    for length in 0..=200 {
+    for length in 0..=326 {
         let frame = random.bytes(length);
         let line = write(&frame).expect("a frame that fits");
         assert_eq!(line, digits(&frame));
@@ -26,10 +26,11 @@ fn reading_undoes_writing() {
 
 #[test]
 fn limits_of_lines_and_frames() {
-    assert_eq!(write(&[0; 201]), Err(LINE));
-    assert_eq!(read(&[b'0'; 400]), Ok(vec![0; 200]));
-    assert_eq!(read(&[b'0'; 401]), Err(LINE));
-    assert_eq!(read(&[b'0'; 402]), Err(LINE));
+    assert_eq!(write(&[0; 327]), Err(LINE));
+    assert_eq!(read(&[b'0'; 652]), Ok(vec![0; 326]));
+    assert_eq!(read(&[b'0'; 653]), Err(LINE));
+    assert_eq!(read(&[b'0'; 654]), Err(LINE));
+    assert_eq!(write(&[0; 326]), Ok(vec![b'0'; 652]));
     assert_eq!(read(b"012"), Err(LINE));
     assert_eq!(read(b""), Ok(vec![]));
 }
@@ -49,7 +50,7 @@ fn short_buffers_give_11_after_1_and_stay_as_they_were() {
     assert_eq!(read_into(b"010203G4", &mut buffer), Err(LINE));
     assert_eq!(read_into(b"01020304", &mut buffer), Err(MEMORY));
     assert_eq!(write_into(&[1, 2], &mut buffer), Err(MEMORY));
-    assert_eq!(write_into(&[1; 201], &mut buffer), Err(LINE));
+    assert_eq!(write_into(&[1; 327], &mut buffer), Err(LINE));
     assert_eq!(buffer, [7; 3]);
     assert_eq!(read_into(b"0102", &mut buffer), Ok(2));
     assert_eq!(buffer, [1, 2, 7]);
@@ -77,11 +78,25 @@ fn a_refused_configuration_ends_the_session() {
 
 #[test]
 fn a_malformed_line_later_is_answered_1_and_the_session_goes_on() {
-    let long = "0".repeat(402);
+    let long = "0".repeat(654);
     for line in ["070100000", "070100000a", "07 1000000", "0701000000\r", long.as_str()] {
         let input = format!("{CONFIGURATION}\n{line}\n0701000000\n");
         assert_eq!(run(input.as_bytes()), b"00010001\n01010001\n00020001\n", "{line:?}");
     }
+}
+
+/// The longest configuration of all, with 64 pairs, is a line; so is a frame of 326 bytes, which is refused with 2.
+#[test]
+fn the_longest_lines_are_read_by_a_session() {
+    let mut configuration = vec![126, 65, 32, 64, 64, 1, 0, 125];
+    configuration.extend([0; 126]);
+    configuration.extend([1, 1].repeat(32));
+    configuration.extend([1, 126].repeat(64));
+    let first = String::from_utf8(digits(&configuration)).expect("digits");
+    assert_eq!(first.len(), 652);
+    let input = format!("{first}\n{}\n{}\n", "01".repeat(326), "01".repeat(327));
+    assert_eq!(run(input.as_bytes()), b"00010001\n02010001\n01010001\n");
+    assert_eq!(run(format!("{first}00\n").as_bytes()), b"01000000\n");
 }
 
 #[test]
@@ -90,7 +105,7 @@ fn a_session_prints_the_answers_to_its_frames() {
         let script = Generator::new(seed).script(1..=12, 100);
         let mut executive = Executive::configure(&script.configuration).expect("an accepted configuration");
         let mut expected = [digits(executive.answer(0, 0).bytes()), vec![b'\n']].concat();
-        for frame in script.frames.iter().filter(|frame| frame.len() <= 200) {
+        for frame in script.frames.iter().filter(|frame| frame.len() <= 326) {
             expected.extend(digits(executive.frame(frame).bytes()));
             expected.push(b'\n');
         }

@@ -85,6 +85,7 @@ struct Numbers {
     queues: usize,
     timers: usize,
     messages: usize,
+    pairs: usize,
     queue_bytes: usize,
 }
 
@@ -97,6 +98,7 @@ impl Numbers {
             queues: configuration.queues.len(),
             timers: configuration.timers.into(),
             messages: configuration.messages.into(),
+            pairs: configuration.pairs.len(),
             queue_bytes: configuration.queues.iter().map(bytes).sum(),
         }
     }
@@ -109,6 +111,7 @@ impl Numbers {
             "Q" => self.queues,
             "R" => self.timers,
             "G" => self.messages,
+            "P" => self.pairs,
             "W" => self.queue_bytes,
             _ => panic!("MEMORY.md: no number {name}"),
         }
@@ -117,11 +120,12 @@ impl Numbers {
 
 // ---- configurations
 
-/// T 126, S 65, Q 32, R 64, G 64, and 32 queues of 128 bytes.
+/// T 126, S 65, Q 32, R 64, G 64, 32 queues of 128 bytes, and 64 pairs.
 fn largest_frame() -> Vec<u8> {
     let mut frame = vec![126, 65, 32, 64, 64, 255, 255, 255];
     frame.extend([0; 126]);
     frame.extend([16, 8].repeat(32));
+    frame.extend([1, 126].repeat(64));
     frame
 }
 
@@ -129,7 +133,8 @@ fn some_configurations() -> Vec<Configuration> {
     let session = line::read(b"020101010101007D00000101").unwrap();
     let plain = line::read(b"010000000001000100").unwrap();
     let queues = line::read(b"030502020901000A000100030410FF").unwrap();
-    [session, plain, queues, largest_frame()]
+    let pairs = line::read(b"03000100000100010000000201010302030103").unwrap();
+    [session, plain, queues, pairs, largest_frame()]
         .iter()
         .map(|frame| Configuration::read(frame).expect("accepted"))
         .collect()
@@ -157,6 +162,7 @@ fn no_accepted_configuration_needs_more() {
                 queues,
                 timers: 64,
                 messages: 64,
+                pairs: 64,
                 queue_bytes: (queues * 16 * 255).min(4096),
             };
             for (block, bytes, needed) in sizes() {

@@ -31,7 +31,7 @@ fn of_answers(place: usize) -> BTreeSet<u8> {
 
 #[test]
 fn every_number_that_a_session_can_meet() {
-    let numbers = (0..=11).chain(20..=25).filter(|number| ![MILLISECONDS, MEMORY].contains(number));
+    let numbers = (0..=11).chain(20..=26).filter(|number| ![MILLISECONDS, MEMORY].contains(number));
     assert_eq!(of_answers(0), numbers.collect());
 }
 

@@ -10,8 +10,12 @@ use plain_executive::random::Random;
 use plain_executive::semaphore::Semaphore;
 use plain_executive::tasks::Block;
 
-use crate::lent::{ends, parts, timer_row, Lent, Regions, COUNT, FRAME, MARKS, PART, PLANE, PLANES, SIZES, TICKS};
-use crate::rules::{self, Rule};
+use crate::decided::decided;
+use crate::lent::{
+    ends, kept_length, pairs_at, parts, timer_row, Lent, Regions, COUNT, FRAME, MARKS, PART, PLANE, PLANES, SIZES,
+    TICKS,
+};
+use crate::rules::{self, Rule, LONGEST};
 use crate::strange::strange;
 
 type Frame = Vec<u8>;
@@ -30,6 +34,8 @@ pub struct Counts {
     pub strange: BTreeMap<&'static str, u64>,
     /// Accepted signals of a semaphore that is WAITING with a task without event wait: that task is told.
     pub told_without_wait: u64,
+    /// Executes that a pair decides which no configuration has: refused with 26 by it, or accepted in spite of it.
+    pub decided: BTreeMap<&'static str, u64>,
 }
 
 /// Feeds frames to damaged memory by a given call, and watches each.
@@ -73,6 +79,7 @@ impl<Call: FnMut(&mut Lent, &[u8]) -> Number> Watch<Call> {
         let before = memory.clone();
         let found = strange(&before, other.configuration());
         let without_wait = signals_without_wait(other, frame);
+        let decided = decided(memory, other, frame);
         let answer = other.frame(frame);
         let number = self.frame(memory, frame);
         assert_eq!(number, answer.refusal(), "the number; {}", told());
@@ -82,6 +89,10 @@ impl<Call: FnMut(&mut Lent, &[u8]) -> Number> Watch<Call> {
         for ((after, before), part) in memory.blocks().iter().zip(before.blocks()).zip(parts(other.configuration())) {
             assert_eq!(after[..part.start], before[..part.start], "before a part; {}", told());
             assert_eq!(after[part.end..], before[part.end..], "behind a part; {}", told());
+        }
+        if let Some((name, expected)) = decided {
+            assert_eq!(number, expected, "{name}; {}", told());
+            *self.counts.decided.entry(name).or_default() += 1;
         }
         if number != 0 {
             *self.counts.refused.entry(number).or_default() += 1;
@@ -115,10 +126,10 @@ fn signals_without_wait(executive: &Executive, frame: &[u8]) -> bool {
     }
 }
 
-/// Damages memory that frames left: a bit, some bytes, a field, all messages, a whole block, a length, a mark. `another` is
-/// another session's.
+/// Damages memory that frames left: a bit, some bytes, a field, all messages, a whole block, a length, a mark, the pairs. `another`
+/// is another session's.
 pub fn damage(random: &mut Random, memory: &mut Lent, configuration: &Configuration, another: &Lent) {
-    match random.below(23) {
+    match random.below(26) {
         0..=3 => bit(random, memory, configuration),
         4..=6 => bytes(random, memory, configuration),
         7..=15 => {
@@ -131,8 +142,29 @@ pub fn damage(random: &mut Random, memory: &mut Lent, configuration: &Configurat
         18 => tables_alone(random, memory),
         19 | 20 => nearly_full(random, memory, configuration),
         21 => mark(random, memory),
-        _ => exchanged(random, memory, another),
+        22 => exchanged(random, memory, another),
+        _ => pairs(random, memory, configuration),
     }
+}
+
+/// A byte of a pair; or the kept length; or both, with pairs of any tasks and of none up to that length.
+fn pairs(random: &mut Random, memory: &mut Lent, configuration: &Configuration) {
+    let Configuration { tasks, .. } = *configuration;
+    let (from, kept) = (pairs_at(configuration), kept_length(&memory.config));
+    let least = from - FRAME;
+    let any = least + random.below(LONGEST + 1 - least);
+    let length = match random.below(4) {
+        0 if !configuration.pairs.is_empty() => {
+            memory.config[from + random.below(2 * configuration.pairs.len())] = a_value(random, configuration);
+            return;
+        }
+        1 => random.pick(&[least - 1, least, kept - 1, kept + 1, LONGEST, LONGEST + 1, LONGEST + 4]),
+        _ => {
+            memory.config[from..FRAME + any].iter_mut().for_each(|byte| *byte = random.between(0, tasks + 1));
+            any
+        }
+    };
+    memory.config[PART..FRAME].copy_from_slice(&(length as u16).to_be_bytes());
 }
 
 fn bit(random: &mut Random, memory: &mut Lent, configuration: &Configuration) {
@@ -295,6 +327,10 @@ pub fn frames(random: &mut Random, memory: &Lent, next: &[Frame]) -> Vec<Frame> 
 }
 
 fn service(random: &mut Random, configuration: &Configuration) -> Frame {
+    let pair = random.pick_if(&configuration.pairs).filter(|_| random.percent(40));
+    if let Some(pair) = pair {
+        return vec![EXECUTE, pair.then, 0, 0, 0];
+    }
     let code = random.between(WAIT, INTERRUPT_EXIT);
     let queue = random.between(1, configuration.queue_count().max(1));
     let a = if matches!(code, DEQUEUE | ENQUEUE) { queue } else { random.between(0, configuration.tasks) };

@@ -110,7 +110,7 @@ impl Default for Fences {
 
 impl Fences {
     pub fn new() -> Self {
-        Fences { blocks: lent::SIZES.map(|size| Fence::new(size + 64)), frame: Fence::new(256) }
+        Fences { blocks: lent::SIZES.map(|size| Fence::new(size + 64)), frame: Fence::new(512) }
     }
 
     pub fn configure(&mut self, lent: &mut Lent, frame: &[u8], side: Side) -> Number {

@@ -39,7 +39,7 @@ pub type Exported = unsafe extern "C" fn(
 ) -> u8;
 
 /// The least sizes of the five blocks.
-pub const SIZES: [usize; 5] = [208, 7517, 2024, 659, 21];
+pub const SIZES: [usize; 5] = [336, 7517, 2024, 659, 21];
 
 /// The marks at both ends of the first four.
 pub const MARKS: [[u8; 4]; 4] = [*b"MCXC", *b"MCXT", *b"MCXS", *b"MCXR"];
@@ -137,6 +137,11 @@ impl Lent {
         kept_frame(&self.config)
     }
 
+    /// What the config block keeps behind the queues: the pairs, two by two.
+    pub fn pair_bytes(&self, configuration: &Configuration) -> &[u8] {
+        &self.kept_frame()[pairs_at(configuration) - FRAME..]
+    }
+
     /// Four bytes of a row of the timers' block, low byte first. Row 0 is the clock: at 2 the time, at 6 the floor.
     pub fn of_timers(&self, row: usize, place: usize) -> u32 {
         let from = timer_row(row) + place;
@@ -151,9 +156,19 @@ impl Lent {
 
 /// The frame in such a block, as far as the block has it.
 pub fn kept_frame(config: &[u8]) -> &[u8] {
-    let [high, low] = [PART, PART + 1].map(|place| config.get(place).copied().unwrap_or(0));
     let behind = config.get(FRAME..).unwrap_or(&[]);
-    &behind[..behind.len().min(u16::from_be_bytes([high, low]).into())]
+    &behind[..behind.len().min(kept_length(config))]
+}
+
+/// Where the pairs lie in it, behind the queues.
+pub fn pairs_at(configuration: &Configuration) -> usize {
+    FRAME + 8 + usize::from(configuration.tasks) + 2 * configuration.queues.len()
+}
+
+/// The length that such a block keeps.
+pub fn kept_length(config: &[u8]) -> usize {
+    let [high, low] = [PART, PART + 1].map(|place| config.get(place).copied().unwrap_or(0));
+    u16::from_be_bytes([high, low]).into()
 }
 
 /// Where a row of the timers lies.
@@ -173,11 +188,10 @@ pub fn ends(size: usize) -> [Range<usize>; 2] {
 
 /// The bytes of each block that a configuration needs, behind the first mark. All of the answer is one part.
 pub fn parts(configuration: &Configuration) -> [Range<usize>; 5] {
-    let (tasks, queues) = (usize::from(configuration.tasks), configuration.queues.len());
     let ends = [
-        FRAME + 8 + tasks + 2 * queues,
+        pairs_at(configuration) + 2 * configuration.pairs.len(),
         Regions::of(configuration).end,
-        slot(tasks),
+        slot(configuration.tasks.into()),
         timer_row(1 + usize::from(configuration.timers)),
     ];
     let [config, tables, slots, timers] = ends.map(|end| PART..end);

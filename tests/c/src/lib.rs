@@ -3,6 +3,7 @@
 
 pub mod compare;
 pub mod damage;
+pub mod decided;
 pub mod fence;
 pub mod lent;
 pub mod rules;

@@ -1,8 +1,11 @@
 //! The rules of number 11, from docs/MEMORY.md.
 
-use plain_executive::configuration::{Configuration, QueueSize};
+use plain_executive::configuration::{Configuration, Pair, QueueSize};
 
-use crate::lent::{ends, kept_frame, Lent, Regions, COUNT, MARKS, SIZES};
+use crate::lent::{ends, kept_frame, kept_length, Lent, Regions, COUNT, MARKS, SIZES};
+
+/// The longest frame that is kept.
+pub const LONGEST: usize = 326;
 
 #[derive(Clone, Copy, Debug, PartialEq, Eq, PartialOrd, Ord)]
 pub enum Rule {
@@ -32,7 +35,8 @@ fn has_marks(lent: &Lent) -> bool {
     marked.all(|((block, size), mark)| ends(size).into_iter().all(|end| block[end] == mark))
 }
 
-/// What the frame in the block says, if it keeps its rule. The initial states are not read.
+/// What the frame in the block says, if it keeps its rule. The initial states are not read. Behind the queues every two bytes are a
+/// pair; one whose first is no task refuses nothing, and is left out.
 pub fn configuration(config: &[u8]) -> Option<Configuration> {
     let frame = kept_frame(config);
     let [tasks, named, queues, timers, messages, ticks, high, low] = *frame.first_chunk()?;
@@ -45,10 +49,11 @@ pub fn configuration(config: &[u8]) -> Option<Configuration> {
         && ticks >= 1
         && milliseconds >= 1
         && semaphores <= 255;
-    if !good || frame.len() != 8 + usize::from(tasks) + 2 * usize::from(queues) {
+    if !good || kept_length(config) > LONGEST {
         return None;
     }
-    let sizes = &frame[8 + usize::from(tasks)..];
+    let (_, behind) = frame.split_at_checked(8 + usize::from(tasks))?;
+    let (sizes, pairs) = behind.split_at_checked(2 * usize::from(queues))?;
     let sizes: Vec<QueueSize> = sizes.chunks(2).map(|size| QueueSize { width: size[0], depth: size[1] }).collect();
     let possible = |size: &QueueSize| (1..=16).contains(&size.width) && size.depth >= 1;
     let bytes: u32 = sizes.iter().map(|size| u32::from(size.width) * u32::from(size.depth)).sum();
@@ -61,7 +66,13 @@ pub fn configuration(config: &[u8]) -> Option<Configuration> {
         milliseconds_per_tock: milliseconds,
         starts_idle: vec![false; tasks.into()],
         queues: sizes,
+        pairs: means_something(pairs, tasks).collect(),
     })
+}
+
+fn means_something(bytes: &[u8], tasks: u8) -> impl Iterator<Item = Pair> + '_ {
+    let pairs = bytes.chunks_exact(2).map(|pair| Pair { first: pair[0], then: pair[1] });
+    pairs.filter(move |pair| (1..=tasks).contains(&pair.first))
 }
 
 /// Where G messages lie, each has a number 1 to G, and no number occurs twice.

@@ -4,7 +4,7 @@
 use std::ops::RangeInclusive;
 use std::slice::ChunksExact;
 
-use plain_executive::configuration::{Configuration, QueueSize};
+use plain_executive::configuration::{Configuration, QueueSize, MOST_PAIRS};
 use plain_executive::items::{Items, RequestItem};
 use plain_executive::semaphore::Semaphore;
 use plain_executive::tasks::Block;
@@ -13,7 +13,7 @@ use crate::lent::{Lent, Regions, COUNT, PART, PLANE, PLANES, TICKS};
 
 type Situation = (&'static str, fn(&Seen) -> bool);
 
-pub const STRANGE: [Situation; 28] = [
+pub const STRANGE: [Situation; 33] = [
     ("ticks left: 0", |seen| seen.lent.tables[TICKS] == 0),
     ("ticks left: above K", |seen| seen.lent.tables[TICKS] > seen.configuration.ticks_per_tock),
     ("messages: above G", |seen| seen.lent.tables[COUNT] > seen.configuration.messages),
@@ -65,6 +65,13 @@ pub const STRANGE: [Situation; 28] = [
         let named = usize::from(seen.configuration.nameable_semaphores());
         seen.items.semaphores[named..].contains(&Semaphore::Done)
     }),
+    ("pairs: a byte behind the last", |seen| !seen.pairs().remainder().is_empty()),
+    ("pairs: above 64", |seen| seen.pairs().len() > MOST_PAIRS),
+    ("pair: a first that there is not", |seen| seen.pairs().any(|pair| !seen.is_task(pair[0]))),
+    ("pair: a then that there is not", |seen| seen.pairs().any(|pair| !seen.is_task(pair[1]))),
+    ("pair: a first that is not the lower", |seen| {
+        seen.pairs().any(|pair| pair[0] >= pair[1] && seen.is_task(pair[0]) && seen.is_task(pair[1]))
+    }),
     ("running task: an open request", |seen| {
         let running = seen.items.tasks.iter().find(|task| task.blocks.is_empty());
         running.is_some_and(|task| task.request != RequestItem::None)
@@ -85,6 +92,10 @@ pub struct Seen<'a> {
 }
 
 impl Seen<'_> {
+    fn pairs(&self) -> ChunksExact<'_, u8> {
+        self.lent.pair_bytes(self.configuration).chunks_exact(2)
+    }
+
     fn records(&self) -> ChunksExact<'_, u8> {
         self.lent.tables[self.regions.records..self.regions.semaphores].chunks_exact(6)
     }

@@ -6,7 +6,7 @@ use std::process::Command;
 
 use c::damage::{damage, frames, Counts, Watch};
 use c::fence::{now, Fences, Side};
-use c::lent::{parts, Blocks, Lent, PART, SIZES};
+use c::lent::{parts, Blocks, Lent, FRAME, PART, SIZES};
 use c::rules::{self, Rule};
 use c::strange::STRANGE;
 use plain_executive::executive::Executive;
@@ -81,10 +81,10 @@ fn any_damage() {
 
 /// Each rule was broken, each service accepted, each number given, and each strange memory met by an accepted frame.
 fn all_met(counts: &Counts) {
-    let Counts { broken, filled, accepted, refused, strange, reissues, told_without_wait, .. } = counts;
+    let Counts { broken, filled, accepted, refused, strange, reissues, told_without_wait, decided, .. } = counts;
     let all = format!(
         "{broken:?}, {filled} by frames, accepted {accepted:?}, refused {refused:?}, {reissues} reissues, \
-         {told_without_wait} told without wait, {strange:#?}"
+         {told_without_wait} told without wait, {decided:?}, {strange:#?}"
     );
     println!("{} calls: {all}", counts.calls);
     for rule in [Rule::Sizes, Rule::Marks, Rule::Configuration, Rule::Messages] {
@@ -93,7 +93,7 @@ fn all_met(counts: &Counts) {
     for code in 0x01..=0x11 {
         assert!(accepted.get(&code) > Some(&200), "code {code:02X}: {all}");
     }
-    for number in [2, 4, 5, 6, 7, 8, 9, 20, 21, 22, 23, 24, 25] {
+    for number in [2, 4, 5, 6, 7, 8, 9, 20, 21, 22, 23, 24, 25, 26] {
         assert!(refused.get(&number) > Some(&50), "number {number}: {all}");
     }
     for (name, _) in STRANGE {
@@ -102,6 +102,7 @@ fn all_met(counts: &Counts) {
     assert!(*reissues > 1000, "{all}");
     assert!(*filled > 20, "{all}");
     assert!(*told_without_wait > 20, "{all}");
+    assert!(decided.len() == 5 && decided.values().all(|count| *count > 10), "{all}");
 }
 
 /// A memory that needs few bytes: each of them, and each of the marks in front, with each value.
@@ -133,7 +134,7 @@ fn every_value_of_every_byte_of_a_small_memory() {
     assert!(watch.counts.calls > 100_000, "{} calls", watch.counts.calls);
 }
 
-/// T 126, S 65, Q 32, R 64 and G 64 need every byte: each bit of each.
+/// T 126, S 65, Q 32, R 64, G 64 and 64 pairs need every byte: each bit of each.
 #[test]
 fn every_bit_of_the_largest_memory() {
     let mut random = Random::new(23);
@@ -141,6 +142,7 @@ fn every_bit_of_the_largest_memory() {
     let mut configuration = vec![126, 65, 32, 64, 64, 2, 0, 125];
     configuration.extend([0; 126]);
     configuration.extend([16, 8].repeat(32));
+    configuration.extend((1..=64).flat_map(|first| [first, first + 62]));
     let script = Generator::new(23).script_of(configuration, 400);
     let memory = after(&script, 300, &mut random);
     for (block, size) in SIZES.into_iter().enumerate() {
@@ -154,6 +156,70 @@ fn every_bit_of_the_largest_memory() {
     }
     println!("{} calls: {:?}", watch.counts.calls, watch.counts.broken);
     assert_eq!(watch.counts.calls, 8 * SIZES.iter().sum::<usize>() as u64);
+}
+
+/// Four tasks, the second idle, the fourth idle behind it; task 1 runs.
+fn with_pairs(pairs: &[u8], random: &mut Random) -> Lent {
+    let configuration = [&[4, 0, 0, 0, 0, 1, 0, 1], &[0, 1, 0, 1][..], pairs].concat();
+    after(&Script { configuration, frames: Vec::new() }, 0, random)
+}
+
+/// One execute of each task, each on the memory as it is given. How often 26 was met.
+fn execute_each(watch: &mut Watch<impl FnMut(&mut Lent, &[u8]) -> Number>, memory: &Lent) -> u64 {
+    let met = |watch: &Counts| watch.refused.get(&26).copied().unwrap_or(0);
+    let before = met(&watch.counts);
+    for task in 1..=4 {
+        let frame = vec![0x0C, task, 0, 0, 0];
+        watch.feed(memory.clone(), &[frame], &|| format!("execute {task}, config {:02X?}", memory.config));
+    }
+    met(&watch.counts) - before
+}
+
+#[test]
+fn every_value_of_every_byte_of_the_pairs() {
+    let mut random = Random::new(26);
+    let mut watch = fenced();
+    let pairs = [1, 3, 2, 4, 1, 4];
+    let memory = with_pairs(&pairs, &mut random);
+    assert_eq!(execute_each(&mut watch, &memory), 1, "task 4 behind task 2");
+    let mut met = [0; 3];
+    for (place, value) in (0..pairs.len()).flat_map(|place| (0..=u8::MAX).map(move |value| (place, value))) {
+        let mut damaged = memory.clone();
+        damaged.config[memory.kept_frame().len() + FRAME - pairs.len() + place] = value;
+        now([place as u64, value.into(), 0]);
+        met[execute_each(&mut watch, &damaged) as usize] += 1;
+    }
+    println!("no 26, one, two: {met:?}");
+    assert!(watch.counts.broken.is_empty(), "{:?}", watch.counts.broken);
+    assert!(met.iter().all(|count| *count > 0), "{met:?}");
+}
+
+/// Every length that a frame may have is kept without 11, odd ones too, and with more than 64 pairs: what lies there is read two by
+/// two, and one pair in it refuses if it is read whole.
+#[test]
+fn every_kept_length() {
+    const LENGTHS: std::ops::RangeInclusive<usize> = 12..=326;
+    let mut random = Random::new(27);
+    let mut watch = fenced();
+    let mut memory = with_pairs(&[], &mut random);
+    let mut met = 0;
+    let places =
+        |length: usize| (12_usize..326).step_by(2).filter(move |place| place % 24 == 12 || place.abs_diff(length) < 6);
+    for (length, place) in (0..=400).flat_map(|length| places(length).map(move |place| (length, place))) {
+        memory.config[PART..FRAME].copy_from_slice(&(length as u16).to_be_bytes());
+        for pair in memory.config[FRAME + 12..FRAME + 326].chunks_exact_mut(2) {
+            pair.copy_from_slice(&[random.pick(&[0, 1, 3, 5, 255]), random.between(0, 5)]);
+        }
+        memory.config[FRAME + place..][..2].copy_from_slice(&[2, 4]);
+        now([length as u64, place as u64, 0]);
+        let whole = LENGTHS.contains(&length) && place + 2 <= length;
+        assert_eq!(execute_each(&mut watch, &memory), u64::from(whole), "length {length}, the pair at {place}");
+        met += u64::from(whole);
+    }
+    assert!(met > 2000, "{met}");
+    let refused: usize =
+        (0..=400).filter(|length| !LENGTHS.contains(length)).map(|length| 4 * places(length).count()).sum();
+    assert_eq!(watch.counts.broken, [(Rule::Configuration, refused as u64)].into());
 }
 
 /// Every length of every block, from none to some bytes more than its size, for frames and for configurations.

@@ -58,9 +58,9 @@ fn line_of(frame: &[u8]) -> Vec<u8> {
 #[test]
 fn every_length_of_a_frame() {
     let mut random = Random::new(1);
-    for length in 0..=210 {
+    for length in 0..=MOST_BYTES + 10 {
         let frame = random.bytes(length);
-        let result = writes(&frame, 420);
+        let result = writes(&frame, MOST_DIGITS + 20);
         assert_eq!(result, if length <= MOST_BYTES { Ok(2 * length) } else { Err(LINE) });
     }
 }
@@ -68,9 +68,9 @@ fn every_length_of_a_frame() {
 #[test]
 fn every_length_of_a_line() {
     let mut random = Random::new(2);
-    for length in 0..=420 {
+    for length in 0..=MOST_DIGITS + 20 {
         let line: Vec<u8> = (0..length).map(|_| random.pick(b"0123456789ABCDEF")).collect();
-        let result = reads(&line, 210);
+        let result = reads(&line, MOST_BYTES + 10);
         let good = length <= MOST_DIGITS && length % 2 == 0;
         assert_eq!(result, if good { Ok(length / 2) } else { Err(LINE) });
     }
@@ -88,6 +88,14 @@ fn every_byte_at_every_place_of_a_frame() {
             }
         }
     }
+}
+
+/// The paper's own figures.
+#[test]
+fn the_longest_line_and_frame() {
+    assert_eq!((MOST_DIGITS, MOST_BYTES), (652, 326));
+    assert_eq!((reads(&[b'7'; 652], 326), reads(&[b'7'; 654], 327)), (Ok(326), Err(LINE)));
+    assert_eq!((writes(&[7; 326], 652), writes(&[7; 327], 654)), (Ok(652), Err(LINE)));
 }
 
 #[test]
@@ -137,7 +145,7 @@ fn several_damaged_digits_and_any_bytes() {
 #[test]
 fn every_room_around_the_need() {
     let mut random = Random::new(6);
-    for length in [0, 1, 2, 5, 8, 31, 100, 199, MOST_BYTES] {
+    for length in [0, 1, 2, 5, 8, 31, 100, 200, 201, 325, MOST_BYTES] {
         let frame = random.bytes(length);
         let line = line_of(&frame);
         for room in 0..=2 * length + 4 {
@@ -150,10 +158,10 @@ fn every_room_around_the_need() {
 #[test]
 fn a_wrong_line_or_frame_comes_before_a_short_buffer() {
     for room in 0..=5 {
-        for line in [&b"0"[..], b"01020304050", b"0102030405g0", b"0a0203040506", &[b'0'; 401], &[b'0'; 402]] {
+        for line in [&b"0"[..], b"01020304050", b"0102030405g0", b"0a0203040506", &[b'0'; 653], &[b'0'; 654]] {
             assert_eq!(reads(line, room), Err(LINE));
         }
-        for length in [201, 202, 400, 1000] {
+        for length in [327, 328, 652, 1000] {
             assert_eq!(writes(&vec![7; length], room), Err(LINE));
         }
     }

@@ -3,7 +3,7 @@
 
 use std::ops::Range;
 
-use c::lent::{ends, kept_frame, parts, Lent, FRAME, MARKS, PART, SIZES};
+use c::lent::{ends, kept_frame, pairs_at, parts, Lent, FRAME, MARKS, PART, SIZES};
 use c::rules::{self, Rule};
 use plain_executive::configuration::Configuration;
 use plain_executive::executive::Executive;
@@ -126,13 +126,14 @@ fn every_byte_of_every_mark() {
     }
 }
 
-/// Each length but the frame's own.
+/// Each length but those from the frame's own without pairs to the longest's.
 #[test]
 fn every_length_of_the_frame() {
     let mut random = Random::new(56);
     for (script, more) in scripts(6, 40).zip([0, 400, 0, 7, 0, 64]) {
         let mut memory = after(&script, SIZES.map(|size| size + more), &mut random);
-        for length in (0..=u16::MAX).filter(|length| usize::from(*length) != script.configuration.len()) {
+        let least = pairs_at(&Configuration::read(&script.configuration).expect("accepted")) - FRAME;
+        for length in (0..=u16::MAX).filter(|length| !(least..=326).contains(&usize::from(*length))) {
             memory.config[PART..FRAME].copy_from_slice(&length.to_be_bytes());
             assert_eq!(rules::broken(&memory), Some(Rule::Configuration), "{length}");
             let before = memory.clone();

@@ -128,10 +128,21 @@ fn where_lines_end() {
 
 #[test]
 fn lines_of_every_length_around_the_longest_and_very_long_ones() {
-    for digits in (0..12).chain(395..410).chain([8100, 8191, 8192, 8193, 16384, 65536, 3_000_000]) {
+    for digits in (0..12).chain(395..410).chain(645..660).chain([8100, 8191, 8192, 8193, 16384, 65536, 3_000_000]) {
         let long = [b"0".repeat(digits), b"\n0701000000\n080100000041".to_vec()].concat();
         same(&configured(&long), &format!("a line of {digits} digits"));
         same(&long, &format!("a configuration of {digits} digits"));
+    }
+}
+
+/// The longest configuration of all, with 64 pairs, and one byte or one pair more.
+#[test]
+fn the_longest_configuration() {
+    let longest = [b"7E4120404001007D".to_vec(), b"00".repeat(126), b"1001".repeat(32), b"017E".repeat(64)].concat();
+    assert_eq!(longest.len(), 652);
+    for more in ["", "01", "017E"] {
+        let input = [longest.clone(), more.into(), b"\n0C7E000000\n0B00000000\n0C7E000000\n".to_vec()].concat();
+        same(&input, &format!("64 pairs and {more:?}"));
     }
 }
 
@@ -139,9 +150,9 @@ fn lines_of_every_length_around_the_longest_and_very_long_ones() {
 fn blocks_of_every_kind() {
     let script = Generator::new(77).script(5..=5, 300);
     let long = configured(
-        &[b"0".repeat(1203), b"\n0701000000\n".to_vec(), b"0".repeat(400), b"\n080100000041".to_vec()].concat(),
+        &[b"0".repeat(1957), b"\n0701000000\n".to_vec(), b"0".repeat(652), b"\n080100000041".to_vec()].concat(),
     );
-    for block in [1, 2, 3, 7, 64, 400, 401, 402, 8192] {
+    for block in [1, 2, 3, 7, 64, 400, 652, 653, 654, 8192] {
         for input in [&script.lines(), &long] {
             compare(input, &printed_in(input, block), &format!("blocks of {block} bytes"));
         }

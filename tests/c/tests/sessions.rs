@@ -62,9 +62,9 @@ fn refused_configurations_write_the_answer_alone() {
 
 // ---- the comparison itself
 
-/// T 3, S 2, Q 1, R 2, G 2, K 3; width 2 and depth 2. Before its ticks there is one of everything: a timer, a message, entries,
+/// T 3, S 2, Q 1, R 2, G 2, K 3; width 2 and depth 2; a pair. Before its ticks there is one of everything: a timer, a message, entries,
 /// an open enqueue. It ends with a refused frame.
-const EVERYTHING: &str = "030201020203007D0000000202
+const EVERYTHING: &str = "030201020203007D00000002020103
 0E00010009
 0402000001
 0801000000AABB
@@ -85,7 +85,7 @@ fn everything() -> Script {
 /// What a byte that is changed is called in the difference.
 type Fault = (&'static str, fn(&mut Lent, &Regions));
 
-const FAULTS: [Fault; 21] = [
+const FAULTS: [Fault; 23] = [
     ("the ticks", |memory, _| memory.tables[TICKS] = memory.tables[TICKS] % 3 + 1),
     ("the blocks of task 2", |memory, _| memory.tables[PLANES] ^= 2),
     ("the outcome of task 3", |memory, at| memory.tables[at.records + 12] ^= 1),
@@ -106,6 +106,8 @@ const FAULTS: [Fault; 21] = [
     ("timer 1", |memory, _| memory.timers[timer_row(1) + 6] ^= 1),
     ("timers", |memory, _| memory.timers[PART] = 0),
     ("the config block", |memory, _| memory.config[FRAME + 9] ^= 1),
+    ("the config block", |memory, _| memory.config[FRAME + 14] ^= 1),
+    ("the config block", |memory, _| memory.config[PART + 1] -= 2),
     ("the answer", |memory, _| memory.answer[3] ^= 1),
 ];
 

@@ -29,13 +29,13 @@ pub fn causes(executive: &Executive, frame: &[u8]) -> Vec<Number> {
     note(check.wrong_message(), MESSAGE);
     note(matches!(code, DELAY | TIMER) && check.x() == 0, TOCK_VALUE);
     note(check.wrong_entry(), LENGTH);
-    if known && (check.own != 0 || code >= TICK) {
-        note(check.idle_or_waiting(), IDLE_OR_WAITING);
-        note(check.message_lies(), MESSAGE_IN_MAILBOX);
-        note(check.would_wait_too(), SEMAPHORE_WAITING);
-        note(check.has_a_timer(), HAS_A_TIMER);
-        note(matches!(code, DELAY | TIMER) && executive.timers().all_active(), ALL_TIMERS_ACTIVE);
-    }
+    let meant = known && (check.own != 0 || code >= TICK);
+    note(meant && check.idle_or_waiting(), IDLE_OR_WAITING);
+    note(check.before_first(), BEFORE_FIRST);
+    note(meant && check.message_lies(), MESSAGE_IN_MAILBOX);
+    note(meant && check.would_wait_too(), SEMAPHORE_WAITING);
+    note(meant && check.has_a_timer(), HAS_A_TIMER);
+    note(meant && matches!(code, DELAY | TIMER) && executive.timers().all_active(), ALL_TIMERS_ACTIVE);
     causes
 }
 
@@ -116,6 +116,13 @@ impl Check<'_> {
         }
         let blocks = self.executive.tasks().get(self.delayed()).blocks();
         blocks.has(Block::Idle) || blocks.has(Block::EventWait) || blocks.has(Block::MessageWait)
+    }
+
+    /// By the pairs alone, also of the running task and while none runs.
+    fn before_first(&self) -> bool {
+        let idle = |task: u8| self.executive.tasks().get(task).blocks().has(Block::Idle);
+        let mut pairs = self.executive.configuration().pairs.iter();
+        self.code() == EXECUTE && pairs.any(|pair| pair.then == self.a() && idle(pair.first))
     }
 
     fn message_lies(&self) -> bool {

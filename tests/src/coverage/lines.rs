@@ -1,6 +1,6 @@
 //! Inputs of the session program.
 
-use crate::line;
+use crate::line::{self, MOST_DIGITS};
 use crate::session;
 
 type Situation = (&'static str, fn(&[u8]) -> bool);
@@ -19,14 +19,14 @@ const INPUTS: [Situation; 6] = [
 /// Of lines behind an accepted configuration.
 const LINES: [Situation; 9] = [
     ("empty line", |line| line.is_empty()),
-    ("odd number of digits", |line| line.len() % 2 == 1 && all_digits(line) && line.len() < 400),
+    ("odd number of digits", |line| line.len() % 2 == 1 && all_digits(line) && line.len() < MOST_DIGITS),
     ("lower-case digit", |line| line.len() % 2 == 0 && line.iter().any(|byte| (b'a'..=b'f').contains(byte))),
     ("blank", |line| line.contains(&b' ')),
     ("carriage return", |line| line.ends_with(b"\r")),
     ("another character", |line| line.iter().any(|byte| b"G@/:\x00\xFF".contains(byte))),
-    ("400 digits", |line| line.len() == 400 && all_digits(line)),
-    ("401 digits", |line| line.len() == 401 && all_digits(line)),
-    ("402 digits or more, even", |line| line.len() > 401 && line.len() % 2 == 0 && all_digits(line)),
+    ("652 digits", |line| line.len() == 652 && all_digits(line)),
+    ("653 digits", |line| line.len() == 653 && all_digits(line)),
+    ("654 digits or more, even", |line| line.len() > 653 && line.len() % 2 == 0 && all_digits(line)),
 ];
 
 pub fn names() -> impl Iterator<Item = String> {

@@ -22,7 +22,7 @@ const BY_CODE: [(u8, &[Number]); 17] = [
     (RESUME, &[2, 5, 20]),
     (SUSPEND, &[2, 5, 20]),
     (TERMINATE, &[2, 5, 20]),
-    (EXECUTE, &[2, 5, 20]),
+    (EXECUTE, &[2, 5, 20, 26]),
     (DELAY, &[2, 5, 6, 9, 20, 21, 23, 24, 25]),
     (TIMER, &[2, 5, 6, 9, 20, 23, 24]),
     (PURGE, &[2, 5, 6, 20]),
@@ -33,9 +33,9 @@ const BY_CODE: [(u8, &[Number]); 17] = [
 /// Causes that one frame can have at the same time: one, and those that it counts before.
 const BEFORE: [(Number, &[Number]); 12] = [
     (4, &[2]),
-    (2, &[5, 6, 20, 21]),
-    (20, &[2, 5, 6, 7, 8, 9]),
-    (5, &[6, 8, 9, 21, 22]),
+    (2, &[5, 6, 20, 21, 26]),
+    (20, &[2, 5, 6, 7, 8, 9, 26]),
+    (5, &[6, 8, 9, 21, 22, 26]),
     (6, &[8, 9, 22, 25]),
     (7, &[2]),
     (8, &[21]),

@@ -3,6 +3,7 @@
 mod answers;
 mod clock;
 mod messages;
+mod pairs;
 mod queues;
 mod semaphores;
 mod settling;
@@ -13,8 +14,9 @@ use super::Step;
 
 type Situation = (&'static str, fn(&Step) -> bool);
 
-const TABLES: [(&str, &[Situation]); 8] = [
+const TABLES: [(&str, &[Situation]); 9] = [
     ("answers", answers::TABLE),
+    ("pairs", pairs::TABLE),
     ("semaphores", semaphores::TABLE),
     ("messages", messages::TABLE),
     ("queues", queues::TABLE),
@@ -28,9 +30,9 @@ pub fn names() -> impl Iterator<Item = String> {
     TABLES.iter().flat_map(|(title, table)| table.iter().map(move |(name, _)| titled(title, name)))
 }
 
-/// Only accepted frames count, but for the answers.
+/// Only accepted frames count, but for the answers and the pairs.
 pub fn reached(step: &Step) -> Vec<String> {
-    let tables = if step.answer.refusal() == 0 { &TABLES[..] } else { &TABLES[..1] };
+    let tables = if step.answer.refusal() == 0 { &TABLES[..] } else { &TABLES[..2] };
     let mut reached = Vec::new();
     for (title, table) in tables {
         reached.extend(table.iter().filter(|(_, fits)| fits(step)).map(|(name, _)| titled(title, name)));

@@ -2,6 +2,8 @@
 
 use std::ops::RangeInclusive;
 
+use super::pairs;
+use crate::configuration::{Configuration, MOST_PAIRS};
 use crate::random::Random;
 
 #[derive(Clone)]
@@ -14,6 +16,7 @@ struct Draft {
     ticks: u8,
     milliseconds: u16,
     states: Vec<u8>,
+    pairs: Vec<(u8, u8)>,
 }
 
 impl Draft {
@@ -22,7 +25,7 @@ impl Draft {
         let mut bytes = vec![self.tasks, self.named, queues, self.timers, self.messages, self.ticks];
         bytes.extend(self.milliseconds.to_be_bytes());
         bytes.extend(&self.states);
-        bytes.extend(self.queues.iter().flat_map(|&(width, depth)| [width, depth]));
+        bytes.extend(self.queues.iter().chain(&self.pairs).flat_map(|&(one, other)| [one, other]));
         bytes
     }
 
@@ -47,8 +50,12 @@ fn draft(random: &mut Random, tasks: u8, queues: Vec<(u8, u8)>) -> Draft {
         ticks: rarely(random, 255, &[1, 1, 1, 2, 3]),
         milliseconds: random.pick(&[1, 10, 125, 65_535]),
         states: states(random, tasks),
+        pairs: Vec::new(),
     };
     draft.named = if random.percent(5) { draft.most_named() } else { random.between(0, 5) };
+    let mut aside = random.aside();
+    let most = draft.queues.len() == 32 && aside.percent(50);
+    draft.pairs = pairs::accepted(&mut aside, &draft.states, most);
     draft
 }
 
@@ -91,17 +98,19 @@ pub fn refused(random: &mut Random) -> Vec<u8> {
         match random.below(16) {
             0 | 1 => bytes.truncate(random.below(bytes.len())),
             2 => bytes.extend(vec![0; 1 + random.below(3)]),
-            3 => return random.bytes(8),
+            3 => bytes.extend(vec![1; 2 * MOST_PAIRS - 2 + random.below(8)]),
+            4 => bytes.extend([1, 2].repeat(MOST_PAIRS + random.below(2))),
+            5 => return random.bytes(8),
             _ => {}
         }
-        if crate::configuration::Configuration::read(&bytes).is_err() {
+        if Configuration::read(&bytes).is_err() {
             return bytes;
         }
     }
 }
 
 fn spoil(random: &mut Random, draft: &mut Draft) {
-    match random.below(13) {
+    match random.below(20) {
         0 => draft.tasks = 0,
         1 => draft.tasks = random.between(127, 255),
         2 => draft.queues = vec![(1, 1); usize::from(random.between(33, 60))],
@@ -114,7 +123,8 @@ fn spoil(random: &mut Random, draft: &mut Draft) {
         9 => draft.queues[0].0 = 0,
         10 => draft.queues[0].0 = random.between(17, 255),
         11 => draft.queues[0].1 = 0,
-        _ => draft.queues = vec![(16, 255), (1, 17)],
+        12 => draft.queues = vec![(16, 255), (1, 17)],
+        _ => pairs::spoil(random, &mut draft.states, &mut draft.pairs),
     }
 }
 

@@ -1,19 +1,30 @@
 //! Frames and lines with faults.
 
-use crate::command::ENQUEUE;
+use crate::command::{ENQUEUE, EXECUTE};
 use crate::executive::Executive;
 use crate::line::{MOST_BYTES, MOST_DIGITS};
 use crate::random::Random;
 
-/// Frames of any length from 0 to 210.
+/// Longer than the longest that a line has room for.
+pub const LONGEST: usize = MOST_BYTES + 10;
+
+/// Frames of any length from 0 to the longest.
 pub fn frame(random: &mut Random, executive: &Executive) -> Vec<u8> {
     let length = if random.percent(40) { random.below(9) } else { random.below(211) };
+    let mut aside = random.aside();
     let mut frame = random.bytes(length);
+    if length > 150 && aside.percent(50) {
+        let more = aside.below(LONGEST + 1 - length);
+        frame.extend(aside.bytes(more));
+    }
     if let Some(code) = frame.first_mut() {
         *code = random.pick(&[*code, *code % 18, *code % 18, ENQUEUE]);
     }
     if let (Some(queue), true) = (frame.get_mut(1), random.percent(70)) {
         *queue = 1 + *queue % executive.configuration().queue_count().max(1);
+    }
+    if let ([EXECUTE, task, ..], Some(pair)) = (&mut frame[..], aside.pick_if(&executive.configuration().pairs)) {
+        *task = pair.then;
     }
     frame
 }

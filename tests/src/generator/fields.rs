@@ -51,12 +51,27 @@ impl Generator {
 
     fn task(&mut self, code: u8, executive: &Executive) -> u8 {
         let most = executive.configuration().tasks;
+        if let Some(task) = self.paired_task(code, executive) {
+            return task;
+        }
         match self.random.below(100) {
             0..=3 => self.random.between(most + 1, 255),
             4..=19 => 0,
             20..=24 => executive.running(),
             25..=69 => self.fitting_task(code, executive),
             _ => self.random.between(1, most),
+        }
+    }
+
+    /// Of an execute, a terminate or a suspend sometimes one that the pairs are about. Without pairs no number is drawn.
+    fn paired_task(&mut self, code: u8, executive: &Executive) -> Option<u8> {
+        let pairs = &executive.configuration().pairs;
+        let last = pairs.last().filter(|_| self.random.percent(40))?;
+        let pair = if self.random.percent(30) { *last } else { self.random.pick(pairs) };
+        match code {
+            EXECUTE if self.random.percent(80) => Some(pair.then),
+            EXECUTE | TERMINATE | SUSPEND => Some(pair.first),
+            _ => None,
         }
     }
 

@@ -14,6 +14,7 @@ use scratch::File;
 
 const FRAMES: usize = 60;
 const FURTHER: usize = 60;
+const REFUSED: usize = 60;
 
 /// Other seeds, by the variable SEED, give other sessions.
 fn seed() -> u64 {
@@ -60,9 +61,27 @@ fn sessions(scripts: &[Script]) -> Vec<Fact> {
     numbered.map(|(number, script)| facts::session(number, script, &Results::of(script))).collect()
 }
 
+/// Each of the first has a cause that none before it had, until all are there; some more follow.
 fn refused_configurations() -> Vec<Fact> {
     let mut generator = Generator::new(seed() + 13);
-    (0..80).map(|number| facts::refused_configuration(number, &generator.refused_configuration())).collect()
+    let mut coverage = Coverage::new();
+    let (mut chosen, mut further) = (Vec::new(), Vec::new());
+    for _ in 0..100_000 {
+        let missing = coverage.missing_of_refused().len();
+        let frame = generator.refused_configuration();
+        coverage.watch_configuration(&frame);
+        if coverage.missing_of_refused().len() < missing {
+            chosen.push(frame);
+        } else if further.len() < REFUSED {
+            further.push(frame);
+        } else if missing == 0 {
+            break;
+        }
+    }
+    let missing = coverage.missing_of_refused();
+    assert!(missing.is_empty(), "not compared: {missing:#?}");
+    let all = chosen.iter().chain(&further).enumerate();
+    all.map(|(number, frame)| facts::refused_configuration(number, frame)).collect()
 }
 
 fn inputs() -> Vec<Fact> {
