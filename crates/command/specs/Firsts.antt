@@ -11,7 +11,7 @@ use Rattle.rows.specs.Splice.{cut}
 use Rattle.rows.specs.Tab.{tab-length}
 use Rattle.ledger.specs.Lists.{within, at}
 use Rattle.ledger.specs.Config.{pairOf, pairsIn, configIn}
-use Rattle.ledger.specs.Ledger.{Task, Ledger, nullTask, task}
+use Rattle.ledger.specs.Ledger.{Task, nullTask, task}
 use Rattle.ledger.specs.Refusals.{holdsBack}
 use Rattle.tables.specs.declared.shape.Shape.{Shape}
 use Rattle.ledger.specs.Theorems.Checks.{within-numbered}

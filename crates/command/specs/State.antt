@@ -1,12 +1,11 @@
 -- The numbers that the memory gives: the program's checks are the ledger's list, part by part, for every ledger that is shown.
-use Prim.Native.Nat.{ℕ, _+_, _≤_}
+use Prim.Native.Nat.{ℕ}
 use mathlib.Core.Path.{_≡_, refl, sym, ap, _∙_}
 use mathlib.Core.Bool.{Bool, true, false, _&&_, _||_}
-use mathlib.Core.List.{List, [], _∷_, _++_}
-use native.Mathlib.Omega.{arith}
+use mathlib.Core.List.{List, [], _∷_}
 use lib.Dec.{leb}
 use lib.ListN.{length}
-use Rattle.ledger.specs.Lists.{Check, first, _⇒_}
+use Rattle.ledger.specs.Lists.{first, _⇒_}
 use Rattle.ledger.specs.Config.{Config}
 use Rattle.ledger.specs.Ledger as ledger
 use Rattle.ledger.specs.Ledger.{Ledger, task}
@@ -17,7 +16,6 @@ use Rattle.tables.specs.Layout.{OneOf}
 use Rattle.tables.specs.Decode.{viewBlocks, viewTask, recordOf}
 use Rattle.tables.specs.Shows.{Shows, Tells, recordIn}
 use Rattle.tables.specs.Stored.{shown-task}
-use Rattle.clock.specs.Does.{TellsTimers}
 use Rattle.command.specs.declared.codes.Fields.{Fields}
 use Rattle.command.specs.Codes.{viewA, viewX, viewWaits, viewFields}
 

@@ -1,5 +1,5 @@
 -- Limits: what the program's are, and what the tables are made for.
-use Prim.Native.Nat.{ℕ, _+_, _*_, _≤_}
+use Prim.Native.Nat.{_≤_}
 use native.Mathlib.Omega.{arith}
 use Rattle.ledger.specs.Config as config
 use Rattle.ledger.specs.Config.{controller}

@@ -1,15 +1,15 @@
 -- The ways out of the checks of a frame's length and of a pair.
-use mathlib.Core.Path.{_≡_, refl, sym, ap, _∙_}
+use mathlib.Core.Path.{_≡_, refl, sym, _∙_}
 use mathlib.Core.Bool.{Bool, true, false, not, _&&_}
 use mathlib.Core.List.{List}
-use Prim.Native.Nat.{ℕ, zero, suc, _+_, _-_, _*_, _%_, _<_, _≤_}
+use Prim.Native.Nat.{ℕ, zero, suc, _-_, _*_, _%_, _<_, _≤_}
 use native.Mathlib.Omega.{arith}
 use lib.Dec.{eqb, leb}
 use lib.ListN.{length, getD}
-use borrow.Author.Tests.{le-leb, lt-leb, lt-ltb, leb-true, ltb-true, eq-eqb, ne-eqb, not-true}
+use borrow.Author.Tests.{le-leb, lt-leb, lt-ltb, leb-true, ltb-true, eq-eqb, ne-eqb}
 use Rattle.tables.specs.Encoded.{case}
 use Rattle.ledger.specs.Lists.{at}
-use Rattle.ledger.specs.Config.{Pair, mostPairs, goodLength, goodPair}
+use Rattle.ledger.specs.Config.{mostPairs, goodLength, goodPair}
 use Rattle.ledger.specs.Theorems.Checks.{and-left, and-right}
 use Rattle.configuration.specs.Block.{and-no}
 

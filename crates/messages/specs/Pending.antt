@@ -50,9 +50,13 @@ letterAt k d = letterOf (rowAt 4 k d)
 unfoldable pub numbersIn : ℕ → List ℕ → List ℕ
 numbersIn n d = map (λ r. getD r 1 0) (rowsOf 4 n d)
 
+-- a record's receiver is a task
+abbrev pub toTask : (tasks : ℕ) → List ℕ → Bool
+toTask tasks r = within 1 tasks (getD r 0 0)
+
 -- the receiver of each of the first n records is one of the tasks
 unfoldable pub addressed : (tasks n : ℕ) → List ℕ → Bool
-addressed tasks n d = all (λ r. within 1 tasks (getD r 0 0)) (rowsOf 4 n d)
+addressed tasks n d = all (toTask tasks) (rowsOf 4 n d)
 
 -- ---- mailboxes
 

@@ -14,7 +14,7 @@ use Rattle.ledger.specs.Services.{wanted}
 use Rattle.rows.specs.Rows.{rowsOf, insertAt, removeAt, getD-row, getD-rows, length-rows, map-insertAt}
 use Rattle.rows.specs.First.{firstOf, first-le, first-here, first-on, first-end, keepFrom, keep-on, keep-out, keep-end, map-removeAt, any-is}
 use Rattle.messages.specs.Lists.{all-insert, all-remove, any-map, any-ext}
-use Rattle.messages.specs.Pending.{Pending, addressed, letter, pending, receiver, pendingOf, pendingAt, pendingIn, letterAt, numbersIn, for, mailboxOf, mailboxesOf, numbered, behind, placeFor, wantedBy, placeOf, occurs}
+use Rattle.messages.specs.Pending.{Pending, toTask, addressed, letter, pending, receiver, pendingOf, pendingAt, pendingIn, letterAt, numbersIn, for, mailboxOf, mailboxesOf, numbered, behind, placeFor, wantedBy, placeOf, occurs}
 use Rattle.messages.specs.Changes.{Inserted, Found, Removed, Taken, Emptied}
 use Rattle.messages.specs.Mailboxes.{mailbox-insert, mailbox-insert-other, mailbox-remove, mailbox-remove-other, mailbox-find, mailbox-find-none, mailbox-empty, mailbox-empty-other, mailboxes-any}
 
@@ -183,14 +183,14 @@ inserted T n k t x s b d d' low high at e =
     record {
       own = ap (mailboxOf t) q ∙ mailbox-insert p l;
       others = λ u ne. ap (mailboxOf u) q ∙ mailbox-insert-other p l u (placeFor t s l) ne;
-      addressed = λ h. ap (all (λ r. within 1 T (getD r 0 0))) e ∙ all-insert (λ r. within 1 T (getD r 0 0)) k (t ∷ x ∷ s ∷ b ∷ []) (rowsOf 4 n d) (rw (le-leb 1 t low, le-leb t T high)) h;
+      addressed = λ h. ap (all (toTask T)) e ∙ all-insert (toTask T) k (t ∷ x ∷ s ∷ b ∷ []) (rowsOf 4 n d) (rw (le-leb 1 t low, le-leb t T high)) h;
     }
 
 pub removed : (n k : ℕ) (d d' : List ℕ) → rowsOf 4 (n - 1) d' ≡ removeAt k (rowsOf 4 n d) → Removed n k d d'
 unfolding pendingIn addressed
 removed n k d d' e T = (
   ap (map (pendingOf T)) e ∙ map-removeAt (pendingOf T) k (rowsOf 4 n d),
-  λ h. ap (all (λ r. within 1 T (getD r 0 0))) e ∙ all-remove (λ r. within 1 T (getD r 0 0)) k (rowsOf 4 n d) h,
+  λ h. ap (all (toTask T)) e ∙ all-remove (toTask T) k (rowsOf 4 n d) h,
 )
 
 pub taken : (T n t a k : ℕ) (d d' : List ℕ) → Found T n t a d k → k < n → pendingIn T (n - 1) d' ≡ removeAt k (pendingIn T n d) → Taken T n t a d d'

@@ -1,10 +1,11 @@
 -- Signal, wake and wait, by what the semaphore is: each law takes what the calls of one case ensure.
 use mathlib.Core.Bool.{Bool}
-use mathlib.Core.Path.{_≡_, refl, sym, ap, ap₂, _∙_, subst}
-use mathlib.Core.List.{List, [], _∷_}
+use mathlib.Core.Path.{_≡_, refl, sym, ap, _∙_, subst}
+use mathlib.Core.List.{List}
 use Prim.Native.Nat.{ℕ, zero, suc, _<_, _≤_}
 use native.Mathlib.Omega.{arith}
-use lib.ListN.{length, getD, set}
+use lib.ListN.{length, getD, List·getD-eq-default}
+use lib.Seq.{set-out}
 use Rattle.rows.specs.Tab.{tab-length}
 use Rattle.tables.specs.declared.shape.Shape.{Shape}
 use Rattle.tables.specs.declared.semaphores.Semaphore as state
@@ -47,16 +48,6 @@ signal-shown s d d₁ d' t b n does tells shows tidy c L z w h =
     moved (ap (λ (m : ℕ). setOutcome t (woke m) (signal b L .ledger)) (tells c L z w (loosely h))) (shows tidy c (signal b L .ledger) z w (does tidy c L z w h))
 
 -- ---- a number that no semaphore has
-set-none : {A : Type 0} (l : List A) (n : ℕ) (v : A) → length l ≤ n → set l n v ≡ l
-set-none [] n v h = refl
-set-none (x ∷ xs) zero v h = absurd (omega arith)
-set-none (x ∷ xs) (suc n) v h = ap₂ _∷_ refl (set-none xs n v (omega arith))
-
-get-none : {A : Type 0} (l : List A) (n : ℕ) (v : A) → length l ≤ n → getD l n v ≡ v
-get-none [] n v h = refl
-get-none (x ∷ xs) zero v h = absurd (omega arith)
-get-none (x ∷ xs) (suc n) v h = get-none xs n v (omega arith)
-
 -- signals nothing
 module _ (s : Shape) (d : List ℕ) where
   pub none-signalled : (b : ℕ) → b ≡ 0 → Does s d d (λ c L. signal b L .ledger) × Tells s d (λ c L. signal b L .woke) 0
@@ -73,10 +64,10 @@ module _ (s : Shape) (d : List ℕ) where
   past-signalled (suc b) g = (
     (λ tidy c L z w h.
         let n : length (L .semaphores) ≤ b = beyond c L z w h b g in
-        let e : getD (L .semaphores) b ledger.PENDING ≡ ledger.PENDING = get-none (L .semaphores) b ledger.PENDING n in
+        let e : getD (L .semaphores) b ledger.PENDING ≡ ledger.PENDING = List·getD-eq-default (L .semaphores) ledger.PENDING {n = b} n in
         let x : signal (suc b) L .ledger ≡ L =
         ap (λ (y : Semaphore). signalled y (suc b) L .ledger) e
-        ∙ (λ i. record { N = L .N; ticks = L .ticks; tasks = L .tasks; semaphores = set-none (L .semaphores) b ledger.DONE n i; mailboxes = L .mailboxes; queues = L .queues; timers = L .timers }) in
+        ∙ (λ i. record { N = L .N; ticks = L .ticks; tasks = L .tasks; semaphores = set-out (L .semaphores) b ledger.DONE n i; mailboxes = L .mailboxes; queues = L .queues; timers = L .timers }) in
         moved (sym x) h),
-    (λ c L z w h. sym (ap (λ (y : Semaphore). signalled y (suc b) L .woke) (get-none (L .semaphores) b ledger.PENDING (beyond c L z w h b g)))),
+    (λ c L z w h. sym (ap (λ (y : Semaphore). signalled y (suc b) L .woke) (List·getD-eq-default (L .semaphores) ledger.PENDING {n = b} (beyond c L z w h b g)))),
   )

@@ -9,7 +9,7 @@ use native.Mathlib.Nat.{add-zero, mod-lt}
 use native.Mathlib.Omega.{arith}
 use lib.Dec.{eqb, ltb}
 use borrow.Author.Tests.{le-leb, ne-eqb, lt-ltb, ltb-true, ltb-false}
-use lib.ListN.{length, getD, take, drop, length-map, List·getD-map}
+use lib.ListN.{length, getD, take, drop, length-map, List·getD-map, List·getD-eq-default}
 use Rattle.rows.specs.Splice.{cut}
 use Rattle.rows.specs.Rows.{rowAt, rowsOf}
 use Rattle.rows.specs.Four.{le4}
@@ -23,10 +23,10 @@ use Rattle.ledger.specs.Lists.{within, all, keep}
 use Rattle.ledger.specs.Theorems.Checks.{and-left, and-right}
 use Rattle.ledger.specs.Services.{shape}
 use Rattle.ledger.specs.Session.{TimerLeft, timerLeft, run}
-use Rattle.ledger.specs.Theorems.Parts.{Every, nil, cons}
+use Rattle.ledger.specs.Theorems.Parts.{Every, every-at}
 use Rattle.ledger.specs.Theorems.Sound.{Bytes, sound}
 use Rattle.messages.specs.Pending as messages
-use Rattle.messages.specs.Pending.{letterOf, pendingIn, addressed, for, mailboxOf}
+use Rattle.messages.specs.Pending.{letterOf, pendingIn, toTask, addressed, for, mailboxOf}
 use Rattle.messages.specs.Lying.{lying}
 use Rattle.timers.specs.Timers.{timer, leftAt, recordAt, timersIn, noTimer, noEntry}
 use Rattle.timers.specs.Records.{row-upright}
@@ -108,13 +108,13 @@ gather-at f i (suc n) zero v h = ap f (sym (add-zero i))
 gather-at f i (suc n) (suc k) v h = let e : suc i + k ≡ i + suc k = omega arith in gather-at f (suc i) n k v (omega arith) ∙ ap f e
 
 -- where every receiver is one of the tasks, none is read as another
-raw-mail : (T t : ℕ) (rows : List (List ℕ)) → all (λ r. within 1 T (getD r 0 0)) rows ≡ true
+raw-mail : (T t : ℕ) (rows : List (List ℕ)) → all (toTask T) rows ≡ true
     → map letterOf (keep (λ r. eqb (getD r 0 0) t) rows) ≡ map (λ x. x .message) (keep (for t) (map (messages.pendingOf T) rows))
 unfolding keep all
 raw-mail T t [] h = refl
 raw-mail T t (r ∷ rs) h =
     go (within 1 T (getD r 0 0)) refl (and-left (within 1 T (getD r 0 0)) _ h) (eqb (getD r 0 0) t) refl
-    (raw-mail T t rs (and-right (within 1 T (getD r 0 0)) (all (λ r. within 1 T (getD r 0 0)) rs) h))
+    (raw-mail T t rs (and-right (within 1 T (getD r 0 0)) (all (toTask T) rs) h))
   where
     go : (b : Bool) → within 1 T (getD r 0 0) ≡ b → b ≡ true → (q : Bool) → eqb (getD r 0 0) t ≡ q
         → map letterOf (keep (λ r. eqb (getD r 0 0) t) rs) ≡ map (λ x. x .message) (keep (for t) (map (messages.pendingOf T) rs))
@@ -152,11 +152,6 @@ enqueue-is c (Enqueue a) v q e h =
     let n : a + 1 ≡ q + 1 = ap queueIn h in
     let m : q ≡ a = omega arith in
     ap (λ (k : ℕ). take (shape c k .width) v) m ∙ ap entryIn h
-
-get-past : {A : Type 0} (l : List A) (i : ℕ) (v : A) → length l ≤ i → getD l i v ≡ v
-get-past [] i v h = refl
-get-past (x ∷ l) zero v h = absurd (omega arith)
-get-past (x ∷ l) (suc i) v h = get-past l i v (omega arith)
 
 module _ (c : Config) (s : Shape) (L : Ledger) (d z w : List ℕ) (h : ShowsAs true c s L d z w) where
   abbrev p : Regions
@@ -210,7 +205,7 @@ module _ (c : Config) (s : Shape) (L : Ledger) (d z w : List ℕ) (h : ShowsAs t
       go true e = has-are k i ∙ ap (hasBlock k) (sym (task-are i (ltb-true i (c .T) e)))
       go false e =
           let g : c .T ≤ i = ltb-false i (c .T) e in
-          h .shown .tidily refl .tasks .0 k i g l ∙ sym (null-none k) ∙ ap (hasBlock k) (sym (get-past (L .tasks) i ledger.nullTask (omega (arith, tasks-length))))
+          h .shown .tidily refl .tasks .0 k i g l ∙ sym (null-none k) ∙ ap (hasBlock k) (sym (List·getD-eq-default (L .tasks) ledger.nullTask {n = i} (omega (arith, tasks-length))))
 
   slot-are : (i : ℕ) → rowAt 16 i z ≡ taskAt c p z i .slot
   unfolding taskAt viewTask
@@ -362,11 +357,6 @@ both-same {g} {m = m} {m' = m'} {fs = fs} h full s₁ more₁ s₂ more₂ =
     same-values (one-value c (run c fs .0) m (every-list h full s₁ more₁ .tidy)) (one-value c (run c fs .0) m' (every-list h full s₂ more₂ .tidy))
 
 -- ---- frames of bytes: each timer is due after N, so some tocks are left
-
-every-at : {A : Type 0} {P : A → Type 0} {l : List A} → Every P l → (k : ℕ) (v : A) → k < length l → P (getD l k v)
-every-at nil k v h = absurd (omega arith)
-every-at (cons p ps) zero v h = p
-every-at (cons p ps) (suc k) v h = every-at ps k v (omega arith)
 
 pub due-valued : {g : List ℕ} {m₀ m₁ m : Memory} {r : ℕ} {fs answered : List (List ℕ)} {returned : List ℕ}
     → configRefusal g ≡ 0 → fullSize m₀ ≡ true → Configures g m₀ m₁ r → FrameCalls m₁ fs answered returned m → Every Bytes fs

@@ -1,17 +1,17 @@
 -- What an accepted frame says of the task, the semaphore, the queue, the message and the tock value that it means: each of its checks has passed.
-use Prim.Native.Nat.{ℕ, zero, suc, _+_, _-_, _≤_, _<_}
-use mathlib.Core.Path.{_≡_, refl, sym, _∙_, ap}
+use Prim.Native.Nat.{ℕ, _+_, _≤_, _<_}
+use mathlib.Core.Path.{_≡_, refl}
 use mathlib.Core.Logic.{_⊎_, inl, inr}
 use mathlib.Core.Bool.{Bool, true, false, cond, not, _&&_}
-use mathlib.Core.List.{List, [], _∷_, map}
+use mathlib.Core.List.{List}
 use native.Mathlib.Omega.{arith}
 use borrow.Author.Tests.{leb-true, leb-false, eqb-true, eqb-false, ne-eqb, not-false}
 use lib.Dec.{eqb, leb}
-use lib.ListN.{length, getD, List·getD-map}
-use Rattle.ledger.specs.Lists.{Check, first, within, byte}
+use lib.ListN.{length}
+use Rattle.ledger.specs.Lists.{first, within, byte}
 use Rattle.ledger.specs.Config.{Config}
 use Rattle.ledger.specs.Ledger.{Ledger, running}
-use Rattle.ledger.specs.Services.{Code, WAIT, SIGNAL, PEND, SEND, SENDW, RECEIVE, DEQUEUE, ENQUEUE, RESUME, SUSPEND, TERMINATE, EXECUTE, DELAY, TIMER, PURGE, TICK, EXIT, codes, shape}
+use Rattle.ledger.specs.Services.{Code, WAIT, SIGNAL, PEND, SEND, SENDW, RECEIVE, DEQUEUE, ENQUEUE, RESUME, SUSPEND, TERMINATE, EXECUTE, DELAY, TIMER, PURGE, TICK, EXIT, shape}
 use Rattle.ledger.specs.Refusals.{FieldA, noA, aTask, toStart, selfOrTask, anyOrTask, aQueue, FieldB, noB, ofSelf, ofTask, orNone, FieldX, noX, aMessage, aTockValue, aSwitch, Fields, fields, Follows, xAlone, xAndEntry, Call, meantTask, meantSemaphore, codeAt, call, wrongTask, wrongSemaphore, wrongQueue, isMessage, isTockValue, wrongEntry, meets25, meets26, meets21, inAMailbox, haveTimer, fromInput, fromState, refusal}
 use Rattle.ledger.specs.Theorems.Items.{Numbered}
 use Rattle.ledger.specs.Theorems.Checks.{or-left, asked, within-numbered, passes, passes-joined, Numbers}

@@ -1,6 +1,6 @@
 -- Only a signal's caller is told: a task whose outcome is `woke` after a frame had it before, unless the frame is its own signal request.
 use Prim.Native.Nat.{ℕ}
-use mathlib.Core.Path.{_≡_, refl, sym, _∙_, ap}
+use mathlib.Core.Path.{_≡_, sym, _∙_, ap}
 use mathlib.Core.Bool.{false}
 use mathlib.Core.List.{List}
 use native.Mathlib.Omega.{arith}

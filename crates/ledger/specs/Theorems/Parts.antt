@@ -1,5 +1,5 @@
 -- Lists of records: what holds of every item, a list with items left out, and a list ordered by a key. `insertBy` keeps the order, and so does leaving out.
-use Prim.Native.Nat.{ℕ, zero, suc, _+_, _≤_}
+use Prim.Native.Nat.{ℕ, zero, suc, _+_, _<_, _≤_}
 use mathlib.Core.Path.{_≡_, refl}
 use mathlib.Core.Bool.{Bool, true, false, cond, not}
 use mathlib.Core.List.{List, [], _∷_, _++_}
@@ -7,13 +7,18 @@ use native.Mathlib.Nat.{le-trans}
 use native.Mathlib.Omega.{arith}
 use borrow.Author.Tests.{ltb-true, ltb-false}
 use lib.Dec.{ltb}
-use lib.ListN.{length, drop}
+use lib.ListN.{length, getD, drop}
 use Rattle.ledger.specs.Lists.{keep, without, insertBy}
 
 module _ {A : Type 0} where
   pub data Every (P : A → Type 0) : List A → Type 0 where
     nil : Every P []
     cons : {x : A} {xs : List A} → P x → Every P xs → Every P (x ∷ xs)
+
+  pub every-at : {P : A → Type 0} {l : List A} → Every P l → (k : ℕ) (v : A) → k < length l → P (getD l k v)
+  every-at nil k v h = absurd (omega arith)
+  every-at (cons p ps) zero v h = p
+  every-at (cons p ps) (suc k) v h = every-at ps k v (omega arith)
 
   -- the first list is the second with items left out
   pub data Part : List A → List A → Type 0 where

@@ -8,7 +8,7 @@ use native.Mathlib.Omega.{arith}
 use borrow.Author.Tests.{eq-eqb, leb-true, not-true, not-false}
 use lib.Dec.{eqb, leb}
 use lib.ListN.{length, getD}
-use Rattle.ledger.specs.Lists.{at, byte, any, all}
+use Rattle.ledger.specs.Lists.{at, byte, any}
 use Rattle.ledger.specs.Config.{Pair, Config, configIn, configRefusal, goodPair}
 use Rattle.ledger.specs.Ledger.{Task, Ledger, nullTask, task, running, freshTask, fresh}
 use Rattle.ledger.specs.Services.{Code, EXECUTE}

@@ -1,11 +1,10 @@
 -- What a frame does to one task, read backwards: what holds of it afterwards held before, if it is a matter of being idle and of the outcome `woke` alone.
 -- For only terminate makes a task idle, only execute ends that, and only a signal request sets `woke`. Callers and Starts are two instances.
 use Prim.Native.Nat.{ℕ, zero, suc, _*_}
-use mathlib.Core.Path.{_≡_, refl, sym, _∙_, ap}
+use mathlib.Core.Path.{_≡_, refl}
 use mathlib.Core.Bool.{Bool, true, false}
 use mathlib.Core.List.{List, [], _∷_}
 use mathlib.Core.Option.{Option, none as nothing, some}
-use native.Mathlib.Omega.{arith}
 use lib.Dec.{eqb, ltb}
 use borrow.Author.Tests.{eqb-true}
 use Rattle.ledger.specs.Lists.{at, put, byte, find}

@@ -1,14 +1,13 @@
 -- Only a task that is to start has firsts; the pairs are what lies behind the queues.
 use native.Mathlib.Omega.{arith}
-use mathlib.Core.Path.{_≡_, ap, _∙_}
-use mathlib.Core.Bool.{Bool}
+use mathlib.Core.Path.{ap, _∙_}
 use mathlib.Core.List.{List}
 use denote.Ref.{now}
 use borrow.Author.Needs.{needs}
 use Rattle.ledger.specs.Lists.{any}
 use Rattle.ledger.specs.Config.{Pair, configIn}
 use Rattle.ledger.specs.Refusals.{holdsBack, meets26}
-use Rattle.command.specs.Configured.{bytes, of, few}
+use Rattle.command.specs.Configured.{bytes, few}
 use Rattle.command.specs.Firsts.{pairs-behind}
 use Rattle.command.proofs.firsts.before_first.Statement.{statement}
 use Rattle.command.proofs.firsts.before_first.Tie as tie

@@ -1,6 +1,6 @@
 -- The pair is another task's, or its first is no task, or the first's idle block decides.
 use denote.Ref.{now}
-use mathlib.Core.Path.{_≡_, sym, _∙_}
+use mathlib.Core.Path.{sym, _∙_}
 use borrow.Author.Needs.{needs}
 use Rattle.command.specs.State.{idle-told}
 use Rattle.command.specs.Firsts.{of-another, of-nobody, of-first, one-of}

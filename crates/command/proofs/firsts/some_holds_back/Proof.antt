@@ -1,11 +1,10 @@
 -- What is left to look at is the pairs from k on.
-use Prim.Native.Nat.{ℕ, _+_, _-_, _*_, _≤_}
+use Prim.Native.Nat.{ℕ, _-_, _*_, _≤_}
 use native.Mathlib.Omega.{arith}
 use mathlib.Core.Path.{_≡_, refl, sym, _∙_}
 use mathlib.Core.List.{List}
-use lib.ListN.{length, drop}
+use lib.ListN.{drop}
 use denote.Ref.{now}
-use borrow.Author.Needs.{needs}
 use Rattle.ledger.specs.Lists.{any}
 use Rattle.ledger.specs.Config.{Config, pairOf, pairsIn}
 use Rattle.ledger.specs.Ledger.{Ledger}

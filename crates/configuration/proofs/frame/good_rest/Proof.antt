@@ -1,7 +1,7 @@
 -- The states, the queues and the pairs are parts of the frame, whose length was tested; each test is one of the ledger's.
 use native.Mathlib.Omega.{arith}
 use denote.Ref.{now}
-use mathlib.Core.Path.{_≡_, sym, _∙_}
+use mathlib.Core.Path.{sym, _∙_}
 use borrow.Author.Tests.{not-true, not-false}
 use Rattle.configuration.specs.Limits.{limitsOf}
 use Rattle.configuration.specs.Refusal.{bad-states, bad-room, by-pairs}

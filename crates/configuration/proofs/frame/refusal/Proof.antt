@@ -1,7 +1,7 @@
 -- The ways out in the ledger's order.
 use native.Mathlib.Omega.{arith}
 use denote.Ref.{now}
-use mathlib.Core.Path.{_≡_, refl, sym, _∙_, subst}
+use mathlib.Core.Path.{refl, sym, _∙_, subst}
 use borrow.Author.Tests.{not-true, not-false}
 use Rattle.ledger.specs.Config.{controller}
 use Rattle.configuration.specs.Limits.{limitsOf, Made, controller-made}

@@ -1,5 +1,5 @@
 -- What is left to test is the pairs from k on.
-use Prim.Native.Nat.{_+_, _-_, _*_, _≤_, _/_}
+use Prim.Native.Nat.{_-_, _*_, _≤_}
 use native.Mathlib.Omega.{arith}
 use mathlib.Core.Path.{_≡_, refl, sym, _∙_}
 use lib.ListN.{length, drop}
