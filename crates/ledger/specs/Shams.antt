@@ -1,8 +1,9 @@
--- Sessions in which each sham that document 01 names, or that a signal which tells whom it woke invites, would answer otherwise, with the ledger's answers computed.
+-- Sessions in which each sham that document 01 names, or that a request invites (a signal that tells, a start only after), would answer otherwise, with the
+-- ledger's answers computed.
 use Prim.Native.Nat.{ℕ}
 use mathlib.Core.Path.{_≡_, refl}
-use mathlib.Core.List.{List, [], _∷_}
-use lib.ListN.{getD}
+use mathlib.Core.List.{List, [], _∷_, _++_}
+use lib.ListN.{getD, replicate}
 use Rattle.ledger.specs.Config.{configIn, configRefusal}
 use Rattle.ledger.specs.Ledger.{PENDING, DONE}
 use Rattle.ledger.specs.Session.{run, session}
@@ -44,6 +45,27 @@ exits = 17 ∷ 0 ∷ 1 ∷ 0 ∷ 0 ∷ []
 abbrev pub startsOther : List ℕ
 startsOther = 14 ∷ 0 ∷ 3 ∷ 0 ∷ 1 ∷ []
 
+-- three tasks, of which 1 begins runnable, and 3 starts only after 2 and 1
+abbrev pub threeTasks : List ℕ
+threeTasks = 3 ∷ 1 ∷ 0 ∷ 0 ∷ 0 ∷ 1 ∷ 0 ∷ 125 ∷ 0 ∷ 1 ∷ 1 ∷ 2 ∷ 3 ∷ 1 ∷ 3 ∷ []
+
+-- executes, suspends, terminates a task
+abbrev pub executes : ℕ → List ℕ
+executes t = 12 ∷ t ∷ 0 ∷ 0 ∷ 0 ∷ []
+
+abbrev pub suspends : ℕ → List ℕ
+suspends t = 10 ∷ t ∷ 0 ∷ 0 ∷ 0 ∷ []
+
+abbrev pub terminates : ℕ → List ℕ
+terminates t = 11 ∷ t ∷ 0 ∷ 0 ∷ 0 ∷ []
+
+-- one pair: of a task and itself; and 65 bytes twice, which are no pairs
+abbrev pub itself : List ℕ
+itself = 2 ∷ 0 ∷ 0 ∷ 0 ∷ 0 ∷ 1 ∷ 0 ∷ 125 ∷ 0 ∷ 0 ∷ 2 ∷ 2 ∷ []
+
+abbrev pub tooMany : List ℕ
+tooMany = (2 ∷ 0 ∷ 0 ∷ 0 ∷ 0 ∷ 1 ∷ 0 ∷ 125 ∷ 0 ∷ 0 ∷ []) ++ replicate 130 1
+
 pub record ShamAnswers : Type 0 where
   pub accepted : configRefusal twoTasks ≡ 0
   -- task 1 waits at the empty queue; task 2 puts, and task 1, which runs again, has the entry after one reissue
@@ -62,9 +84,20 @@ pub record ShamAnswers : Type 0 where
   -- task 2 waits at the empty queue; task 1 puts, and wakes it
   pub wakingPut : session twoTasks (waits ∷ takes ∷ exits ∷ puts ∷ [])
       ≡ (0 ∷ 1 ∷ 0 ∷ 1 ∷ []) ∷ (0 ∷ 2 ∷ 0 ∷ 1 ∷ []) ∷ (0 ∷ 0 ∷ 0 ∷ 0 ∷ []) ∷ (0 ∷ 1 ∷ 0 ∷ 5 ∷ 1 ∷ []) ∷ (0 ∷ 1 ∷ 0 ∷ 0 ∷ []) ∷ []
+  pub acceptedThree : configRefusal threeTasks ≡ 0
+  -- task 2 is idle
+  pub early : session threeTasks (executes 3 ∷ []) ≡ (0 ∷ 1 ∷ 0 ∷ 1 ∷ []) ∷ (26 ∷ 1 ∷ 0 ∷ 1 ∷ []) ∷ []
+  -- task 2 is suspended, and no longer idle
+  pub suspended : session threeTasks (executes 2 ∷ suspends 2 ∷ executes 3 ∷ []) ≡ (0 ∷ 1 ∷ 0 ∷ 1 ∷ []) ∷ (0 ∷ 1 ∷ 0 ∷ 0 ∷ []) ∷ (0 ∷ 1 ∷ 0 ∷ 0 ∷ []) ∷ (0 ∷ 1 ∷ 0 ∷ 0 ∷ []) ∷ []
+  -- task 3 runs while task 2 is idle, and executes itself; nobody runs
+  pub ownNumber : session threeTasks (executes 2 ∷ executes 3 ∷ terminates 2 ∷ waits ∷ executes 3 ∷ [])
+      ≡ (0 ∷ 1 ∷ 0 ∷ 1 ∷ []) ∷ (0 ∷ 1 ∷ 0 ∷ 0 ∷ []) ∷ (0 ∷ 1 ∷ 0 ∷ 0 ∷ []) ∷ (0 ∷ 1 ∷ 0 ∷ 0 ∷ []) ∷ (0 ∷ 3 ∷ 0 ∷ 1 ∷ []) ∷ (5 ∷ 3 ∷ 0 ∷ 1 ∷ []) ∷ []
+  pub nobody : session threeTasks (waits ∷ executes 3 ∷ []) ≡ (0 ∷ 1 ∷ 0 ∷ 1 ∷ []) ∷ (0 ∷ 0 ∷ 0 ∷ 0 ∷ []) ∷ (20 ∷ 0 ∷ 0 ∷ 0 ∷ []) ∷ []
+  pub equal : configRefusal itself ≡ 3
+  pub many : configRefusal tooMany ≡ 2
   -- nobody waits on semaphore 1
   pub done : getD (run (configIn twoTasks) (signals ∷ []) .0 .semaphores) 0 PENDING ≡ DONE
 
 pub the-answers : ShamAnswers
 unfolding everything
-the-answers = record { accepted = refl; settled = refl; filled = refl; started = refl; ticked = refl; told = refl; wakingTick = refl; wakingPut = refl; done = refl }
+the-answers = record { accepted = refl; settled = refl; filled = refl; started = refl; ticked = refl; told = refl; wakingTick = refl; wakingPut = refl; acceptedThree = refl; early = refl; suspended = refl; ownNumber = refl; nobody = refl; equal = refl; many = refl; done = refl }

@@ -1,6 +1,6 @@
--- The shams that document 01 names, those of a signal that tells whom it woke, and one in the memory, refuted: no executive that meets the contracts behaves so, whatever memory it is lent.
+-- The shams that document 01 names, those of a signal that tells whom it woke and of a start only after, and one in the memory, refuted: no executive that meets the contracts behaves so, whatever memory it is lent.
 use Prim.Native.Nat.{ℕ}
-use mathlib.Core.Path.{_≡_, ap, _∙_}
+use mathlib.Core.Path.{_≡_, sym, ap, _∙_}
 use mathlib.Core.Bool.{true}
 use mathlib.Core.List.{List, [], _∷_}
 use native.Mathlib.Omega.{arith}
@@ -8,7 +8,7 @@ use lib.ListN.{getD}
 use Rattle.ledger.specs.Lists.{byte}
 use Rattle.ledger.specs.Config.{Config, configIn, configRefusal}
 use Rattle.ledger.specs.Session.{run, session}
-use Rattle.ledger.specs.Shams.{twoTasks, takes, puts, delays, starts, ticks, waits, waitsOwn, signals, exits, startsOther, the-answers}
+use Rattle.ledger.specs.Shams.{twoTasks, takes, puts, delays, starts, ticks, waits, waitsOwn, signals, exits, startsOther, threeTasks, executes, suspends, terminates, itself, tooMany, the-answers}
 use Rattle.tables.specs.Layout.{regions}
 use Rattle.tables.specs.Decode.{stateAs}
 use Rattle.tables.specs.Shows.{semaphoreCount}
@@ -106,6 +106,34 @@ module _ (a : List (List ℕ)) where
       let is : shows 4 3 ≡ 0 = of-session x (the-answers .wakingPut) 4 3 in
       omega (arith, h, is)
 
+  -- ---- start only after
+
+  of-three : {fs : List (List ℕ)} → Played threeTasks fs a → {l : List (List ℕ)} → session threeTasks fs ≡ l → (k i : ℕ) → shows k i ≡ byte i (getD l k [])
+  of-three x e k i = ap (λ (l : List (List ℕ)). byte i (getD l k [])) (ledgers (the-answers .acceptedThree) x ∙ e)
+
+  -- it starts a task while a first is idle; here one that looks at the last pair alone
+  pub no-start-before-a-first : Played threeTasks (executes 3 ∷ []) a → shows 1 0 ≡ 0 → ⊥
+  no-start-before-a-first x h =
+      let is : shows 1 0 ≡ 26 = of-three x (the-answers .early) 1 0 in
+      omega (arith, h, is)
+
+  -- a first that is suspended counts as idle
+  pub no-suspended-first-as-idle : Played threeTasks (executes 2 ∷ suspends 2 ∷ executes 3 ∷ []) a → shows 3 0 ≡ 26 → ⊥
+  no-suspended-first-as-idle x h =
+      let is : shows 3 0 ≡ 0 = of-three x (the-answers .suspended) 3 0 in
+      omega (arith, h, is)
+
+  -- it tests 26 before 5, or before 20
+  pub no-26-before-5 : Played threeTasks (executes 2 ∷ executes 3 ∷ terminates 2 ∷ waits ∷ executes 3 ∷ []) a → shows 5 0 ≡ 26 → ⊥
+  no-26-before-5 x h =
+      let is : shows 5 0 ≡ 5 = of-three x (the-answers .ownNumber) 5 0 in
+      omega (arith, h, is)
+
+  pub no-26-before-20 : Played threeTasks (waits ∷ executes 3 ∷ []) a → shows 2 0 ≡ 26 → ⊥
+  no-26-before-20 x h =
+      let is : shows 2 0 ≡ 20 = of-three x (the-answers .nobody) 2 0 in
+      omega (arith, h, is)
+
   -- it keeps another byte for DONE than 255
   abbrev firstSemaphore : Memory → ℕ
   firstSemaphore m = let c = configIn twoTasks in getD (regions (shapeOf c) (tablesPart c m) .semaphores) 0 0
@@ -116,3 +144,14 @@ module _ (a : List (List ℕ)) where
       let c : Config = configIn twoTasks in
       let v : Valued c (run c (signals ∷ []) .0) (x .after) = one-value c (run c (signals ∷ []) .0) (x .after) (every-list (the-answers .accepted) (x .full) (x .configured) (x .fed) .tidy) in
       h (v .semaphores 0 (omega arith) ∙ ap stateAs (the-answers .done))
+
+-- it accepts a task as its own first, or 65 pairs
+module _ {m m' : Memory} {r : ℕ} (full : fullSize m ≡ true) where
+  of-refused : (g : List ℕ) (n : ℕ) → configRefusal g ≡ n → (n ≡ 0 → ⊥) → Configures g m m' r → r ≡ n
+  of-refused g n e some x = x .refused full (λ z. some (sym e ∙ z)) .0 ∙ e
+
+  pub no-task-as-its-first : Configures itself m m' r → r ≡ 0 → ⊥
+  no-task-as-its-first x h = omega (arith, h, of-refused itself 3 (the-answers .equal) (λ z. omega arith) x)
+
+  pub no-65-pairs : Configures tooMany m m' r → r ≡ 0 → ⊥
+  no-65-pairs x h = omega (arith, h, of-refused tooMany 2 (the-answers .many) (λ z. omega arith) x)
