@@ -200,6 +200,9 @@ pub record Table : Type 0 where
   -- task 3 runs while its first is idle, and names itself; then nobody runs
   five-comes-before-26 : TalkIn (yard "0203") ("0C02000000" ▸ "00010000" ∷ "0C03000000" ▸ "00010000" ∷ "0B02000000" ▸ "00010000" ∷ "0100010000" ▸ "00030001" ∷ "0C03000000" ▸ "05030001" ∷ [])
   and-so-does-20 : TalkIn (yard "0203") ("0100010000" ▸ "00000000" ∷ "0C03000000" ▸ "14000000" ∷ [])
+  a-task-that-runs-is-not-started-again-either : TalkIn (yard "0203") ("0C02000000" ▸ "00010000" ∷ "0C03000000" ▸ "00010000" ∷ "0B02000000" ▸ "00010000" ∷ "0C03000000" ▸ "1A010000" ∷ [])
+  -- task 1, the first of task 2, has ended; task 2 starts task 3
+  only-the-tasks-own-firsts-are-asked : TalkIn (yard "01020203") ("0C02000000" ▸ "00010000" ∷ "0B00000000" ▸ "00020001" ∷ "0C03000000" ▸ "00020000" ∷ [])
   a-pair-may-occur-twice : configRefusal (yard "02030203") ≡ 0
   both-are-tasks : (configRefusal (yard "0003") ≡ 3) × (configRefusal (yard "0304") ≡ 3)
   the-first-is-the-lower : (configRefusal (yard "0302") ≡ 3) × (configRefusal (yard "0202") ≡ 3)
@@ -311,6 +314,8 @@ the-table = record {
   terminating-a-first-leaves-the-others-running = refl;
   five-comes-before-26 = refl;
   and-so-does-20 = refl;
+  a-task-that-runs-is-not-started-again-either = refl;
+  only-the-tasks-own-firsts-are-asked = refl;
   a-pair-may-occur-twice = refl;
   both-are-tasks = (refl, refl);
   the-first-is-the-lower = (refl, refl);

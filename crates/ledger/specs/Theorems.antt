@@ -35,7 +35,7 @@ pub mod Told
 pub mod ToldAfter
 pub mod Walk
 pub mod Callers
--- a task is started only after its firsts (started-after, begins-after)
+-- a task is started only after its firsts (executes-after, started-after, begins-after)
 pub mod Starts
 -- messages 1 to G, none twice: every step of every ledger keeps it (once-step)
 pub mod Once

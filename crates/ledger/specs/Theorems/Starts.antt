@@ -1,5 +1,5 @@
--- Start only after: a task that a frame takes out of idle has no idle first before the frame (started-after), and one that begins runnable has none
--- in the fresh ledger (begins-after).
+-- Start only after: an accepted execute is of a task without an idle first (executes-after), and no other frame takes a task out of idle (started-after);
+-- nor has a task that begins runnable an idle first in the fresh ledger (begins-after).
 use Prim.Native.Nat.{ℕ, zero, suc, _≤_}
 use mathlib.Core.Path.{_≡_, refl, sym, _∙_, ap, subst}
 use mathlib.Core.Bool.{Bool, true, false, not, _&&_}
@@ -12,7 +12,7 @@ use Rattle.ledger.specs.Lists.{at, byte, any}
 use Rattle.ledger.specs.Config.{Pair, Config, configIn, configRefusal, goodPair}
 use Rattle.ledger.specs.Ledger.{Task, Ledger, nullTask, task, running, freshTask, fresh}
 use Rattle.ledger.specs.Services.{Code, EXECUTE}
-use Rattle.ledger.specs.Refusals.{fields, codeAt, call, holdsBack, meets26, fromInput, fromState, refusal}
+use Rattle.ledger.specs.Refusals.{fields, meantTask, codeAt, call, holdsBack, meets26, fromInput, fromState, refusal}
 use Rattle.ledger.specs.Session.{step}
 use Rattle.ledger.specs.Theorems.Items.{Numbered, at-put-other}
 use Rattle.ledger.specs.Theorems.Checks.{and-left, and-right, within-numbered, passes, at-all, at-any}
@@ -59,14 +59,24 @@ module _ (c : Config) (l : Ledger) where
           (λ a x v ts o h. ap (λ k. k .blocks .idle) (sym (at-put-other ts (call c (running l) f .a) u v nullTask (another e a x))) ∙ h) after in
           absurd (never (sym was ∙ before))
 
-  -- for every ledger and every frame
-  pub started-after : (f : List ℕ) (u : ℕ) → task l u .blocks .idle ≡ true → task (step c f l .ledger) u .blocks .idle ≡ false
-      → (i : ℕ) → Numbered (length (c .pairs)) i → pair c i .then ≡ u → task l (pair c i .first) .blocks .idle ≡ false
+  -- none of the task's firsts is idle
+  abbrev pub NoIdleFirst : ℕ → Type 0
+  NoIdleFirst u = (i : ℕ) → Numbered (length (c .pairs)) i → pair c i .then ≡ u → task l (pair c i .first) .blocks .idle ≡ false
+
+  free-says : (u : ℕ) → Free u → NoIdleFirst u
   unfolding holdsBack
-  started-after f u before after i n e =
+  free-says u h i n e =
       let p = pair c i in
-      let x : (eqb (p .then) u && task l (p .first) .blocks .idle) ≡ false = at-any (holdsBack l u) (c .pairs) i (record { first = 0; then = 0 }) (started-free f u before after) n in
+      let x : (eqb (p .then) u && task l (p .first) .blocks .idle) ≡ false = at-any (holdsBack l u) (c .pairs) i (record { first = 0; then = 0 }) h n in
       ap (λ (b : Bool). b && task l (p .first) .blocks .idle) (sym (eq-eqb (p .then) u e)) ∙ x
+
+  -- for every ledger and every frame
+  pub executes-after : (f : List ℕ) → refusal c l f ≡ 0 → codeAt (byte 0 f) ≡ EXECUTE → NoIdleFirst (byte 1 f)
+  unfolding call fields meantTask
+  executes-after f h e = free-says (byte 1 f) (subst (λ (k : Code). Free (meantTask (fields k .A) (running l) (byte 1 f))) e (executes-free f h e))
+
+  pub started-after : (f : List ℕ) (u : ℕ) → task l u .blocks .idle ≡ true → task (step c f l .ledger) u .blocks .idle ≡ false → NoIdleFirst u
+  started-after f u before after = free-says u (started-free f u before after)
 
 -- ---- in the fresh ledger
 
