@@ -11,7 +11,7 @@ use Rattle.ledger.specs.Config.{Config}
 use Rattle.ledger.specs.Services.{Code, WAIT, SIGNAL, PEND, SEND, SENDW, RECEIVE, DEQUEUE, ENQUEUE, RESUME, SUSPEND, TERMINATE, EXECUTE, DELAY, TIMER, PURGE, TICK, EXIT}
 use Rattle.ledger.specs.Refusals.{FieldX, noX, aMessage, aTockValue, aSwitch, FieldB, noB, ofSelf, ofTask, orNone, Follows, xAlone, xAndEntry, Waits, noWait, onB, taskOnB, onNotEmpty, onNotFull, fields, valueX, behindX, meantTask, wrongQueue, isMessage}
 use Rattle.ledger.specs.Theorems.Items.{Numbered}
-use Rattle.ledger.specs.Theorems.Checks.{within-numbered}
+use Rattle.ledger.specs.Theorems.Checks.{never, within-numbered}
 use Rattle.ledger.specs.Theorems.Accepted.{GoodA, GoodB, GoodNumber}
 use Rattle.tables.specs.declared.shape.Shape.{Shape}
 use Rattle.tables.specs.Layout.{OneOf}
@@ -47,9 +47,6 @@ WaitsIn s onB a b = OneOf (s .semaphores) b
 WaitsIn s taskOnB a b = OneOf (s .tasks) a × OneOf (s .semaphores) b
 WaitsIn s onNotEmpty a b = OneOf (s .queues) a
 WaitsIn s onNotFull a b = OneOf (s .queues) a
-
-never : {P : Type 0} → false ≡ true → P
-never e = let z : _≡_ {A = ℕ} 0 1 = cc in absurd (omega arith)
 
 module _ {c : Config} {s : Shape} (o : Of c s) where
   task-in : (t : ℕ) → Numbered (c .T) t → OneOf (s .tasks) t

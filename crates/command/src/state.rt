@@ -130,8 +130,8 @@ pub fn state(
     if busy(waits, tables, shape, a, b) {
         return 25;
     }
-    let to_start = u.a;
-    if before_first(to_start, config, tables, shape, a) {
+    let field = u.a;
+    if before_first(field, config, tables, shape, a) {
         return 26;
     }
     if lies(kind, tables, shape, x) {

@@ -10,12 +10,11 @@ use borrow.Author.Tests.{le-leb, not-false}
 use Rattle.rows.specs.Splice.{cut}
 use Rattle.ledger.specs.Lists.{_⇒_, byte, word, sum, all}
 use Rattle.ledger.specs.Config.{QueueShape, configIn, controller, longest, front, goodHead, goodLength, goodRest, configRefusal}
-use Rattle.ledger.specs.Theorems.Twos.{twos-length}
-use Rattle.ledger.specs.Theorems.Configured.{Long, long}
+use Rattle.ledger.specs.Theorems.Configured.{Long, passed, states-many, shapes-many}
 use Rattle.ledger.specs.Theorems.Checks.{and-left, and-right, passes}
 use Rattle.tables.specs.declared.shape.Shape.{Shape}
 use Rattle.tables.specs.Shows.{Of}
-use Rattle.configuration.specs.Block.{product, goodQueues, goodPairs, rule, frameRule, rest-parts, shapes-in}
+use Rattle.configuration.specs.Block.{product, goodQueues, goodPairs, rule, frameRule, rest-parts, front-is, shapes-in}
 use Rattle.configuration.specs.Limits.{controller-made}
 use Rattle.configuration.specs.Head.{Head}
 use Rattle.configuration.specs.Layout.{laidOut, shapeOf, rule-head, rule-room, of-shape}
@@ -27,15 +26,15 @@ pub record Accepted (f : List ℕ) : Type 0 where
   pub rule : rule controller (configIn f) ≡ true
 
 pub accepted : (f : List ℕ) → configRefusal f ≡ 0 → Accepted f
-unfolding configRefusal configIn rule
+unfolding configIn rule
 accepted f h =
     let c = configIn f in
-    let p = passes (ltb (length f) 8 ⇒ 2 ∷ not (goodHead controller c) ⇒ 3 ∷ not (goodLength (front c) (length f)) ⇒ 2 ∷ not (goodRest controller c) ⇒ 3 ∷ []) refl h in
-    let r : (all (λ s. leb s 1) (c .states) && goodQueues controller c) ≡ true = and-left _ (goodPairs c) (sym (rest-parts controller c) ∙ not-false _ (p .1 .1 .1 .0)) in
+    let p = passed f h in
+    let r : (all (λ s. leb s 1) (c .states) && goodQueues controller c) ≡ true = and-left _ (goodPairs c) (sym (rest-parts controller c) ∙ p .rest) in
     record {
-      whole = long (front c) (length f) (not-false _ (p .1 .1 .0));
+      whole = p .whole;
       states = and-left _ (goodQueues controller c) r;
-      rule = rw (not-false (goodHead controller c) (p .1 .0)) (and-right (all (λ s. leb s 1) (c .states)) _ r);
+      rule = rw (p .head) (and-right (all (λ s. leb s 1) (c .states)) _ r);
     }
 
 module _ (f : List ℕ) (a : Accepted f) where
@@ -53,19 +52,15 @@ module _ (f : List ℕ) (a : Accepted f) where
   pub accepted-length : 8 ≤ length f
   accepted-length = omega (arith, a .whole .front)
 
-  pub accepted-states : length (configIn f .states) ≡ configIn f .T
-  unfolding configIn
-  accepted-states = simp (length-take, length-drop) (omega (arith, a .whole .front))
+  front-in : front (configIn f) ≤ length f
+  front-in = omega (arith, front-is f, a .whole .front)
 
-  accepted-shapes : length (configIn f .shapes) ≡ configIn f .Q
-  unfolding configIn
-  accepted-shapes =
-      let l : length (take (2 * byte 2 f) (drop (8 + byte 0 f) f)) ≡ 2 * byte 2 f = simp (length-take, length-drop) (omega (arith, a .whole .front)) in
-      twos-length _ _ (byte 2 f) (omega (arith, l)) (omega (arith, l))
+  pub accepted-states : length (configIn f .states) ≡ configIn f .T
+  accepted-states = states-many f front-in
 
   -- the shape of its tables
   pub accepted-of : Of (configIn f) (shapeOf (configIn f))
-  accepted-of = of-shape controller controller-made (configIn f) (a .rule) accepted-shapes
+  accepted-of = of-shape controller controller-made (configIn f) (a .rule) (shapes-many f front-in)
 
   -- as it is laid out, with the bytes of the queues behind the t states
   module _ (t q n : ℕ) (et : t ≡ byte 0 f) (eq : q ≡ byte 2 f) (en : n ≡ bytesIn (cut f (8 + t) (8 + t + 2 * q))) where

@@ -29,7 +29,7 @@ unfoldable pub rule : Limits → Config → Bool
 rule m c = goodHead m c && goodQueues m c
 
 -- of the frame that the block holds: it has what is in front of the pairs, and is no longer than the longest. The pairs are not tested: any
--- bytes mean some
+-- bytes mean pairs
 unfoldable pub frameRule : Limits → List ℕ → Bool
 frameRule m f = leb (front (configIn f)) (length f) && leb (length f) (longest m) && rule m (configIn f)
 

@@ -109,8 +109,8 @@ module _ (m : Limits) (made : Made m) (c : Config) (h : rule m c ≡ true) where
         }
 
 -- the bytes of its frame in front of the pairs
-abbrev pub frameBytes : Shape → ℕ
-frameBytes s = 8 + s .tasks + 2 * s .queues
+abbrev pub frontBytes : Shape → ℕ
+frontBytes s = 8 + s .tasks + 2 * s .queues
 
 -- there is no other
 pub of-one : (c : Config) (s : Shape) → Of c s → s ≡ shapeOf c

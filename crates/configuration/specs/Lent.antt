@@ -12,11 +12,11 @@ use Rattle.rows.specs.Laws.{length-cut}
 use Rattle.ledger.specs.Lists.{byte, sum}
 use Rattle.ledger.specs.Config as config
 use Rattle.ledger.specs.Config.{Limits, longest, shapesIn, configIn, front, goodHead}
-use Rattle.ledger.specs.Theorems.Twos.{twos-length}
+use Rattle.ledger.specs.Theorems.Configured.{shapes-many}
 use Rattle.tables.specs.declared.shape.Shape.{Shape}
 use Rattle.tables.specs.Shows.{Of}
 use Rattle.configuration.specs.declared.Lent.the-variants.{Good}
-use Rattle.configuration.specs.Block.{and-no, product, goodShapes, goodQueues, rule, frameRule, shapes-in}
+use Rattle.configuration.specs.Block.{and-no, product, goodShapes, goodQueues, rule, frameRule, front-is, shapes-in}
 use Rattle.configuration.specs.Limits.{Made}
 use Rattle.configuration.specs.Room.{roomIn, room-good, room-bad}
 use Rattle.configuration.specs.Layout.{laidOut, shapeOf, Lends, of-shape}
@@ -53,10 +53,7 @@ module _ (m : Limits) (made : Made m) (f : List ℕ) where
       keeps = rw head (ap (goodShapes m) shapes-are ∙ room-good m (made .bytes) part (omega arith) .0)
 
       many : length (configIn f .shapes) ≡ configIn f .Q
-      unfolding configIn
-      many =
-          let l = length-cut f (8 + t) (8 + t + 2 * q) (omega arith) in
-          ap length (shapes-in f t q et eq) ∙ twos-length _ part (byte 2 f) (omega (arith, l)) (omega (arith, l))
+      many = shapes-many f (omega (arith, front-is f))
 
       pub lent-good : (s : Shape) → s ≡ laidOut (byte 0 f) (byte 1 f) (byte 2 f) (byte 3 f) (byte 4 f) (byte 5 f) n → Lends m f (Good s)
       unfolding shapeOf configIn

@@ -7,6 +7,7 @@ pub mod Room
 pub mod Refusal
 pub mod Layout
 pub mod Lent
+pub mod Kept
 pub mod Ring
 pub mod Fresh
 pub mod Accepted

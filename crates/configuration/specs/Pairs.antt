@@ -38,7 +38,7 @@ pub record Paired (states : List ℕ) (a b : ℕ) : Type 0 where
   pub upto : b ≤ length states
 
 -- the item of a number from 1 on
-pub at-number : (l : List ℕ) (n : ℕ) → 1 ≤ n → at l n 0 ≡ getD l (n - 1) 0
+at-number : (l : List ℕ) (n : ℕ) → 1 ≤ n → at l n 0 ≡ getD l (n - 1) 0
 unfolding at
 at-number l zero h = absurd (omega arith)
 at-number l (suc n) h = let e : suc n - 1 ≡ n = omega arith in rw e

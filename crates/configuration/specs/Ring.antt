@@ -16,7 +16,7 @@ use Rattle.tables.specs.declared.shape.Shape.{Shape}
 use Rattle.tables.specs.Shows.{bytesOf, begins, Of}
 use Rattle.queues.specs.Rings.{ringOf}
 use Rattle.configuration.specs.Block.{product, shapes-in}
-use Rattle.configuration.specs.Layout.{frameBytes}
+use Rattle.configuration.specs.Layout.{frontBytes}
 use Rattle.configuration.specs.Room.{bytesIn}
 
 -- ---- the first of them take no more
@@ -28,7 +28,7 @@ sum-take (suc i) [] = omega arith
 sum-take (suc i) (x ∷ xs) = omega (arith, sum-take i xs)
 
 -- ---- of a block
-module _ (g : List ℕ) (s : Shape) (long : frameBytes s ≤ length g) (o : Of (configIn g) s) (i : ℕ) (hi : i < s .queues) where
+module _ (g : List ℕ) (s : Shape) (long : frontBytes s ≤ length g) (o : Of (configIn g) s) (i : ℕ) (hi : i < s .queues) where
   t-is : s .tasks ≡ byte 0 g
   unfolding configIn
   t-is = o .tasks
@@ -71,18 +71,18 @@ module _ (g : List ℕ) (s : Shape) (long : frameBytes s ≤ length g) (o : Of (
   unfolding begins bytesOf
   front-low = omega (arith, front-bytes, sum-take i (configIn g .shapes), small)
 
-  pair-is : shape (configIn g) (suc i) ≡ record { width = getD g (here + 2 * i) 0; depth = getD g (here + 2 * i + 1) 0 }
+  shape-is : shape (configIn g) (suc i) ≡ record { width = getD g (here + 2 * i) 0; depth = getD g (here + 2 * i + 1) 0 }
   unfolding shape at
-  pair-is =
+  shape-is =
       let e : here + (2 * i + 1) ≡ here + 2 * i + 1 = omega arith in
       ap (λ (z : List config.QueueShape). getD z i (record { width = 0; depth = 0 })) shapes-are ∙ twos-at _ i part _ (omega (arith, part-length))
       ∙ rw (part-at (2 * i) (omega arith), part-at (2 * i + 1) (omega arith), e)
 
   ring-read : record { width = getD g (here + 2 * i) 0; depth = getD g (here + 2 * i + 1) 0; base = s .bodyat + bytesIn (cut g here (here + 2 * i)) } ≡ ringOf (configIn g) s (suc i)
   unfolding ringOf
-  ring-read = λ x. record { width = sym pair-is x .width; depth = sym pair-is x .depth; base = s .bodyat + front-bytes x }
+  ring-read = λ x. record { width = sym shape-is x .width; depth = sym shape-is x .depth; base = s .bodyat + front-bytes x }
 
-module _ (g : List ℕ) (s : Shape) (long : frameBytes s ≤ length g) (o : Of (configIn g) s) (q : ℕ) (lo : 1 ≤ q) (hi : q ≤ s .queues) where
+module _ (g : List ℕ) (s : Shape) (long : frontBytes s ≤ length g) (o : Of (configIn g) s) (q : ℕ) (lo : 1 ≤ q) (hi : q ≤ s .queues) where
   pub ring-inside : 8 + s .tasks + 2 * (q - 1) + 1 < length g
   ring-inside = ring-in g s long o (q - 1) (omega arith)
 

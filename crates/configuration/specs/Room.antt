@@ -19,9 +19,7 @@ unfoldable pub bytesOrNone : (width depth : ℕ) → ℕ
 bytesOrNone w d = cond (within 1 16 w && within 1 255 d) (w * d) 4097
 
 unfoldable pub roomIn : List ℕ → ℕ
-roomIn [] = 0
-roomIn (w ∷ []) = 0
-roomIn (w ∷ d ∷ r) = bytesOrNone w d + roomIn r
+roomIn l = sum (twos bytesOrNone l)
 
 -- ---- one queue
 
@@ -91,7 +89,7 @@ room-sum (w ∷ d ∷ r) e =
     rw here (ap (λ (n : ℕ). w * d + n) (room-sum r more))
 
 room-over : (l : List ℕ) → all shaped (shapesIn l) ≡ false → 4096 < roomIn l
-unfolding roomIn bytesOrNone twos all
+unfolding roomIn bytesOrNone twos all sum
 room-over [] e = let z : _≡_ {A = ℕ} 0 1 = ap (λ (b : Bool). cond b 0 1) e in absurd (omega (arith, z))
 room-over (w ∷ []) e = let z : _≡_ {A = ℕ} 0 1 = ap (λ (b : Bool). cond b 0 1) e in absurd (omega (arith, z))
 room-over (w ∷ d ∷ r) e = go (within 1 16 w && within 1 255 d) e (room-over r)
@@ -116,7 +114,7 @@ module _ (a k : ℕ) (l : List ℕ) where
   -- x is the queue's two bytes in one number
   module _ (h : 2 * k + 1 < length l) (x : ℕ) (width : x % 256 ≡ getD l (2 * k) 0) (depth : x / 256 ≡ getD l (2 * k + 1) 0) where
     pub room-on : (y : ℕ) → y ≡ bytesOrNone (x % 256) (x / 256) → a + roomIn (drop (2 * k) l) ≡ a + y + roomIn (drop (2 * (k + 1)) l)
-    unfolding roomIn
+    unfolding roomIn twos sum
     room-on y ey =
         let e : bytesOrNone (getD l (2 * k) 0) (getD l (2 * k + 1) 0) ≡ y = sym (ey ∙ rw (width, depth)) in
         ap (λ (r : List ℕ). a + roomIn r) (two-next k l h) ∙ rw e (omega arith)
@@ -128,7 +126,7 @@ module _ (a k : ℕ) (l : List ℕ) where
         ap (λ (r : List ℕ). a + bytesIn r) (two-next k l h) ∙ rw e (omega arith)
 
   pub room-end : length l ≤ 2 * k → a + roomIn (drop (2 * k) l) ≡ a
-  unfolding roomIn
+  unfolding roomIn twos sum
   room-end h = ap (λ (r : List ℕ). a + roomIn r) (drop-of-length-le l {i = 2 * k} h) ∙ omega arith
 
   pub bytes-end : length l ≤ 2 * k → a + bytesIn (drop (2 * k) l) ≡ a

@@ -11,11 +11,12 @@ use tables::shape::Shape;
 ghost use mathlib.Core.Path.{_≡_};
 ghost use Prim.Native.Nat.{_≤_};
 ghost use lib.ListN.{length};
+ghost use Rattle.rows.specs.Splice.{cut};
 ghost use Rattle.ledger.specs.Config.{longest, configIn, configRefusal};
 ghost use Rattle.tables.specs.Shows.{Of};
 ghost use Rattle.queues.specs.Rings.{ringOf};
 ghost use Rattle.configuration.specs.Limits.{limitsOf, Made};
-ghost use Rattle.configuration.specs.Layout.{frameBytes, laidOut, Lends};
+ghost use Rattle.configuration.specs.Layout.{frontBytes, laidOut, Lends};
 
 // The regions of the tables, one behind the other.
 pub fn lay(t: u8, s: u8, q: u8, r: u8, g: u8, k: u8, room: usize) -> Shape
@@ -71,22 +72,19 @@ pub fn shape_of(frame: &[u8]) -> Shape
     )
 }
 
-// The structure rule of number 11, and the shape of a frame that keeps it. Its initial states are not read again, and of its
-// pairs any bytes mean some.
-pub fn lent(limits: Limits, frame: &[u8]) -> Lent
-    requires { ⌜ Made (limitsOf limits) × (length (now frame) ≤ longest (limitsOf limits)) ⌝ }
-    ensures { λ r. ⌜ Lends (limitsOf limits) (now (frame .entry)) r ⌝ }
+// The structure rule of number 11, and the shape of a frame that keeps it. The frame is the first n of the block's bytes. Its initial
+// states are not read again, and of its pairs any bytes mean pairs.
+pub fn lent(limits: Limits, frame: &[u8], n: usize) -> Lent
+    requires { ⌜ Made (limitsOf limits) × (longest (limitsOf limits) ≤ length (now frame)) × (n ≤ longest (limitsOf limits)) ⌝ }
+    ensures { λ r. ⌜ Lends (limitsOf limits) (cut (now (frame .entry)) 0 n) r ⌝ }
 {
-    if frame.len() < 8 {
-        return Lent::Bad;
-    }
     if !good_head(limits, frame) {
         return Lent::Bad;
     }
     let queues = wide(frame[2]);
     let at = 8 + wide(frame[0]);
     let end = at + 2 * queues;
-    if frame.len() < end {
+    if n < end {
         return Lent::Bad;
     }
     let sum = room(&frame[at..end], queues);
@@ -107,7 +105,7 @@ pub fn lent(limits: Limits, frame: &[u8]) -> Lent
 
 // The ring of queue q. Its entries lie behind those of the queues before it.
 pub fn ring_of(frame: &[u8], shape: Shape, q: usize) -> Ring
-    requires { ⌜ (frameBytes shape ≤ length (now frame)) × Of (configIn (now frame)) shape × (1 ≤ q) × (q ≤ shape .queues) ⌝ }
+    requires { ⌜ (frontBytes shape ≤ length (now frame)) × Of (configIn (now frame)) shape × (1 ≤ q) × (q ≤ shape .queues) ⌝ }
     ensures { λ r. ⌜ r ≡ ringOf (configIn (now (frame .entry))) shape q ⌝ }
 {
     let before = q - 1;

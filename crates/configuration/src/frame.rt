@@ -89,7 +89,7 @@ fn good_states(states: &[u8]) -> bool
 }
 
 // Width and depth of a queue in one number, the depth high: two bytes that are loaded at once, so that the loops below go in vectors.
-fn pair(shapes: &[u8], i: usize) -> u16
+fn size(shapes: &[u8], i: usize) -> u16
     requires { ⌜ i + 2 ≤ length (now shapes) ⌝ }
     ensures { λ r. ⌜ (r % 256 ≡ getD (now (shapes .entry)) i 0) × (r / 256 ≡ getD (now (shapes .entry)) (i + 1) 0) ⌝ }
 {
@@ -97,18 +97,18 @@ fn pair(shapes: &[u8], i: usize) -> u16
 }
 
 // The bytes of one queue.
-fn bytes_of(pair: u16) -> u32
-    ensures { λ r. ⌜ (r ≡ pair % 256 * (pair / 256)) × (r ≤ 65025) ⌝ }
+fn bytes_of(size: u16) -> u32
+    ensures { λ r. ⌜ (r ≡ size % 256 * (size / 256)) × (r ≤ 65025) ⌝ }
 {
-    ((pair % 256) as u32) * ((pair / 256) as u32)
+    ((size % 256) as u32) * ((size / 256) as u32)
 }
 
 // The bytes of one queue, or 4,097 if there is no such queue.
-fn bytes_or_none(pair: u16) -> u32
-    ensures { λ r. ⌜ (r ≡ bytesOrNone (pair % 256) (pair / 256)) × (r ≤ 4097) ⌝ }
+fn bytes_or_none(size: u16) -> u32
+    ensures { λ r. ⌜ (r ≡ bytesOrNone (size % 256) (size / 256)) × (r ≤ 4097) ⌝ }
 {
-    let bytes = bytes_of(pair);
-    if pair % 256 > 16 {
+    let bytes = bytes_of(size);
+    if size % 256 > 16 {
         return 4097;
     }
     if bytes == 0 {
@@ -125,7 +125,7 @@ pub fn room(shapes: &[u8], queues: usize) -> u32
     let mut sum: u32 = 0;
     let mut k: usize = 0;
     while k < queues {
-        sum += bytes_or_none(pair(shapes, 2 * k));
+        sum += bytes_or_none(size(shapes, 2 * k));
         k += 1;
     }
     sum
@@ -139,7 +139,7 @@ pub fn taken(shapes: &[u8], queues: usize) -> u32
     let mut sum: u32 = 0;
     let mut k: usize = 0;
     while k < queues {
-        sum += bytes_of(pair(shapes, 2 * k));
+        sum += bytes_of(size(shapes, 2 * k));
         k += 1;
     }
     sum

@@ -7,7 +7,7 @@ ghost use Rattle.ledger.specs.Config.{pairsIn, goodLength, goodPair};
 // The most pairs, on every memory.
 pub const MOST_PAIRS: usize = 64;
 
-// Whether a frame of this length ends with what is in front of the pairs, or with as many as there may be.
+// Whether a frame of this length has what is in front of the pairs, and behind it whole pairs, no more than there may be.
 pub fn good_length(front: usize, length: usize) -> bool
     ensures { λ r. ⌜ r ≡ goodLength front length ⌝ }
 {

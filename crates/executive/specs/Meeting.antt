@@ -15,15 +15,13 @@ use Rattle.tables.specs.Planes.{blocksAt}
 use Rattle.tables.specs.Encoded.{AsksFor}
 use Rattle.tables.specs.Shows.{recordIn, waitingIn, ShowsAs, moved}
 use Rattle.tables.specs.Stored.{shown-task}
+use Rattle.ledger.specs.Theorems.Checks.{never}
 use Rattle.ledger.specs.Lists.{at}
 use Rattle.ledger.specs.Config.{Config}
 use Rattle.ledger.specs.Ledger as ledger
 use Rattle.ledger.specs.Ledger.{Ledger, task, running, setOutcome, setRequest, none, refused}
 use Rattle.ledger.specs.Services.{issue}
 use Rattle.ledger.specs.Session.{openRequest, isOpen, refused21, issueAgain, reissue}
-
-pub never : {P : Type 0} → false ≡ true → P
-never e = let z : _≡_ {A = ℕ} 0 1 = cc in absurd (omega arith)
 
 -- ---- issued again
 pub again-yes : (c : Config) (t : ℕ) (r : ledger.Request) (L : Ledger) (x : Bool) → x ≡ refused21 c r L → x ≡ true → setOutcome t (refused 21) L ≡ issueAgain c t r L

@@ -25,7 +25,7 @@ use Rattle.ledger.specs.Theorems.Accepted.{GoodX, Accepted, accepted}
 use Rattle.command.specs.Refused.{Refuses}
 use Rattle.executive.specs.declared.settling.Settled.{Settled}
 use Rattle.executive.specs.Meant.{MessageRoom}
-use Rattle.executive.specs.Meeting.{never}
+use Rattle.ledger.specs.Theorems.Checks.{never}
 use Rattle.executive.specs.Kept.{Ended}
 
 -- the effect of an accepted frame, and settling

@@ -12,7 +12,7 @@ use lib.ListN.{length, take, drop, set, getD, length-append, length-take, length
 use lib.Seq.{take-suc, take-all, take-suc-set, take-append-le, getD-drop}
 use Rattle.rows.specs.Splice.{cut}
 use Rattle.ledger.specs.Lines.{longestFrame, frameOf}
-use Rattle.executive.specs.Meeting.{never}
+use Rattle.ledger.specs.Theorems.Checks.{never}
 use Rattle.feeding.specs.declared.gathering.Gathered.{Gathered}
 use Rattle.feeding.specs.Input.{Stands, first, runs, over, lineFed, Fed, behind, fed}
 use Rattle.feeding.specs.Whole.{parts}

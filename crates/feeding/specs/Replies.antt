@@ -26,7 +26,7 @@ use Rattle.answer.specs.Read.{read-length}
 use Rattle.line.specs.Answers.{answerTo, leftIn, Gives}
 use Rattle.line.specs.declared.Written.{Written}
 use Rattle.line.specs.declared.Written.the-variants as written-as
-use Rattle.executive.specs.Meeting.{never}
+use Rattle.ledger.specs.Theorems.Checks.{never}
 use Rattle.mcx11.specs.Contract.{Memory, memory, hasSizes, isMarked, configOf, tablesPart, slotsPart, timersPart, lentWellFor, lentWell, Displays, answering, Configures, Frames}
 use Rattle.mcx11.specs.Answer.{answerOf}
 use Rattle.mcx11.specs.Sizes.{Full, sizes-full, well-frame}

@@ -1,5 +1,5 @@
--- Where document 01 leaves room, what we read in it: a row for each point, shown by a short session and proved by computing both sides.
--- docs/DECISIONS.md gives the reasons of most, under the same headings.
+-- Where documents 01 and 02 leave room, what we read in them: a row for each point, shown by a short session and proved by computing both sides.
+-- docs/DECISIONS.md gives the reasons of most.
 use Prim.Native.Nat.{ℕ}
 use Prim.Native.String.{String}
 use mathlib.Core.Path.{_≡_, refl}
@@ -12,7 +12,7 @@ use Rattle.ledger.specs.Session.{runFrom}
 use Rattle.ledger.specs.Lines.{longestFrame, number, result, frameOf, lineOf, readLine, writeLine, output}
 use Rattle.ledger.specs.Computing.Hex.{hex, letters, text}
 use Rattle.ledger.specs.Computing.Quick.{everything}
-use Rattle.ledger.specs.Computing.Sessions.{after, two, timing, number-of}
+use Rattle.ledger.specs.Computing.Sessions.{after, two, timing, pairTimes, number-of}
 
 -- a frame and its answer; a session of them behind a configuration
 infix 68 _▸_
@@ -209,12 +209,11 @@ pub record Table : Type 0 where
   an-idle-task-may-come-after-a-runnable-one : configRefusal (yard "0103") ≡ 0
   but-not-a-runnable-one-after-an-idle-one : configRefusal (hex "0200000000010001" ++ hex "0100" ++ hex "0102") ≡ 3
   an-odd-rest-is-2 : configRefusal (yard "020302") ≡ 2
-  -- 128 bytes of pairs have a length, and are refused for their equal numbers
-  a-rest-has-at-most-128-bytes : (configRefusal (yard "" ++ replicate 130 2) ≡ 2) × (configRefusal (yard "" ++ replicate 128 2) ≡ 3)
+  there-are-at-most-64-pairs : (configRefusal (yard "" ++ pairTimes 64 2 3) ≡ 0) × (configRefusal (yard "" ++ pairTimes 65 2 3) ≡ 2)
   the-length-is-tested-before-the-pairs : configRefusal (yard "000000") ≡ 2
 
 pub the-table : Table
-unfolding everything
+unfolding everything pairTimes
 the-table = record {
   a-suspended-task-may-be-delayed = refl;
   a-waiting-task-may-not-be-delayed = refl;
@@ -289,8 +288,8 @@ the-table = record {
   a-line-has-at-most-652-digits = refl;
   and-may-have-652 = refl;
   a-frame-above-326-bytes-has-no-line = refl;
-  the-longest-configuration-has-a-line = refl;
   and-one-of-326-has = refl;
+  the-longest-configuration-has-a-line = refl;
   reading-tests-1-before-11 = refl;
   then-the-room = refl;
   and-writing-too = refl;
@@ -322,6 +321,6 @@ the-table = record {
   an-idle-task-may-come-after-a-runnable-one = refl;
   but-not-a-runnable-one-after-an-idle-one = refl;
   an-odd-rest-is-2 = refl;
-  a-rest-has-at-most-128-bytes = (refl, refl);
+  there-are-at-most-64-pairs = (refl, refl);
   the-length-is-tested-before-the-pairs = refl;
 }

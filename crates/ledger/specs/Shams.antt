@@ -3,11 +3,12 @@
 use Prim.Native.Nat.{ℕ}
 use mathlib.Core.Path.{_≡_, refl}
 use mathlib.Core.List.{List, [], _∷_, _++_}
-use lib.ListN.{getD, replicate}
+use lib.ListN.{getD}
 use Rattle.ledger.specs.Config.{configIn, configRefusal}
 use Rattle.ledger.specs.Ledger.{PENDING, DONE}
 use Rattle.ledger.specs.Session.{run, session}
 use Rattle.ledger.specs.Computing.Quick.{everything}
+use Rattle.ledger.specs.Computing.Sessions.{pairTimes}
 
 -- two tasks, one queue of width and depth 1, one timer, one tick a tock
 abbrev pub twoTasks : List ℕ
@@ -59,12 +60,12 @@ suspends t = 10 ∷ t ∷ 0 ∷ 0 ∷ 0 ∷ []
 abbrev pub terminates : ℕ → List ℕ
 terminates t = 11 ∷ t ∷ 0 ∷ 0 ∷ 0 ∷ []
 
--- one pair: of a task and itself; and 65 bytes twice, which are no pairs
+-- two tasks: one pair, of a task and itself; and 65 good pairs
 abbrev pub itself : List ℕ
 itself = 2 ∷ 0 ∷ 0 ∷ 0 ∷ 0 ∷ 1 ∷ 0 ∷ 125 ∷ 0 ∷ 0 ∷ 2 ∷ 2 ∷ []
 
 abbrev pub tooMany : List ℕ
-tooMany = (2 ∷ 0 ∷ 0 ∷ 0 ∷ 0 ∷ 1 ∷ 0 ∷ 125 ∷ 0 ∷ 0 ∷ []) ++ replicate 130 1
+tooMany = (2 ∷ 0 ∷ 0 ∷ 0 ∷ 0 ∷ 1 ∷ 0 ∷ 125 ∷ 0 ∷ 0 ∷ []) ++ pairTimes 65 1 2
 
 pub record ShamAnswers : Type 0 where
   pub accepted : configRefusal twoTasks ≡ 0
@@ -99,5 +100,5 @@ pub record ShamAnswers : Type 0 where
   pub done : getD (run (configIn twoTasks) (signals ∷ []) .0 .semaphores) 0 PENDING ≡ DONE
 
 pub the-answers : ShamAnswers
-unfolding everything
+unfolding everything pairTimes
 the-answers = record { accepted = refl; settled = refl; filled = refl; started = refl; ticked = refl; told = refl; wakingTick = refl; wakingPut = refl; acceptedThree = refl; early = refl; suspended = refl; ownNumber = refl; nobody = refl; equal = refl; many = refl; done = refl }

@@ -30,10 +30,11 @@ pub mod Untaken
 pub mod Issued
 pub mod HandsOver
 pub mod HandedOver
+-- what a frame does to one task, read backwards; Callers and Starts are instances
+pub mod Walk
 -- whom a signal request tells, before settling and after its frame (request-tells, signal-tells), and that nobody else is told (told-by-own-signal)
 pub mod Told
 pub mod ToldAfter
-pub mod Walk
 pub mod Callers
 -- a task is started only after its firsts (executes-after, started-after, begins-after)
 pub mod Starts

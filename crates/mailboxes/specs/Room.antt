@@ -7,6 +7,7 @@ use native.Mathlib.Omega.{arith}
 use lib.Dec.{ltb}
 use lib.ListN.{getD}
 use borrow.Author.Tests.{lt-ltb, le-ltb, ltb-true, ltb-false}
+use Rattle.ledger.specs.Theorems.Checks.{never}
 use Rattle.messages.specs.Pending.{numbersIn, occurs, completeIn}
 use Rattle.messages.specs.Records.{number-length}
 use Rattle.messages.specs.Full.{full}
@@ -36,9 +37,6 @@ wholeIn s d = completeIn (s .messages) (numbers s d)
 -- the rule as a frame asks it: only where no record is free
 unfoldable pub soundIn : Shape → List ℕ → Bool
 soundIn s d = ltb (counted s d) (s .messages) || wholeIn s d
-
-never : _≡_ {A = Bool} true false → ⊥
-never z = let o : _≡_ {A = ℕ} 0 1 = cc in omega arith
 
 module _ (s : Shape) (d : List ℕ) where
   pub whole-sound : wholeIn s d ≡ true → soundIn s d ≡ true
@@ -73,4 +71,4 @@ module _ (s : Shape) (d : List ℕ) where
             let f : occurs x (numbers s d) ≡ true = full (s .messages) x (one .0) (one .1) (numbers s d) h (number-length (counted s d) (regions s d .messages) ∙ omega (arith, e)) in
             let k : occurs x (numbers s d) ≡ false = ap (λ (i : ℕ). occurs x (numbersIn i (regions s d .messages))) (sym e) ∙ none in
             let z : _≡_ {A = Bool} true false = sym f ∙ k in
-            absurd (never z)
+            never (sym z)

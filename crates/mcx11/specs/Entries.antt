@@ -20,12 +20,12 @@ use Rattle.mailboxes.specs.Room.{soundIn}
 use Rattle.clock.specs.Held.{holding}
 use Rattle.configuration.specs.Limits.{controller-made}
 use Rattle.configuration.specs.Block.{rule, frameRule}
-use Rattle.configuration.specs.Layout.{frameBytes, shapeOf, of-one}
+use Rattle.configuration.specs.Layout.{frontBytes, shapeOf, of-one}
 use Rattle.configuration.specs.Accepted.{accepted, accepted-rule}
 use Rattle.configuration.specs.Started.{timersBytes, Started}
 use Rattle.command.specs.Configured.{framed}
 use Rattle.executive.specs.Suits.{Suits, suits}
-use Rattle.executive.specs.Meeting.{never}
+use Rattle.ledger.specs.Theorems.Checks.{never}
 use Rattle.executive.specs.Stepped.{Steps}
 use Rattle.answer.specs.Written.{written}
 use Rattle.parts.specs.Parts.{partAt, frameAt, ends, part, keptFrame, kept, Stays, Spares}
@@ -39,7 +39,7 @@ use Rattle.mcx11.specs.Displayed.{displays-well}
 
 -- the frame that the block keeps and the parts lie within the blocks, and the messages are sound. (No record, so that its parts stay out of sight)
 pub data Room (s : Shape) (g d z w : List ℕ) : Type 0 where
-  room : Of (configIn (keptFrame g)) s → frameBytes s ≤ length (keptFrame g) → frameAt + word partAt g ≤ length g → partAt + s .end ≤ length d → partAt + 16 * s .tasks ≤ length z
+  room : Of (configIn (keptFrame g)) s → frontBytes s ≤ length (keptFrame g) → frameAt + word partAt g ≤ length g → partAt + s .end ≤ length d → partAt + 16 * s .tasks ≤ length z
       → partAt + timersBytes s ≤ length w → soundIn s (part (s .end) d) ≡ true → Room s g d z w
 
 -- the parts went as the ledger goes, and the bytes outside them stay

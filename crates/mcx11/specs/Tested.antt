@@ -17,11 +17,12 @@ use Rattle.mailboxes.specs.Room.{soundIn}
 use Rattle.configuration.specs.declared.Lent.{Lent}
 use Rattle.configuration.specs.declared.Lent.the-variants.{Bad, Good}
 use Rattle.configuration.specs.Limits.{Made, controller-made}
-use Rattle.configuration.specs.Block.{rule, frameRule}
+use Rattle.configuration.specs.Block.{rule, frameRule, front-is}
 use Rattle.configuration.specs.Layout.{shapeOf, of-one, of-shape, Lends, rule-head, rule-room}
-use Rattle.ledger.specs.Theorems.Twos.{twos-length}
+use Rattle.ledger.specs.Theorems.Configured.{shapes-many}
 use Rattle.configuration.specs.Started.{timersBytes}
 use Rattle.rows.specs.Splice.{cut}
+use Rattle.rows.specs.Laws.{cut-cut}
 use Rattle.parts.specs.Parts.{partAt, frameAt, markedBy, part, keptFrame}
 use Rattle.mcx11.specs.Contract.{Memory, memory, Sizes, sizesOf, hasSizes, configMark, tablesMark, slotsMark, timersMark, isMarked, configOf, tablesPart, messagesSound, lentWellFor, lentWell}
 use Rattle.mcx11.specs.Sizes.{RoomForMarks, room-for-marks}
@@ -63,26 +64,20 @@ module _ (k : Limits) (made : Made k) (f : List ℕ) (keeps : frameRule k f ≡ 
   unfolding frameRule
   frame-short = leb-true (length f) (longest k) (search (and-left, and-right) depth 9)
 
-  frame-shapes : length (configIn f .shapes) ≡ configIn f .Q
-  unfolding configIn
-  frame-shapes =
-      let l : length (take (2 * byte 2 f) (drop (8 + byte 0 f) f)) ≡ 2 * byte 2 f = simp (length-take, length-drop) (omega (arith, frame-front)) in
-      twos-length _ _ (byte 2 f) (omega (arith, l)) (omega (arith, l))
-
   -- the shape of its tables
   pub frame-shape : Of (configIn f) (shapeOf (configIn f))
-  frame-shape = of-shape k made (configIn f) frame-rule frame-shapes
+  frame-shape = of-shape k made (configIn f) frame-rule (shapes-many f (omega (arith, front-is f, frame-front)))
 
--- by the length that was read
+-- by the length that was read; and of the bytes that have room for every frame
 pub frame-is : (g : List ℕ) (n : ℕ) → n ≡ word partAt g → cut g frameAt (frameAt + n) ≡ keptFrame g
 unfolding keptFrame
 frame-is g n e = ap (λ (x : ℕ). cut g frameAt (frameAt + x)) e
 
+pub frame-among : (g : List ℕ) (n most : ℕ) → n ≤ most → n ≡ word partAt g → cut (cut g frameAt (frameAt + most)) 0 n ≡ keptFrame g
+frame-among g n most h e = cut-cut g frameAt (frameAt + most) 0 n (omega arith) ∙ frame-is g n e
+
 -- a length above the longest is no frame's
 module _ (k : Limits) (made : Made k) (g : List ℕ) (room : frameAt + longest k + 4 ≤ length g) (n : ℕ) (e : n ≡ word partAt g) where
-  pub frame-inside : n ≤ longest k → frameAt + n ≤ length g
-  frame-inside h = omega arith
-
   frame-longer : longest k < n → longest k < length (keptFrame g)
   unfolding keptFrame
   frame-longer h = simp (length-take, length-drop) (omega arith)

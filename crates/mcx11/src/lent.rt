@@ -125,11 +125,12 @@ pub fn by_frame(limits: Limits, config: &[u8]) -> Lent
     ensures { λ r. ⌜ Lends (limitsOf limits) (keptFrame (now (config .entry))) r ⌝ }
 {
     let n = parts::frame_length(config);
-    if n > longest(limits) {
+    let most = longest(limits);
+    if n > most {
         return Lent::Bad;
     }
-    let end = FRAME_AT + n;
-    configuration::block::lent(limits, &config[FRAME_AT..end])
+    let end = FRAME_AT + most;
+    configuration::block::lent(limits, &config[FRAME_AT..end], n)
 }
 
 // The messages of tables with this shape.

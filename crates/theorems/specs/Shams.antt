@@ -111,7 +111,7 @@ module _ (a : List (List ℕ)) where
   of-three : {fs : List (List ℕ)} → Played threeTasks fs a → {l : List (List ℕ)} → session threeTasks fs ≡ l → (k i : ℕ) → shows k i ≡ byte i (getD l k [])
   of-three x e k i = ap (λ (l : List (List ℕ)). byte i (getD l k [])) (ledgers (the-answers .acceptedThree) x ∙ e)
 
-  -- it starts a task while a first is idle; here one that looks at the last pair alone
+  -- it starts a task while a first is idle; one that looks at the last pair alone does
   pub no-start-before-a-first : Played threeTasks (executes 3 ∷ []) a → shows 1 0 ≡ 0 → ⊥
   no-start-before-a-first x h =
       let is : shows 1 0 ≡ 26 = of-three x (the-answers .early) 1 0 in

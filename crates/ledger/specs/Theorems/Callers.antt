@@ -21,7 +21,7 @@ pub told-by-own-signal : (c : Config) (f : List ℕ) (l : Ledger) (u t : ℕ) �
     → task (step c f l .ledger) u .outcome ≡ woke t → task l u .outcome ≡ woke t
 told-by-own-signal c f l u t n =
     let P : Task → Type 0 = λ k. k .outcome ≡ woke t in
-    let b : Bears u P = record {
+    let b : Bears P = record {
       same = λ k v i o h. sym o ∙ h;
       set = λ k v i o h. absurd (not-woke (v .outcome) t o h);
       ended = λ k v i o h. absurd (not-woke (v .outcome) t o h);

@@ -6,8 +6,8 @@ use mathlib.Core.List.{List, [], _∷_}
 use native.Mathlib.Omega.{arith}
 use borrow.Author.Tests.{leb-true, not-false}
 use lib.Dec.{leb, ltb}
-use lib.ListN.{length, length-take, length-drop}
-use Rattle.ledger.specs.Lists.{_⇒_, all, within}
+use lib.ListN.{length, take, drop, length-take, length-drop}
+use Rattle.ledger.specs.Lists.{_⇒_, byte, all, within}
 use Rattle.ledger.specs.Config.{QueueShape, Config, configIn, controller, mostPairs, front, goodHead, goodLength, goodPair, goodRest, configRefusal}
 use Rattle.ledger.specs.Services.{shape}
 use Rattle.ledger.specs.Theorems.Items.{Numbered}
@@ -66,11 +66,29 @@ long m n h =
     let r : n - m ≤ 2 * mostPairs = leb-true (n - m) (2 * mostPairs) (search (and-left, and-right) depth 9) in
     record { front = leb-true m n (search (and-left, and-right) depth 9); most = omega arith }
 
-pub configured : (g : List ℕ) → configRefusal g ≡ 0 → Configured (configIn g)
-unfolding configRefusal configIn
-configured g h =
+-- as many shapes as queues, in a frame that has them all
+pub shapes-many : (f : List ℕ) → front (configIn f) ≤ length f → length (configIn f .shapes) ≡ configIn f .Q
+unfolding configIn
+shapes-many f h =
+    let l : length (take (2 * byte 2 f) (drop (8 + byte 0 f) f)) ≡ 2 * byte 2 f = simp (length-take, length-drop) (omega arith) in
+    twos-length _ _ (byte 2 f) (omega (arith, l)) (omega (arith, l))
+
+pub states-many : (f : List ℕ) → front (configIn f) ≤ length f → length (configIn f .states) ≡ configIn f .T
+unfolding configIn
+states-many f h = simp (length-take, length-drop) (omega arith)
+
+-- its checks, but for the first
+pub record Passed (g : List ℕ) : Type 0 where
+  pub head : goodHead controller (configIn g) ≡ true
+  pub whole : Long (front (configIn g)) (length g)
+  pub rest : goodRest controller (configIn g) ≡ true
+
+pub passed : (g : List ℕ) → configRefusal g ≡ 0 → Passed g
+unfolding configRefusal
+passed g h =
     let c = configIn g in
     let p = passes (ltb (length g) 8 ⇒ 2 ∷ not (goodHead controller c) ⇒ 3 ∷ not (goodLength (front c) (length g)) ⇒ 2 ∷ not (goodRest controller c) ⇒ 3 ∷ []) refl h in
-    let n : Long (front c) (length g) = long (front c) (length g) (not-false _ (p .1 .1 .0)) in
-    checked c (not-false _ (p .1 .0)) (not-false _ (p .1 .1 .1 .0)) (simp (length-take, length-drop) (omega arith))
-    (twos-length _ _ (c .Q) (simp (length-take, length-drop) (omega arith)) (simp (length-take, length-drop) (omega arith)))
+    record { head = not-false _ (p .1 .0); whole = long (front c) (length g) (not-false _ (p .1 .1 .0)); rest = not-false _ (p .1 .1 .1 .0) }
+
+pub configured : (g : List ℕ) → configRefusal g ≡ 0 → Configured (configIn g)
+configured g h = let p = passed g h in checked (configIn g) (p .head) (p .rest) (states-many g (p .whole .front)) (shapes-many g (p .whole .front))

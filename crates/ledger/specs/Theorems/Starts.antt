@@ -1,5 +1,5 @@
--- Start only after: an accepted execute is of a task without an idle first (executes-after), and no other frame takes a task out of idle (started-after);
--- nor has a task that begins runnable an idle first in the fresh ledger (begins-after).
+-- Start only after: an accepted execute is of a task without an idle first (executes-after), and so is every task that a frame takes out of idle
+-- (started-after); nor has a task that begins runnable an idle first in the fresh ledger (begins-after).
 use Prim.Native.Nat.{ℕ, zero, suc, _≤_}
 use mathlib.Core.Path.{_≡_, refl, sym, _∙_, ap, subst}
 use mathlib.Core.Bool.{Bool, true, false, not, _&&_}
@@ -15,16 +15,13 @@ use Rattle.ledger.specs.Services.{Code, EXECUTE}
 use Rattle.ledger.specs.Refusals.{fields, meantTask, codeAt, call, holdsBack, meets26, fromInput, fromState, refusal}
 use Rattle.ledger.specs.Session.{step}
 use Rattle.ledger.specs.Theorems.Items.{Numbered, at-put-other}
-use Rattle.ledger.specs.Theorems.Checks.{and-left, and-right, within-numbered, passes, at-all, at-any}
+use Rattle.ledger.specs.Theorems.Checks.{never, and-left, and-right, within-numbered, passes, at-all, at-any}
 use Rattle.ledger.specs.Theorems.Configured.{configured}
 use Rattle.ledger.specs.Theorems.Walk.{Bears, changes, walks}
 
 -- pair i of a configuration, counted from 1
 abbrev pub pair : Config → ℕ → Pair
 pair c i = at (c .pairs) i (record { first = 0; then = 0 })
-
-never : false ≡ true → ⊥
-never e = let z : _≡_ {A = ℕ} 0 1 = cc in omega arith
 
 -- ---- by a frame
 module _ (c : Config) (l : Ledger) where
@@ -45,8 +42,8 @@ module _ (c : Config) (l : Ledger) where
       P : Task → Type 0
       P k = k .blocks .idle ≡ false
 
-      bears : Bears u P
-      bears = record { same = λ k v i o h. sym i ∙ h; set = λ k v i o h. sym i ∙ h; ended = λ k v i o h. absurd (never (sym h ∙ i)) }
+      bears : Bears P
+      bears = record { same = λ k v i o h. sym i ∙ h; set = λ k v i o h. sym i ∙ h; ended = λ k v i o h. never (sym h ∙ i) }
 
       -- task u is not the one that the frame executes
       another : any (holdsBack l u) (c .pairs) ≡ true → refusal c l f ≡ 0 → codeAt (byte 0 f) ≡ EXECUTE → u ≡ call c (running l) f .a → ⊥
@@ -57,7 +54,7 @@ module _ (c : Config) (l : Ledger) where
       go true e =
           let was = walks u P bears c f l (λ s v ts i. changes u P (running l) v ts (λ h. sym i ∙ h))
           (λ a x v ts o h. ap (λ k. k .blocks .idle) (sym (at-put-other ts (call c (running l) f .a) u v nullTask (another e a x))) ∙ h) after in
-          absurd (never (sym was ∙ before))
+          never (sym was ∙ before)
 
   -- none of the task's firsts is idle
   abbrev pub NoIdleFirst : ℕ → Type 0
@@ -82,7 +79,7 @@ module _ (c : Config) (l : Ledger) where
 
 below-one : (s : ℕ) → s ≤ 1 → (eqb s 1 && true) ≡ false → s ≡ 0
 below-one zero h e = refl
-below-one (suc zero) h e = absurd (never (sym e))
+below-one (suc zero) h e = never (sym e)
 below-one (suc (suc s)) h e = absurd (omega arith)
 
 getD-idle : (ss : List ℕ) (i : ℕ) → getD (map freshTask ss) i nullTask .blocks .idle ≡ not (eqb (getD ss i 0) 0)

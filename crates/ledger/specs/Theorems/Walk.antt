@@ -26,15 +26,15 @@ isWoke (refused n) = false
 isWoke (semaphore b) = false
 isWoke (woke t) = true
 
+-- what is asked of P: another record with the same idle block, and the same outcome or one that is not `woke`; and one as terminate leaves it
+pub record Bears (P : Task → Type 0) : Type 0 where
+  pub same : (k v : Task) → v .blocks .idle ≡ k .blocks .idle → v .outcome ≡ k .outcome → P v → P k
+  pub set : (k v : Task) → v .blocks .idle ≡ k .blocks .idle → isWoke (v .outcome) ≡ false → P v → P k
+  pub ended : (k v : Task) → v .blocks .idle ≡ true → isWoke (v .outcome) ≡ false → P v → P k
+
 module _ (u : ℕ) (P : Task → Type 0) where
   abbrev pub Of : List Task → Type 0
   Of ts = P (at ts u nullTask)
-
-  -- what is asked of P: another record with the same idle block, and the same outcome or one that is not `woke`; and one as terminate leaves it
-  pub record Bears : Type 0 where
-    pub same : (k v : Task) → v .blocks .idle ≡ k .blocks .idle → v .outcome ≡ k .outcome → P v → P k
-    pub set : (k v : Task) → v .blocks .idle ≡ k .blocks .idle → isWoke (v .outcome) ≡ false → P v → P k
-    pub ended : (k v : Task) → v .blocks .idle ≡ true → isWoke (v .outcome) ≡ false → P v → P k
 
   -- what is asked of a signal request's caller, and of an executed task
   abbrev pub Tells : ℕ → Type 0
@@ -47,7 +47,7 @@ module _ (u : ℕ) (P : Task → Type 0) where
   pub changes : (n : ℕ) (v : Task) (ts : List Task) → (P v → P (at ts n nullTask)) → Of (put ts n v) → Of ts
   changes n v ts p = at-put-each (λ i k. P k → P (at ts i nullTask)) ts n v nullTask (λ i h. h) p u
 
-module _ (u : ℕ) (P : Task → Type 0) (bears : Bears u P) where
+module _ (u : ℕ) (P : Task → Type 0) (bears : Bears P) where
   keeps : (n : ℕ) (v : Task) (ts : List Task) → v .blocks .idle ≡ at ts n nullTask .blocks .idle → v .outcome ≡ at ts n nullTask .outcome → Of u P (put ts n v) → Of u P ts
   keeps n v ts i o = changes u P n v ts (bears .same (at ts n nullTask) v i o)
 
@@ -174,7 +174,7 @@ module _ (u : ℕ) (P : Task → Type 0) (bears : Bears u P) where
       go true e ih = ih (rw (e, settle) at h)
 
 -- for every ledger and every frame
-pub walks : (u : ℕ) (P : Task → Type 0) → Bears u P → (c : Config) (f : List ℕ) (l : Ledger)
+pub walks : (u : ℕ) (P : Task → Type 0) → Bears P → (c : Config) (f : List ℕ) (l : Ledger)
     → (codeAt (byte 0 f) ≡ SIGNAL → Tells u P (running l)) → (refusal c l f ≡ 0 → codeAt (byte 0 f) ≡ EXECUTE → Begins u P (call c (running l) f .a))
     → P (task (step c f l .ledger) u) → P (task l u)
 unfolding step task

@@ -20,10 +20,10 @@ cast-result-2 : tie.Need-cast-result-2
 cast-result-2 c = search needs
 
 mul-result : tie.Need-mul-result
-mul-result c = omega (arith, product-low (c .args .pair) (omega arith))
+mul-result c = omega (arith, product-low (c .args .size) (omega arith))
 
 returns : tie.Need-returns
-returns c = (refl, product-low (c .args .pair) (omega arith))
+returns c = (refl, product-low (c .args .size) (omega arith))
 
 pub bytes-of-spec : {M : Type 1} → statement M
 bytes-of-spec = tie.close (tie.spec cast-result cast-result-2 mul-result returns)

@@ -11,14 +11,14 @@ bytes-of-requires : tie.Need-bytes-of-requires
 bytes-of-requires c κs = search needs
 
 returns : tie.Need-returns
-returns c = let x = c .before .before .args .pair in (too-wide (x % 256) (x / 256) (omega arith), omega arith)
+returns c = let x = c .before .before .args .size in (too-wide (x % 256) (x / 256) (omega arith), omega arith)
 
 returns-2 : tie.Need-returns-2
-returns-2 c = let x = c .before .before .before .args .pair in (no-bytes (x % 256) (x / 256) (sym (c .before .before .bytes-of .ensures .0) ∙ c .if2 .taken), omega arith)
+returns-2 c = let x = c .before .before .before .args .size in (no-bytes (x % 256) (x / 256) (sym (c .before .before .bytes-of .ensures .0) ∙ c .if2 .taken), omega arith)
 
 returns-3 : tie.Need-returns-3
 returns-3 c =
-    let x = c .before .before .before .args .pair in
+    let x = c .before .before .before .args .size in
     let e = c .before .before .bytes-of .ensures .0 in
     let s = some-bytes (x % 256) (x / 256) (omega arith) (omega arith) (λ z. c .if2 .left (e ∙ z)) in
     (e ∙ s .0, omega (arith, e, s .1))

@@ -18,11 +18,11 @@ abbrev μ-loop : tie.MeasureT-loop
 loop-holds : tie.Need-loop-holds Inv-loop μ-loop
 loop-holds c = (omega arith, omega arith, omega arith)
 
-mul-pair : tie.Need-mul-pair Inv-loop μ-loop
-mul-pair c = omega arith
+mul-size : tie.Need-mul-size Inv-loop μ-loop
+mul-size c = omega arith
 
-pair-requires : tie.Need-pair-requires Inv-loop μ-loop
-pair-requires c κs = omega arith
+size-requires : tie.Need-size-requires Inv-loop μ-loop
+size-requires c κs = omega arith
 
 bytes-or-none-requires : tie.Need-bytes-or-none-requires Inv-loop μ-loop
 bytes-or-none-requires c κs = search needs
@@ -40,7 +40,7 @@ loop-again : tie.Need-loop-again Inv-loop μ-loop
 loop-again c =
     let l = c .before .before .before .loop in
     let a = now (c .before .before .before .before .before .args .shapes) in
-    let x = c .before .pair .ensures in
+    let x = c .before .size .ensures in
     (omega arith, omega (arith, l .inv .1, c .bytes-or-none .ensures .1), l .inv .2 ∙ room-on (l .sum) (l .k) a (omega arith) _ (x .0) (x .1) _ (c .bytes-or-none .ensures .0))
 
 returns : tie.Need-returns Inv-loop μ-loop
@@ -50,4 +50,4 @@ returns c =
     sym (l .inv .2 ∙ room-end (l .sum) (l .k) a (omega arith))
 
 pub room-spec : {M : Type 1} → statement M
-room-spec = tie.close (tie.spec Inv-loop μ-loop loop-holds mul-pair pair-requires bytes-or-none-requires add-sum add-k loop-less loop-again returns)
+room-spec = tie.close (tie.spec Inv-loop μ-loop loop-holds mul-size size-requires bytes-or-none-requires add-sum add-k loop-less loop-again returns)

@@ -1,4 +1,4 @@
--- The frame is accepted, so it is as long as it says and its tables fit; what is written shows the fresh ledger.
+-- The frame is accepted, so its states lie within it and its tables fit; what is written shows the fresh ledger.
 use native.Mathlib.Omega.{arith}
 use denote.Ref.{now}
 use lib.ListN.{length-take, length-drop}

@@ -5,7 +5,8 @@ use mathlib.Core.Path.{ap}
 use denote.Ref.{now}
 use Rattle.tables.specs.Decode.{viewRequest}
 use Rattle.ledger.specs.Session.{isOpen}
-use Rattle.executive.specs.Meeting.{never, null-closed, request-is}
+use Rattle.ledger.specs.Theorems.Checks.{never}
+use Rattle.executive.specs.Meeting.{null-closed, request-is}
 use borrow.Author.Needs.{needs}
 use Rattle.executive.proofs.settling.is_open.Statement.{statement}
 use Rattle.executive.proofs.settling.is_open.Tie as tie

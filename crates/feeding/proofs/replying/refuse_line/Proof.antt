@@ -3,7 +3,7 @@ use native.Mathlib.Omega.{arith}
 use denote.Ref.{now}
 use mathlib.Core.Path.{sym, ap, _∙_, subst}
 use Rattle.tables.specs.Layout.{fitting}
-use Rattle.executive.specs.Meeting.{never}
+use Rattle.ledger.specs.Theorems.Checks.{never}
 use Rattle.ledger.specs.Config.{Limits, longest}
 use Rattle.configuration.specs.Limits.{Made, controller-made}
 use Rattle.parts.specs.Parts.{keptFrame}

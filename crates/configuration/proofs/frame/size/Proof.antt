@@ -1,8 +1,8 @@
 -- A byte is below 256, so that the number keeps both.
 use native.Mathlib.Omega.{arith}
 use borrow.Author.Needs.{needs}
-use Rattle.configuration.proofs.frame.pair.Statement.{statement}
-use Rattle.configuration.proofs.frame.pair.Tie as tie
+use Rattle.configuration.proofs.frame.size.Statement.{statement}
+use Rattle.configuration.proofs.frame.size.Tie as tie
 
 add-word : tie.Need-add-word
 add-word c = search needs
@@ -22,5 +22,5 @@ returns c =
     let low = c .before .shared-slice-known3 .given i in
     (omega (arith, c .word .ensures, low), omega (arith, c .word .ensures, low))
 
-pub pair-spec : {M : Type 1} → statement M
-pair-spec = tie.close (tie.spec add-word shared-slice-read-word shared-slice-read-word-2 word-requires returns)
+pub size-spec : {M : Type 1} → statement M
+size-spec = tie.close (tie.spec add-word shared-slice-read-word shared-slice-read-word-2 word-requires returns)
