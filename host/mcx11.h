@@ -93,7 +93,7 @@ enum mcx11_outcome_kind {
 enum mcx11_number {
     MCX11_ACCEPTED = 0,                   /**< the frame was carried out; its caller may wait now */
     MCX11_NUMBER_LINE = 1,                /**< $01: line odd, too long or with another character; frame too long for a line */
-    MCX11_NUMBER_LENGTH = 2,              /**< $02: frame or configuration too short or too long */
+    MCX11_NUMBER_LENGTH = 2,              /**< $02: frame or configuration too short or too long, or half a pair */
     MCX11_NUMBER_CONFIGURATION = 3,       /**< $03: a value in the configuration; 0 milliseconds per tock */
     MCX11_NUMBER_CODE = 4,                /**< $04: no such code */
     MCX11_NUMBER_TASK = 5,                /**< $05: no such task, or not for this code */

@@ -43,7 +43,8 @@ static inline struct mcx11_layout_t mcx11_layout(const mcx11_t *m)
 {
     const uint8_t *c = m->config + MCX11_AT_FRAME;
     const size_t semaphores = (size_t)c[0] + c[1] + c[2] + c[2];
-    const size_t one = c[0] <= MCX11_MOST_TASKS && c[2] <= MCX11_MOST_QUEUES && c[3] <= 64 && c[4] <= 64 && semaphores <= 255;
+    const size_t one = c[0] >= 1 && c[0] <= MCX11_MOST_TASKS && c[2] <= MCX11_MOST_QUEUES && c[3] <= 64 && c[4] <= 64 &&
+                       semaphores <= 255;
     const size_t length = (size_t)m->config[MCX11_AT_PART] << 8 | m->config[MCX11_AT_PART + 1], end = MCX11_AT_FRAME + length;
     struct mcx11_layout_t at; /* where the counts are no configuration's, there is nothing at all */
     at.tasks = one * c[0];

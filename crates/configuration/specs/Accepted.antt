@@ -1,17 +1,17 @@
 -- What an accepted frame says.
-use mathlib.Core.Path.{_≡_, refl, sym, ap, _∙_, subst}
-use mathlib.Core.Bool.{true, not, _&&_}
-use mathlib.Core.List.{List, [], _∷_, map}
+use mathlib.Core.Path.{_≡_, sym, ap, _∙_, subst}
+use mathlib.Core.Bool.{true, _&&_}
+use mathlib.Core.List.{List, map}
 use Prim.Native.Nat.{ℕ, _+_, _*_, _≤_}
 use native.Mathlib.Omega.{arith}
-use lib.Dec.{leb, ltb}
-use lib.ListN.{length, take, drop, length-take, length-drop}
-use borrow.Author.Tests.{le-leb, not-false}
+use lib.Dec.{leb}
+use lib.ListN.{length}
+use borrow.Author.Tests.{le-leb}
 use Rattle.rows.specs.Splice.{cut}
-use Rattle.ledger.specs.Lists.{_⇒_, byte, word, sum, all}
-use Rattle.ledger.specs.Config.{QueueShape, configIn, controller, longest, front, goodHead, goodLength, goodRest, configRefusal}
+use Rattle.ledger.specs.Lists.{byte, word, sum, all}
+use Rattle.ledger.specs.Config.{QueueShape, configIn, controller, longest, front, configRefusal}
 use Rattle.ledger.specs.Theorems.Configured.{Long, passed, states-many, shapes-many}
-use Rattle.ledger.specs.Theorems.Checks.{and-left, and-right, passes}
+use Rattle.ledger.specs.Theorems.Checks.{and-left, and-right}
 use Rattle.tables.specs.declared.shape.Shape.{Shape}
 use Rattle.tables.specs.Shows.{Of}
 use Rattle.configuration.specs.Block.{product, goodQueues, goodPairs, rule, frameRule, rest-parts, front-is, shapes-in}

@@ -8,7 +8,6 @@ use lib.Dec.{leb}
 use lib.ListN.{length}
 use borrow.Author.Tests.{le-leb, lt-leb}
 use Rattle.rows.specs.Splice.{cut}
-use Rattle.rows.specs.Laws.{length-cut}
 use Rattle.ledger.specs.Lists.{byte, sum}
 use Rattle.ledger.specs.Config as config
 use Rattle.ledger.specs.Config.{Limits, longest, shapesIn, configIn, front, goodHead}

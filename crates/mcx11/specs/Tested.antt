@@ -6,7 +6,7 @@ use mathlib.Core.List.{List}
 use native.Mathlib.Omega.{arith}
 use lib.Dec.{leb}
 use borrow.Author.Tests.{leb-true}
-use lib.ListN.{length, take, drop, length-take, length-drop}
+use lib.ListN.{length, length-take, length-drop}
 use Rattle.ledger.specs.Lists.{byte, word}
 use Rattle.ledger.specs.Config.{Config, Limits, controller, longest, configIn, front}
 use Rattle.ledger.specs.Theorems.Checks.{and-left, and-right}

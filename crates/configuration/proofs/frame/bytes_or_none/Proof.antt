@@ -1,7 +1,7 @@
 -- Too wide, or a width or depth of 0, or a queue.
 use native.Mathlib.Omega.{arith}
 use mathlib.Core.Path.{sym, _∙_}
-use Prim.Native.Nat.{_*_, _/_, _%_}
+use Prim.Native.Nat.{_/_, _%_}
 use borrow.Author.Needs.{needs}
 use Rattle.configuration.specs.Room.{too-wide, no-bytes, some-bytes}
 use Rattle.configuration.proofs.frame.bytes_or_none.Statement.{statement}
