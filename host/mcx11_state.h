@@ -66,6 +66,13 @@ static inline struct mcx11_layout_t mcx11_layout(const mcx11_t *m)
     return at;
 }
 
+/* Of the configuration's bytes from a place on the two that a number has, 1 the first; two zeros if there are not so many. */
+static inline const uint8_t *mcx11_two(const mcx11_t *m, size_t place, size_t many, uint8_t number)
+{
+    static const uint8_t none[2] = {0, 0};
+    return number >= 1 && number <= many ? m->config + place + 2 * ((size_t)number - 1) : none;
+}
+
 /* How many timers run. Their rows are 1, 2 and so on; row 0 is their clock. */
 static inline size_t mcx11_timer_rows(const mcx11_t *m)
 {
@@ -180,11 +187,8 @@ static inline uint8_t mcx11_mailbox_count(const mcx11_t *m, uint8_t task)
 static inline mcx11_queue_t mcx11_queue_size(const mcx11_t *m, uint8_t queue)
 {
     const struct mcx11_layout_t at = mcx11_layout(m);
-    mcx11_queue_t size = {0, 0};
-    if (queue >= 1 && queue <= at.queues) {
-        size.width = m->config[at.at_sizes + 2 * ((size_t)queue - 1)];
-        size.depth = m->config[at.at_sizes + 2 * ((size_t)queue - 1) + 1];
-    }
+    const uint8_t *two = mcx11_two(m, at.at_sizes, at.queues, queue);
+    const mcx11_queue_t size = {two[0], two[1]};
     return size;
 }
 
@@ -195,11 +199,8 @@ static inline uint8_t mcx11_pairs(const mcx11_t *m) { return (uint8_t)mcx11_layo
 static inline mcx11_pair_t mcx11_pair(const mcx11_t *m, uint8_t pair)
 {
     const struct mcx11_layout_t at = mcx11_layout(m);
-    mcx11_pair_t both = {0, 0};
-    if (pair >= 1 && pair <= at.pairs) {
-        both.first = m->config[at.at_pairs + 2 * ((size_t)pair - 1)];
-        both.then = m->config[at.at_pairs + 2 * ((size_t)pair - 1) + 1];
-    }
+    const uint8_t *two = mcx11_two(m, at.at_pairs, at.pairs, pair);
+    const mcx11_pair_t both = {two[0], two[1]};
     return both;
 }
 

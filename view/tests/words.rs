@@ -121,6 +121,15 @@ fn a_send_that_ends_a_wait() {
     assert_eq!(said.lines().last(), Some(due));
 }
 
+/// Each frame behind this configuration is answered with its words; all that is printed.
+fn is_told(configuration: &str, frames: &[(&str, &str)]) -> String {
+    let lines: String = frames.iter().map(|(frame, _)| format!("{frame}\n")).collect();
+    let said = words(format!("{configuration}\n{lines}").as_bytes());
+    let answers = said.lines().skip(1).map(|line| line.split_once(": ").expect("an answer").1);
+    assert_eq!(answers.collect::<Vec<_>>(), frames.iter().map(|(_, due)| *due).collect::<Vec<_>>());
+    said
+}
+
 #[test]
 fn a_signal_says_whom_it_woke() {
     let frames = [
@@ -135,10 +144,7 @@ fn a_signal_says_whom_it_woke() {
         ("0200020000", "task 1 runs, has semaphore 2"),
         ("0100000000", "task 2 runs, woke task 1"),
     ];
-    let lines: String = frames.iter().map(|(frame, _)| format!("{frame}\n")).collect();
-    let said = words(format!("02010000000100640000\n{lines}").as_bytes());
-    let told: Vec<&str> = said.lines().skip(1).map(|line| line.split_once(": ").expect("an answer").1).collect();
-    assert_eq!(told, frames.map(|(_, due)| due));
+    is_told("02010000000100640000", &frames);
 }
 
 #[test]
@@ -150,13 +156,10 @@ fn pairs_say_who_starts_only_after_whom() {
         ("0B00000000", "task 5 runs, begins"),
         ("0C03000000", "refused 26, task 1 and task 2 are idle, and task 3 starts only after them; task 5 goes on"),
     ];
-    let lines: String = frames.iter().map(|(frame, _)| format!("{frame}\n")).collect();
-    let said = words(format!("050000000001006400000101000103020303040103\n{lines}").as_bytes());
+    let said = is_told("050000000001006400000101000103020303040103", &frames);
     let configuration = "0  configuration of 5 tasks, 0 named semaphores, 0 queues, 0 timers, 0 messages; a tock is 1 tick and \
                          100 ms; task 3 starts only after task 1 and task 2; task 4 starts only after task 3: task 1 runs, begins";
     assert_eq!(said.lines().next(), Some(configuration));
-    let told: Vec<&str> = said.lines().skip(1).map(|line| line.split_once(": ").expect("an answer").1).collect();
-    assert_eq!(told, frames.map(|(_, due)| due));
 }
 
 /// Sessions with a frame for each number, and what is said of it.

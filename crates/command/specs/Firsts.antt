@@ -1,31 +1,23 @@
 -- A pair's two numbers, and what they mean in a ledger shown.
-use Prim.Native.Nat.{ℕ, zero, suc, _+_, _*_}
-use mathlib.Core.Path.{_≡_, refl, sym, ap, _∙_}
-use mathlib.Core.Bool.{Bool, true, false, not, _&&_}
+use Prim.Native.Nat.{ℕ, _+_, _*_}
+use mathlib.Core.Path.{_≡_, sym, ap, _∙_}
+use mathlib.Core.Bool.{Bool, true, false, not}
 use mathlib.Core.List.{List}
 use native.Mathlib.Omega.{arith}
-use lib.Dec.{leb}
-use lib.ListN.{length, List·getD-eq-default}
-use borrow.Author.Tests.{eq-eqb, ne-eqb, not-true, not-false, le-leb, leb-false}
+use lib.ListN.{length}
+use borrow.Author.Tests.{eq-eqb, ne-eqb, not-true, not-false}
 use Rattle.rows.specs.Splice.{cut}
 use Rattle.rows.specs.Tab.{tab-length}
-use Rattle.ledger.specs.Lists.{within, at}
+use Rattle.ledger.specs.Lists.{within}
 use Rattle.ledger.specs.Config.{pairOf, pairsIn, configIn}
 use Rattle.ledger.specs.Ledger.{Task, nullTask, task}
 use Rattle.ledger.specs.Refusals.{holdsBack}
 use Rattle.tables.specs.declared.shape.Shape.{Shape}
-use Rattle.ledger.specs.Theorems.Checks.{within-numbered}
+use Rattle.ledger.specs.Theorems.Checks.{within-numbered, at-none}
 use Rattle.tables.specs.Layout.{OneOf, regions}
 use Rattle.tables.specs.Shows.{tasksIn, taskAt, Tells}
 use Rattle.configuration.specs.Block.{pairs-in}
 use Rattle.command.specs.Configured.{Framed, framed}
-
-at-none : {A : Type 0} (xs : List A) (n : ℕ) (v : A) → within 1 (length xs) n ≡ false → at xs n v ≡ v
-unfolding at
-at-none xs zero v h = refl
-at-none xs (suc n) v h =
-    let e : (true && leb (suc n) (length xs)) ≡ false = ap (λ (b : Bool). b && leb (suc n) (length xs)) (sym (le-leb 1 (suc n) (omega arith))) ∙ h in
-    List·getD-eq-default xs v {n = n} (omega (arith, leb-false (suc n) (length xs) e))
 
 pub one-of : (n f j : ℕ) → j ≡ f → not (within 1 n j) ≡ false → OneOf n f
 one-of n f j ej e = let k = within-numbered n j (not-false _ e) in (omega (arith, k .from), omega (arith, k .upto))

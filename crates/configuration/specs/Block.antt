@@ -1,6 +1,6 @@
 -- The frame that the block of the configuration holds: the structure rule for it, and where its parts lie.
 use mathlib.Core.Path.{_≡_, refl, sym, ap, _∙_}
-use mathlib.Core.Bool.{Bool, true, false, _&&_}
+use mathlib.Core.Bool.{Bool, _&&_, and-assoc}
 use mathlib.Core.List.{List, map}
 use Prim.Native.Nat.{ℕ, _+_, _-_, _*_}
 use native.Mathlib.Omega.{arith}
@@ -32,14 +32,6 @@ rule m c = goodHead m c && goodQueues m c
 -- bytes mean pairs
 unfoldable pub frameRule : Limits → List ℕ → Bool
 frameRule m f = leb (front (configIn f)) (length f) && leb (length f) (longest m) && rule m (configIn f)
-
-pub and-no : (a : Bool) → (a && false) ≡ false
-and-no true = refl
-and-no false = refl
-
-and-assoc : (a b c : Bool) → (a && b && c) ≡ (a && (b && c))
-and-assoc true b c = refl
-and-assoc false b c = refl
 
 unfoldable pub goodPairs : Config → Bool
 goodPairs c = all (goodPair (c .T) (c .states)) (c .pairs)

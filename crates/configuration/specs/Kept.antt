@@ -2,14 +2,13 @@
 use mathlib.Core.Path.{_≡_, sym, ap, _∙_, subst}
 use mathlib.Core.Bool.{true, false}
 use mathlib.Core.List.{List}
-use Prim.Native.Nat.{ℕ, _+_, _-_, _*_, _<_, _≤_}
+use Prim.Native.Nat.{ℕ, _+_, _*_, _<_, _≤_}
 use native.Mathlib.Omega.{arith}
 use lib.Dec.{ltb}
-use lib.ListN.{length, getD, drop}
-use lib.Seq.{getD-take, getD-drop}
+use lib.ListN.{length, getD}
 use borrow.Author.Tests.{ltb-true, ltb-false}
 use Rattle.rows.specs.Splice.{cut}
-use Rattle.rows.specs.Laws.{length-cut, cut-cut}
+use Rattle.rows.specs.Laws.{length-cut, getD-cut, cut-cut}
 use Rattle.ledger.specs.Lists.{byte}
 use Rattle.ledger.specs.Config.{Limits, longest, configIn, goodHead}
 use Rattle.tables.specs.declared.shape.Shape.{Shape}
@@ -32,7 +31,7 @@ module _ (m : Limits) (made : Made m) (b : List ℕ) (n : ℕ) (room : longest m
   byte-f : (i : ℕ) → i < n → byte i f ≡ byte i b
   byte-f i h =
       let e : 0 + i ≡ i = omega arith in
-      getD-take (n - 0) (drop 0 b) i 0 (omega arith) ∙ getD-drop 0 b i 0 ∙ ap (λ (j : ℕ). getD b j 0) e
+      getD-cut b 0 n i (omega arith) ∙ ap (λ (j : ℕ). getD b j 0) e
 
   -- fewer than eight bytes are no frame
   few : n < 8 → frameRule m f ≡ false

@@ -1,6 +1,6 @@
 -- The ways out of the check of the frame in a block.
 use mathlib.Core.Path.{_≡_, sym, ap, _∙_, subst}
-use mathlib.Core.Bool.{Bool, true, false, _&&_}
+use mathlib.Core.Bool.{Bool, true, false, _&&_, and-false}
 use mathlib.Core.List.{List, map}
 use Prim.Native.Nat.{ℕ, _+_, _*_, _<_, _≤_}
 use native.Mathlib.Omega.{arith}
@@ -15,7 +15,7 @@ use Rattle.ledger.specs.Theorems.Configured.{shapes-many}
 use Rattle.tables.specs.declared.shape.Shape.{Shape}
 use Rattle.tables.specs.Shows.{Of}
 use Rattle.configuration.specs.declared.Lent.the-variants.{Good}
-use Rattle.configuration.specs.Block.{and-no, product, goodShapes, goodQueues, rule, frameRule, front-is, shapes-in}
+use Rattle.configuration.specs.Block.{product, goodShapes, goodQueues, rule, frameRule, front-is, shapes-in}
 use Rattle.configuration.specs.Limits.{Made}
 use Rattle.configuration.specs.Room.{roomIn, room-good, room-bad}
 use Rattle.configuration.specs.Layout.{laidOut, shapeOf, Lends, of-shape}
@@ -28,7 +28,7 @@ module _ (m : Limits) (made : Made m) (f : List ℕ) where
 
   pub lent-head : goodHead m (configIn f) ≡ false → frameRule m f ≡ false
   unfolding frameRule rule
-  lent-head e = rw e (and-no (leb (front (configIn f)) (length f) && leb (length f) (longest m)))
+  lent-head e = rw e (and-false (leb (front (configIn f)) (length f) && leb (length f) (longest m)))
 
   module _ (head : goodHead m (configIn f) ≡ true) (t q : ℕ) (et : t ≡ byte 0 f) (eq : q ≡ byte 2 f) (whole : 8 + t + 2 * q ≤ length f)
       (short : length f ≤ longest m) where
@@ -44,7 +44,7 @@ module _ (m : Limits) (made : Made m) (f : List ℕ) where
 
     pub lent-room : m .bytes < roomIn part → frameRule m f ≡ false
     unfolding rule goodQueues
-    lent-room h = by-rule false (ap (λ (b : Bool). goodHead m (configIn f) && b) (ap (goodShapes m) shapes-are ∙ room-bad m (made .bytes) part h) ∙ and-no (goodHead m (configIn f)))
+    lent-room h = by-rule false (ap (λ (b : Bool). goodHead m (configIn f) && b) (ap (goodShapes m) shapes-are ∙ room-bad m (made .bytes) part h) ∙ and-false (goodHead m (configIn f)))
 
     module _ (n : ℕ) (en : n ≡ roomIn part) (h : n ≤ m .bytes) where
       keeps : rule m (configIn f) ≡ true

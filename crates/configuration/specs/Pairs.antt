@@ -1,6 +1,6 @@
 -- The ways out of the checks of a frame's length and of a pair.
-use mathlib.Core.Path.{_≡_, refl, sym, _∙_}
-use mathlib.Core.Bool.{Bool, true, false, not, _&&_}
+use mathlib.Core.Path.{_≡_, sym, _∙_}
+use mathlib.Core.Bool.{Bool, true, false, not, _&&_, and-true, and-false}
 use mathlib.Core.List.{List}
 use Prim.Native.Nat.{ℕ, zero, suc, _-_, _*_, _%_, _<_, _≤_}
 use native.Mathlib.Omega.{arith}
@@ -11,11 +11,6 @@ use Rattle.tables.specs.Encoded.{case}
 use Rattle.ledger.specs.Lists.{at}
 use Rattle.ledger.specs.Config.{mostPairs, goodLength, goodPair}
 use Rattle.ledger.specs.Theorems.Checks.{and-left, and-right}
-use Rattle.configuration.specs.Block.{and-no}
-
-and-yes : (a : Bool) → (a && true) ≡ a
-and-yes true = refl
-and-yes false = refl
 
 -- ---- a length, with m bytes in front of the pairs
 module _ (m n : ℕ) where
@@ -25,11 +20,11 @@ module _ (m n : ℕ) where
 
   pub too-long : 2 * mostPairs < n - m → false ≡ goodLength m n
   unfolding goodLength
-  too-long h = sym (rw (lt-leb (n - m) (2 * mostPairs) h) (and-no (leb m n && eqb ((n - m) % 2) 0)))
+  too-long h = sym (rw (lt-leb (n - m) (2 * mostPairs) h) (and-false (leb m n && eqb ((n - m) % 2) 0)))
 
   pub by-evenness : m ≤ n → n - m ≤ 2 * mostPairs → eqb ((n - m) % 2) 0 ≡ goodLength m n
   unfolding goodLength
-  by-evenness h k = sym (rw (le-leb m n h, le-leb (n - m) (2 * mostPairs) k) (and-yes (eqb ((n - m) % 2) 0)))
+  by-evenness h k = sym (rw (le-leb m n h, le-leb (n - m) (2 * mostPairs) k) (and-true (eqb ((n - m) % 2) 0)))
 
 -- ---- a pair
 pub record Paired (states : List ℕ) (a b : ℕ) : Type 0 where

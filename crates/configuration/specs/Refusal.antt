@@ -1,6 +1,6 @@
 -- The ways out of a frame's check, in their order.
 use mathlib.Core.Path.{_≡_, sym, ap, _∙_}
-use mathlib.Core.Bool.{Bool, true, false, not, _&&_}
+use mathlib.Core.Bool.{Bool, true, false, not, _&&_, and-false}
 use mathlib.Core.List.{List, [], _∷_}
 use Prim.Native.Nat.{ℕ, _+_, _*_, _<_, _≤_}
 use native.Mathlib.Omega.{arith}
@@ -11,7 +11,7 @@ use Rattle.rows.specs.Splice.{cut}
 use Rattle.ledger.specs.Lists.{first, _⇒_, byte, all}
 use Rattle.ledger.specs.Config.{Limits, shapesIn, pairsIn, configIn, controller, front, goodHead, goodLength, goodPair, goodRest, configRefusal}
 use Rattle.ledger.specs.Theorems.Configured.{long as long-is}
-use Rattle.configuration.specs.Block.{and-no, goodShapes, goodQueues, goodPairs, rest-parts, states-in, shapes-in, pairs-in}
+use Rattle.configuration.specs.Block.{goodShapes, goodQueues, goodPairs, rest-parts, states-in, shapes-in, pairs-in}
 use Rattle.configuration.specs.Limits.{Made}
 use Rattle.configuration.specs.Room.{roomIn, room-good, room-bad}
 
@@ -80,7 +80,7 @@ module _ (m : Limits) (made : Made m) (f : List ℕ) (t q : ℕ) (et : t ≡ byt
   bad-room h =
       let s : Bool = all (λ s. leb s 1) states in
       let k : Bool = all (goodPair t states) (pairsIn pairs) in
-      sym (parts ∙ ap (λ (b : Bool). s && b && k) (room-bad m (made .bytes) queues h) ∙ ap (λ (b : Bool). b && k) (and-no s))
+      sym (parts ∙ ap (λ (b : Bool). s && b && k) (room-bad m (made .bytes) queues h) ∙ ap (λ (b : Bool). b && k) (and-false s))
 
   pub by-pairs : true ≡ all (λ s. leb s 1) states → roomIn queues ≤ m .bytes → (n : ℕ) → n ≡ t → (r : Bool) → r ≡ all (goodPair n states) (pairsIn pairs) → r ≡ goodRest m (configIn f)
   by-pairs e h n en r k =

@@ -4,9 +4,9 @@ use mathlib.Core.List.{List, [], _∷_, map}
 use Prim.Native.Nat.{ℕ, zero, suc, _+_, _-_, _*_, _<_, _≤_}
 use native.Mathlib.Omega.{arith}
 use lib.ListN.{length, getD, take, drop}
-use lib.Seq.{getD-take, getD-drop, take-take}
+use lib.Seq.{take-take}
 use Rattle.rows.specs.Splice.{cut}
-use Rattle.rows.specs.Laws.{length-cut}
+use Rattle.rows.specs.Laws.{length-cut, getD-cut}
 use Rattle.ledger.specs.Lists.{at, byte, sum}
 use Rattle.ledger.specs.Config as config
 use Rattle.ledger.specs.Config.{shapesIn, configIn}
@@ -53,7 +53,7 @@ module _ (g : List ℕ) (s : Shape) (long : frontBytes s ≤ length g) (o : Of (
   part-length = let l = o .laid in length-cut g here (here + 2 * s .queues) (omega arith) ∙ omega arith
 
   part-at : (j : ℕ) → j < 2 * s .queues → getD part j 0 ≡ getD g (here + j) 0
-  part-at j h = getD-take (here + 2 * s .queues - here) (drop here g) j 0 (omega arith) ∙ getD-drop here g j 0
+  part-at j h = getD-cut g here (here + 2 * s .queues) j (omega arith)
 
   small : sum (map product (configIn g .shapes)) ≤ 4096
   unfolding bytesOf

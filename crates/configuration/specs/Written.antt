@@ -4,12 +4,12 @@ use mathlib.Core.Bool.{Bool, false}
 use mathlib.Core.List.{List}
 use Prim.Native.Nat.{ℕ, _+_, _-_, _*_, _/_, _%_, _<_, _≤_}
 use native.Mathlib.Omega.{arith}
-use lib.ListN.{length, getD, drop, set, replicate, length-set, length-replicate, getD-replicate}
-use lib.Seq.{ext-getD, getD-take, getD-drop, getD-set-same, getD-set-other}
+use lib.ListN.{length, getD, set, replicate, length-set, length-replicate, getD-replicate}
+use lib.Seq.{ext-getD, getD-set-same, getD-set-other}
 use borrow.Rule.Slice.PartMut.{putMid}
 use borrow.Author.Count.{below-more}
 use Rattle.rows.specs.Splice.{cut, splice}
-use Rattle.rows.specs.Laws.{length-cut, length-splice}
+use Rattle.rows.specs.Laws.{length-cut, getD-cut, length-splice}
 use Rattle.rows.specs.Bytes.{byte-in, byte-below, byte-above, lent-part}
 use Rattle.tables.specs.declared.shape.Shape.{Shape}
 use Rattle.tables.specs.declared.blocks.Block.{Block}
@@ -120,7 +120,7 @@ module _ (s : Shape) (l : Laid s) (states d : List ℕ) (room : s .end ≤ lengt
   planes = cut d₁ planesAt recordsAt
 
   planes-blank : (i : ℕ) → i < 64 → getD planes i 0 ≡ 0
-  planes-blank i h = getD-take (recordsAt - planesAt) (drop planesAt d₁) i 0 (omega arith) ∙ getD-drop planesAt d₁ i 0 ∙ blank (planesAt + i) (omega arith)
+  planes-blank i h = getD-cut d₁ planesAt recordsAt i (omega arith) ∙ blank (planesAt + i) (omega arith)
 
   length-two : (ps d₂ : List ℕ) → length ps ≡ 64 → d₂ ≡ putMid planesAt (recordsAt - planesAt) d₁ ps → (length d₂ ≡ length d) × (d₂ ≡ splice d₁ planesAt ps)
   length-two ps d₂ n e =
@@ -174,7 +174,7 @@ module _ (s : Shape) (l : Laid s) (states d : List ℕ) (room : s .end ≤ lengt
     no-request : (i j : ℕ) → i < s .tasks → 1 ≤ j → j < 6 → getD d₄ (s .recordat + (i * 6 + j)) 0 ≡ 0
     no-request i j h x y =
         within (i * 6 + j) (omega arith) ∙ b .others i j x y
-        ∙ getD-take (s .semaphoreat - s .recordat) (drop (s .recordat) d₂) (i * 6 + j) 0 (omega arith) ∙ getD-drop (s .recordat) d₂ (i * 6 + j) 0
+        ∙ getD-cut d₂ (s .recordat) (s .semaphoreat) (i * 6 + j) (omega arith)
         ∙ was-above (s .recordat + (i * 6 + j)) (omega arith) (omega arith)
 
     planes-now : cut d₄ planesAt recordsAt ≡ ps
@@ -182,7 +182,7 @@ module _ (s : Shape) (l : Laid s) (states d : List ℕ) (room : s .end ≤ lengt
         let n : length (cut d₄ planesAt recordsAt) ≡ 64 = length-cut d₄ planesAt recordsAt (omega (arith, length-set d₃ 0 k, length-d₃)) in
         ext-getD 0 (cut d₄ planesAt recordsAt) ps (n ∙ sym lp) (λ i h.
         let u : i < 64 = omega arith in
-        getD-take (recordsAt - planesAt) (drop planesAt d₄) i 0 (omega arith) ∙ getD-drop planesAt d₄ i 0 ∙ before (planesAt + i) (omega arith) (omega arith) ∙ was-plane i u)
+        getD-cut d₄ planesAt recordsAt i (omega arith) ∙ before (planesAt + i) (omega arith) (omega arith) ∙ was-plane i u)
 
     written-tables : FreshTables s k states d₄
     written-tables =

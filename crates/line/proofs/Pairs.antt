@@ -10,6 +10,8 @@ use lib.Dec.{leb, eqb}
 use lib.Seq.{take-all}
 use borrow.Author.Tests.{le-leb, lt-leb, leb-true, leb-false, eqb-true, eqb-false}
 use Rattle.ledger.specs.Lists.{all}
+use Rattle.ledger.specs.Config.{twos}
+use Rattle.ledger.specs.Theorems.Twos.{twos-length, twos-at}
 use Rattle.ledger.specs.Lines.{longestFrame, digitValue, joined, bytesOf, frameOf}
 use Rattle.ledger.specs.Theorems.Lines.{Kind, decimal, letter, another, kind}
 use Rattle.line.specs.Digits.{isSome, isDigit, nibble, pairs}
@@ -63,19 +65,11 @@ digits-more l i good x e f h = rw (e, f) (sym (all-more isDigit l i h))
 
 pub length-pairs : (ds : List ℕ) → length (pairs ds) ≡ length ds / 2
 unfolding pairs
-length-pairs [] = refl
-length-pairs (h ∷ []) = refl
-length-pairs (h ∷ l ∷ ds) = let r = length-pairs ds in omega arith
+length-pairs ds = twos-length _ ds (length ds / 2) (omega arith) (omega arith)
 
 pub getD-pairs : (ds : List ℕ) (i : ℕ) → i < length ds / 2 → getD (pairs ds) i 0 ≡ 16 * nibble (getD ds (2 * i) 0) + nibble (getD ds (2 * i + 1) 0)
 unfolding pairs
-getD-pairs [] i b = absurd (omega arith)
-getD-pairs (h ∷ []) i b = absurd (omega arith)
-getD-pairs (h ∷ l ∷ ds) zero b = refl
-getD-pairs (h ∷ l ∷ ds) (suc i) b =
-    let p : 2 * suc i ≡ suc (suc (2 * i)) = omega arith in
-    let q : 2 * suc i + 1 ≡ suc (suc (2 * i + 1)) = omega arith in
-    rw (q, p) (getD-pairs ds i (omega arith))
+getD-pairs ds i b = twos-at _ i ds 0 (omega arith)
 
 -- ---- the bytes of the digits: none of an odd line or one with another character
 
@@ -108,7 +102,7 @@ other-character (h ∷ l ∷ ds) e = go (isDigit h) (isDigit l) refl refl e (oth
     go true true p q g rest = rw (rest g) (no-rest (digitValue h) (digitValue l))
 
 good-line : (ds : List ℕ) → length ds % 2 ≡ 0 → all isDigit ds ≡ true → bytesOf ds ≡ some (pairs ds)
-unfolding bytesOf joined all pairs
+unfolding bytesOf joined all pairs twos
 good-line [] e a = refl
 good-line (h ∷ []) e a = absurd (omega arith)
 good-line (h ∷ l ∷ ds) e a =

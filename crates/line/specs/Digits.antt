@@ -2,8 +2,9 @@
 -- which is the ledger's where the byte is a digit.
 use Prim.Native.Nat.{ℕ, _+_, _*_, _/_, _%_}
 use mathlib.Core.Bool.{Bool, true, false}
-use mathlib.Core.List.{List, [], _∷_}
+use mathlib.Core.List.{List}
 use mathlib.Core.Option.{Option, none, some}
+use Rattle.ledger.specs.Config.{twos}
 use Rattle.ledger.specs.Lines.{digitValue}
 
 abbrev pub isSome : {A : Type 0} → Option A → Bool
@@ -17,6 +18,4 @@ abbrev pub nibble : ℕ → ℕ
 nibble d = (d % 16 + d / 64 * 9) % 16
 
 unfoldable pub pairs : List ℕ → List ℕ
-pairs [] = []
-pairs (h ∷ []) = []
-pairs (h ∷ l ∷ ds) = (16 * nibble h + nibble l) ∷ pairs ds
+pairs = twos (λ h l. 16 * nibble h + nibble l)

@@ -147,9 +147,9 @@ module _ (f g d z w a : List ℕ) where
     room-here =
         let n = full-sizes m (well-full m well) in
         let c : Config = configIn (keptFrame g) in
-        let r = frame-rule controller controller-made (keptFrame g) keeps in
-        let b = frame-front controller controller-made (keptFrame g) keeps in
-        let u = frame-short controller controller-made (keptFrame g) keeps in
+        let r = frame-rule controller (keptFrame g) keeps in
+        let b = frame-front controller (keptFrame g) keeps in
+        let u = frame-short controller (keptFrame g) keeps in
         let i = tables-within controller controller-made c r s o in
         let j = slots-within controller controller-made c r s o in
         let k = timers-within controller controller-made c r s o in (
@@ -223,12 +223,12 @@ module _ (f : List ℕ) (zero : configRefusal f ≡ 0) (s : Shape) (o : Of (conf
   frame-keeps = accepted-rule f (accepted f zero)
 
   abbrev frame-ruled : rule controller (configIn f) ≡ true
-  frame-ruled = frame-rule controller controller-made f frame-keeps
+  frame-ruled = frame-rule controller f frame-keeps
 
   pub begin-fits : (length f ≤ 326) × (partAt + s .end + 4 ≤ 7517) × (partAt + 16 * s .tasks + 4 ≤ 2024) × (partAt + timersBytes s + 4 ≤ 659)
   unfolding sizesOf
   begin-fits = (
-    frame-short controller controller-made f frame-keeps,
+    frame-short controller f frame-keeps,
     tables-within controller controller-made (configIn f) frame-ruled s o,
     slots-within controller controller-made (configIn f) frame-ruled s o,
     timers-within controller controller-made (configIn f) frame-ruled s o,

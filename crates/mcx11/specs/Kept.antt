@@ -26,11 +26,11 @@ use Rattle.mcx11.specs.Displayed.{displays-well}
 
 module _ (m : Memory) (full : fullSize m ≡ true) (keeps : frameRule controller (keptFrame (m .config)) ≡ true) where
   abbrev ruled : rule controller (configIn (keptFrame (m .config))) ≡ true
-  ruled = frame-rule controller controller-made (keptFrame (m .config)) keeps
+  ruled = frame-rule controller (keptFrame (m .config)) keeps
 
   pub config-shape : Of (configOf m) (shapeOf (configOf m))
   unfolding configOf
-  config-shape = frame-shape controller controller-made (keptFrame (m .config)) keeps
+  config-shape = frame-shape controller (keptFrame (m .config)) keeps controller-made
 
   -- the parts lie between the marks
   pub parts-fit : let s = shapeOf (configOf m) in (partAt + s .end + 4 ≤ 7517) × (partAt + 16 * s .tasks + 4 ≤ 2024) × (partAt + timersBytes s + 4 ≤ 659)

@@ -51,7 +51,7 @@ lent-good k ek f h e = let x = lends-good k f h e in (ap (λ (y : Limits). frame
 
 -- ---- a frame that keeps the rule
 
-module _ (k : Limits) (made : Made k) (f : List ℕ) (keeps : frameRule k f ≡ true) where
+module _ (k : Limits) (f : List ℕ) (keeps : frameRule k f ≡ true) where
   pub frame-rule : rule k (configIn f) ≡ true
   unfolding frameRule
   frame-rule = and-right (leb (front (configIn f)) (length f) && leb (length f) (longest k)) (rule k (configIn f)) keeps
@@ -65,8 +65,8 @@ module _ (k : Limits) (made : Made k) (f : List ℕ) (keeps : frameRule k f ≡ 
   frame-short = leb-true (length f) (longest k) (search (and-left, and-right) depth 9)
 
   -- the shape of its tables
-  pub frame-shape : Of (configIn f) (shapeOf (configIn f))
-  frame-shape = of-shape k made (configIn f) frame-rule (shapes-many f (omega (arith, front-is f, frame-front)))
+  pub frame-shape : Made k → Of (configIn f) (shapeOf (configIn f))
+  frame-shape made = of-shape k made (configIn f) frame-rule (shapes-many f (omega (arith, front-is f, frame-front)))
 
 -- by the length that was read; and of the bytes that have room for every frame
 pub frame-is : (g : List ℕ) (n : ℕ) → n ≡ word partAt g → cut g frameAt (frameAt + n) ≡ keptFrame g
@@ -77,7 +77,7 @@ pub frame-among : (g : List ℕ) (n most : ℕ) → n ≤ most → n ≡ word pa
 frame-among g n most h e = cut-cut g frameAt (frameAt + most) 0 n (omega arith) ∙ frame-is g n e
 
 -- a length above the longest is no frame's
-module _ (k : Limits) (made : Made k) (g : List ℕ) (room : frameAt + longest k + 4 ≤ length g) (n : ℕ) (e : n ≡ word partAt g) where
+module _ (k : Limits) (g : List ℕ) (room : frameAt + longest k + 4 ≤ length g) (n : ℕ) (e : n ≡ word partAt g) where
   frame-longer : longest k < n → longest k < length (keptFrame g)
   unfolding keptFrame
   frame-longer h = simp (length-take, length-drop) (omega arith)
@@ -86,7 +86,7 @@ module _ (k : Limits) (made : Made k) (g : List ℕ) (room : frameAt + longest k
   too-long h = go (frameRule k (keptFrame g)) refl
     where
       go : (b : Bool) → frameRule k (keptFrame g) ≡ b → b ≡ false
-      go true q = absurd (omega (arith, frame-short k made (keptFrame g) q, frame-longer h))
+      go true q = absurd (omega (arith, frame-short k (keptFrame g) q, frame-longer h))
       go false q = refl
 
 -- ---- the messages, in the configuration's terms
@@ -117,7 +117,7 @@ module _ (k : Limits) (made : Made k) (c : Config) (keeps : rule k c ≡ true) (
 pub frame-fits : (f : List ℕ) → frameRule controller f ≡ true → (s : Shape) → Of (configIn f) s → (partAt + s .end + 4 ≤ 7517) × (partAt + 16 * s .tasks + 4 ≤ 2024) × (partAt + timersBytes s + 4 ≤ 659)
 unfolding sizesOf
 frame-fits f keeps s o =
-    let r = frame-rule controller controller-made f keeps in
+    let r = frame-rule controller f keeps in
     (tables-within controller controller-made (configIn f) r s o, slots-within controller controller-made (configIn f) r s o, timers-within controller controller-made (configIn f) r s o)
 
 -- ---- the ways out
@@ -176,7 +176,7 @@ module _ (k : Limits) (g d z w : List ℕ) (na : ℕ) (n : Sizes) (en : n ≡ si
                 let t = all-sizes in
                 let h : n .tables ≤ length d = leb-true (n .tables) (length d) (search (and-left, and-right) depth 9) in
                 let c : n .tables ≡ sizesOf k .tables = ap (λ (x : Sizes). x .tables) en in
-                (fitting (o .laid) (omega arith), omega (arith, tables-within k made (configIn (keptFrame g)) (frame-rule k made (keptFrame g) keeps) s o))
+                (fitting (o .laid) (omega arith), omega (arith, tables-within k made (configIn (keptFrame g)) (frame-rule k (keptFrame g) keeps) s o))
 
             pub tested-messages : (r : Lent) → r ≡ cond (soundIn s (part (s .end) d)) (Good s) Bad → Tested k g d z w na r
             unfolding lentWellFor tablesPart configOf

@@ -1,6 +1,6 @@
 -- `completeIn`, record by record with the bits of the numbers seen so far, and the turns of the loop that tests it so.
 use mathlib.Core.Path.{_≡_, refl, sym, ap, ap₂, _∙_}
-use mathlib.Core.Bool.{Bool, true, false, not, _&&_, _||_, and-false}
+use mathlib.Core.Bool.{Bool, true, false, not, _&&_, _||_, and-false, and-assoc}
 use mathlib.Core.List.{List, [], _∷_}
 use Prim.Native.Nat.{ℕ, zero, suc, _+_, _-_, _*_, _^_, _<_, _≤_}
 use native.Mathlib.Numerals.{add-one}
@@ -125,10 +125,6 @@ module _ (n : ℕ) where
       ap (eqb (trues (marks f l))) e ∙ trues-all f (length-replicate n false) l a ∙ rw (unseen-none l)
 
 -- ---- a test that has come to record k
-
-and-assoc : (a b c : Bool) → ((a && b) && c) ≡ (a && (b && c))
-and-assoc true b c = refl
-and-assoc false b c = refl
 
 module _ (most n : ℕ) where
   abbrev goesOn : List Bool → List ℕ → Bool

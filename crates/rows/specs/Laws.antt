@@ -14,6 +14,9 @@ use Rattle.rows.specs.Splice.{cut, splice}
 pub length-cut : (d : List ℕ) (a e : ℕ) → e ≤ length d → length (cut d a e) ≡ e - a
 length-cut d a e h = simp (length-take, length-drop) (omega arith)
 
+pub getD-cut : (d : List ℕ) (a e i : ℕ) → i < e - a → getD (cut d a e) i 0 ≡ getD d (a + i) 0
+getD-cut d a e i h = getD-take (e - a) (drop a d) i 0 h ∙ getD-drop a d i 0
+
 pub length-splice : (d : List ℕ) (at : ℕ) (s : List ℕ) → at + length s ≤ length d → length (splice d at s) ≡ length d
 length-splice d at s h = simp (length-append, length-take, length-drop) (omega arith)
 

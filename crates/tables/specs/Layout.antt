@@ -6,11 +6,10 @@ use mathlib.Core.List.{List, [], _∷_}
 use Prim.Native.Nat.{ℕ, zero, suc, _+_, _-_, _*_, _<_, _≤_}
 use native.Mathlib.Omega.{arith}
 use lib.Dec.{eqb, ltb}
-use lib.ListN.{length, getD, drop, set}
-use lib.Seq.{getD-take, getD-drop}
+use lib.ListN.{length, getD, set}
 use borrow.Author.Tests.{eqb-true, eqb-false, ltb-true, ltb-false}
 use Rattle.rows.specs.Splice.{cut, splice}
-use Rattle.rows.specs.Laws.{length-cut, cut-inside, cut-apart, set-is-splice}
+use Rattle.rows.specs.Laws.{length-cut, getD-cut, cut-inside, cut-apart, set-is-splice}
 use Rattle.rows.specs.Rows.{rowAt, row-of-cut}
 use Rattle.tables.specs.declared.shape.Shape.{Shape}
 
@@ -203,7 +202,7 @@ module _ (s : Shape) (l : Laid s) where
 -- a byte of a region
 pub region-at : (s : Shape) (d : List ℕ) (k i : ℕ) → i < bound s (suc k) - bound s k → getD (region s d k) i 0 ≡ getD d (bound s k + i) 0
 unfolding region
-region-at s d k i h = getD-take (bound s (suc k) - bound s k) (drop (bound s k) d) i 0 h ∙ getD-drop (bound s k) d i 0
+region-at s d k i h = getD-cut d (bound s k) (bound s (suc k)) i h
 
 module _ {s : Shape} {n : ℕ} (f : Fits s n) (d : List ℕ) (t : ℕ) (i : OneOf (s .tasks) t) where
   pub record-at : rowAt 6 (t - 1) (regions s d .records) ≡ cut d (s .recordat + (t - 1) * 6) (s .recordat + (t - 1) * 6 + 6)

@@ -5,7 +5,7 @@ use crate::random::Random;
 
 type Pair = (u8, u8);
 
-/// Mostly none. Few pairs or the most, a chain, all firsts of one task, all tasks behind one first; some twice.
+/// Half of the time none. Few pairs or the most, a chain, all firsts of one task, all tasks behind one first; some twice.
 pub fn accepted(random: &mut Random, states: &[u8], most: bool) -> Vec<Pair> {
     let good = good(states);
     let Some((first, then)) = random.pick_if(&good) else {

@@ -30,24 +30,35 @@ fn scripts() -> Vec<Script> {
     scripts
 }
 
-/// Each of the first reaches a situation that none before it reached; some more follow.
-fn small(others: &[Script]) -> Vec<Script> {
-    let mut coverage = covered(others);
-    let (mut chosen, mut further) = (Vec::new(), Vec::new());
-    for session in 100..10_000 {
-        let tasks = if session % 50 == 0 { 126..=126 } else { 1..=20 };
-        let script = Generator::new(seed() + session).script(tasks, FRAMES);
-        let missing = coverage.missing_of_frames().len();
-        coverage.watch_script(&script);
-        if coverage.missing_of_frames().len() < missing {
-            chosen.push(script);
-        } else if further.len() < FURTHER {
-            further.push(script);
-        } else if missing == 0 {
+/// Of a row of items those that make less missing than all before them did, and so many more; until nothing is missing.
+fn chosen<T>(items: impl Iterator<Item = T>, more: usize, mut missing_after: impl FnMut(&T) -> usize) -> Vec<T> {
+    let (mut chosen, mut further, mut missing) = (Vec::new(), Vec::new(), usize::MAX);
+    for item in items {
+        let left = missing_after(&item);
+        if left < missing {
+            chosen.push(item);
+        } else if further.len() < more {
+            further.push(item);
+        } else if left == 0 {
             break;
         }
+        missing = left;
     }
-    [chosen, further].concat()
+    chosen.extend(further);
+    chosen
+}
+
+/// Sessions that together reach every situation which the others don't.
+fn small(others: &[Script]) -> Vec<Script> {
+    let mut coverage = covered(others);
+    let scripts = (100..10_000).map(|session| {
+        let tasks = if session % 50 == 0 { 126..=126 } else { 1..=20 };
+        Generator::new(seed() + session).script(tasks, FRAMES)
+    });
+    chosen(scripts, FURTHER, |script| {
+        coverage.watch_script(script);
+        coverage.missing_of_frames().len()
+    })
 }
 
 fn covered(scripts: &[Script]) -> Coverage {
@@ -61,27 +72,17 @@ fn sessions(scripts: &[Script]) -> Vec<Fact> {
     numbered.map(|(number, script)| facts::session(number, script, &Results::of(script))).collect()
 }
 
-/// Each of the first has a cause that none before it had, until all are there; some more follow.
+/// Frames that together have every cause of a refused configuration.
 fn refused_configurations() -> Vec<Fact> {
     let mut generator = Generator::new(seed() + 13);
     let mut coverage = Coverage::new();
-    let (mut chosen, mut further) = (Vec::new(), Vec::new());
-    for _ in 0..100_000 {
-        let missing = coverage.missing_of_refused().len();
-        let frame = generator.refused_configuration();
-        coverage.watch_configuration(&frame);
-        if coverage.missing_of_refused().len() < missing {
-            chosen.push(frame);
-        } else if further.len() < REFUSED {
-            further.push(frame);
-        } else if missing == 0 {
-            break;
-        }
-    }
+    let frames = chosen((0..100_000).map(|_| generator.refused_configuration()), REFUSED, |frame| {
+        coverage.watch_configuration(frame);
+        coverage.missing_of_refused().len()
+    });
     let missing = coverage.missing_of_refused();
     assert!(missing.is_empty(), "not compared: {missing:#?}");
-    let all = chosen.iter().chain(&further).enumerate();
-    all.map(|(number, frame)| facts::refused_configuration(number, frame)).collect()
+    frames.iter().enumerate().map(|(number, frame)| facts::refused_configuration(number, frame)).collect()
 }
 
 fn inputs() -> Vec<Fact> {

@@ -1,12 +1,12 @@
 -- The laws of checks: a list of checks that gives 0 has none that fails; and what a test says of its parts.
 use Prim.Native.Nat.{ℕ, zero, suc, _<_}
-use mathlib.Core.Path.{_≡_, refl, sym, _∙_}
-use mathlib.Core.Bool.{Bool, true, false, cond, not, _&&_, _||_}
+use mathlib.Core.Path.{_≡_, refl, sym, ap, _∙_}
+use mathlib.Core.Bool.{Bool, true, false, cond, not, _&&_, _||_, false≢true}
 use mathlib.Core.List.{List, [], _∷_, _++_}
 use native.Mathlib.Omega.{arith}
-use borrow.Author.Tests.{leb-true, eqb-true, eqb-false}
+use borrow.Author.Tests.{le-leb, leb-true, leb-false, eqb-true, eqb-false}
 use lib.Dec.{eqb, leb}
-use lib.ListN.{length, getD}
+use lib.ListN.{length, getD, List·getD-eq-default}
 use Rattle.ledger.specs.Lists.{Check, first, at, any, all, within}
 use Rattle.ledger.specs.Theorems.Items.{Numbered}
 
@@ -19,7 +19,7 @@ and-right true b h = h
 and-right false b h = cc
 
 pub never : {P : Type 0} → false ≡ true → P
-never e = let z : _≡_ {A = ℕ} 0 1 = cc in absurd (omega arith)
+never e = absurd (false≢true e)
 
 pub or-left : (a b : Bool) → (a || b) ≡ false → a ≡ false
 or-left true b h = h
@@ -111,3 +111,11 @@ module _ {A : Type 0} where
   unfolding at
   at-any p xs zero d h k = absurd (omega arith)
   at-any p xs (suc n) d h k = getD-any p xs n d h (omega arith)
+
+  -- no item has such a number
+  pub at-none : (xs : List A) (n : ℕ) (d : A) → within 1 (length xs) n ≡ false → at xs n d ≡ d
+  unfolding at
+  at-none xs zero d h = refl
+  at-none xs (suc n) d h =
+      let e : (true && leb (suc n) (length xs)) ≡ false = ap (λ (b : Bool). b && leb (suc n) (length xs)) (sym (le-leb 1 (suc n) (omega arith))) ∙ h in
+      List·getD-eq-default xs d {n = n} (omega (arith, leb-false (suc n) (length xs) e))

@@ -22,7 +22,7 @@ longest-requires c κs = search needs
 returns : tie.Need-returns
 returns c =
     let s = c .before .before .before .before in
-    too-long (limitsOf (s .args .limits)) (s .pre .0) (now (s .args .config)) (s .pre .1) _ (c .before .before .frame-length .ensures .0) (omega (arith, c .if1 .taken, c .before .longest .ensures .0))
+    too-long (limitsOf (s .args .limits)) (now (s .args .config)) (s .pre .1) _ (c .before .before .frame-length .ensures .0) (omega (arith, c .if1 .taken, c .before .longest .ensures .0))
 
 add-end : tie.Need-add-end
 add-end c = omega (arith, c .before .longest .ensures .1)
