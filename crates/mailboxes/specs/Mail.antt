@@ -11,6 +11,7 @@ use borrow.Rule.Slice.PartMut.{putMid}
 use Rattle.rows.specs.Splice.{cut, splice}
 use Rattle.rows.specs.Laws.{length-cut, length-splice, lent-back, splice-whole}
 use Rattle.messages.specs.Pending.{Pending, addressed, pendingIn, mailboxOf}
+use Rattle.messages.specs.Searches.{roomIn, Bounded}
 use Rattle.tables.specs.declared.shape.Shape.{Shape}
 use Rattle.tables.specs.Layout.{OneOf, countAt, Laid, Fits, fitting, bound, region, Regions, named, regions, but, written, byte-written, region-at, region-length}
 use Rattle.tables.specs.Decode.{countOf}
@@ -44,6 +45,13 @@ bytes-are s d = refl
 
 pub bytes-length : {s : Shape} (d : List ℕ) → Fits s (length d) → length (bytes s d) ≡ s .messages * 4
 bytes-length {s} d f = let l = lies f in length-cut d (s .messageat) (s .bodyat) (l .within) ∙ l .room
+
+-- G: what is lent to the searches has room for just as many messages as there are
+pub bytes-room : {s : Shape} (d : List ℕ) → Fits s (length d) → roomIn (bytes s d) ≡ s .messages
+bytes-room d f = omega (arith, bytes-length d f)
+
+pub bytes-bounded : {s : Shape} (d : List ℕ) → Fits s (length d) → {n : ℕ} → n ≤ s .messages → Bounded n (bytes s d)
+bytes-bounded d f h = record { room = omega (arith, bytes-room d f); few = omega (arith, bytes-room d f, lies f .most) }
 
 module _ {tidy : Bool} (c : Config) (s : Shape) (L : Ledger) (d z w : List ℕ) (h : ShowsAs tidy c s L d z w) where
   pub counter : getD (regions s d .clock) countAt 0 ≡ getD d countAt 0

@@ -1,6 +1,7 @@
 -- What the bytes mean, and what the contracts promise of it.
 pub mod Pending
 pub mod Changes
+pub mod Searches
 -- Laws: of lists, of mailboxes, of records, of a full table.
 pub mod Lists
 pub mod Mailboxes

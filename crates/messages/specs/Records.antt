@@ -4,15 +4,15 @@ use mathlib.Core.Bool.{Bool, true, false, cond, not, _&&_, _||_}
 use mathlib.Core.List.{List, [], _∷_, map}
 use mathlib.Core.Option.{none, some}
 use Prim.Native.Nat.{ℕ, _+_, _-_, _*_, _<_, _≤_}
-use native.Mathlib.Nat.{add-zero, zero-add}
+use native.Mathlib.Nat.{add-zero}
 use native.Mathlib.Omega.{arith}
 use lib.Dec.{ltb, eqb}
 use borrow.Author.Tests.{eq-eqb, ne-eqb, le-leb}
-use lib.ListN.{length, getD, drop, length-map, List·getD-map}
+use lib.ListN.{length, getD, length-map, List·getD-map}
 use Rattle.ledger.specs.Lists.{within, any, all, keep, find}
 use Rattle.ledger.specs.Services.{wanted}
 use Rattle.rows.specs.Rows.{rowsOf, insertAt, removeAt, getD-row, getD-rows, length-rows, map-insertAt}
-use Rattle.rows.specs.First.{firstOf, first-le, first-here, first-on, first-end, keepFrom, keep-on, keep-out, keep-end, map-removeAt, any-is}
+use Rattle.rows.specs.First.{firstOf, keepFrom, keep-on, keep-out, keep-end, map-removeAt, any-is}
 use Rattle.messages.specs.Lists.{all-insert, all-remove, any-map, any-ext}
 use Rattle.messages.specs.Pending.{Pending, toTask, addressed, letter, pending, receiver, pendingOf, pendingAt, pendingIn, letterAt, numbersIn, for, mailboxOf, mailboxesOf, numbered, behind, placeFor, wantedBy, placeOf, occurs}
 use Rattle.messages.specs.Changes.{Inserted, Found, Removed, Taken, Emptied}
@@ -112,35 +112,7 @@ module _ (T k : ℕ) (d : List ℕ) (t : ℕ) where
       unfolding wanted
       wanted-own a b q = q ∙ ap (λ (x : ℕ). eqb a 0 || eqb a x) sender-read ∙ sym (rw (sym r ∙ e))
 
--- ---- a search in n items that has come to the one at k
-
-pub record Searched {A : Type 0} (p : A → Bool) (l : List A) (n k : ℕ) : Type 0 where
-  pub inside : k ≤ n
-  pub so-far : firstOf p l ≡ k + firstOf p (drop k l)
-
-module _ {A : Type 0} (p : A → Bool) (l : List A) (n : ℕ) (many : length l ≡ n) where
-  pub search-start : Searched p l n 0
-  search-start = record { inside = omega arith; so-far = sym (zero-add _) }
-
-  module _ (k : ℕ) (s : Searched p l n k) where
-    module _ (h : k < n) (z : A) {u : A} (here : getD l k z ≡ u) {b : Bool} (t : b ≡ p u) where
-      tested : p (getD l k z) ≡ b
-      tested = ap p here ∙ sym t
-
-      pub search-here : b ≡ true → k ≡ firstOf p l
-      search-here y = first-here p l k (s .so-far) z (omega (arith, many)) (tested ∙ y)
-
-      pub search-on : b ≡ false → Searched p l n (k + 1)
-      search-on y = record { inside = omega arith; so-far = first-on p l k (s .so-far) z (omega (arith, many)) (tested ∙ y) }
-
-    pub search-end : n ≤ k → k ≡ firstOf p l
-    search-end h = first-end p l k (s .so-far) (omega (arith, many))
-
 -- ---- what a search has found
-
-pub place-inside : (T n t s k : ℕ) (d : List ℕ) → k ≡ placeFor t s (pendingIn T n d) → k ≤ n
-unfolding placeFor
-place-inside T n t s k d e = omega (arith, first-le (behind t s) (pendingIn T n d), pending-length T n d)
 
 module _ (T n t a k : ℕ) (d : List ℕ) (f : Found T n t a d k) where
   same-letter : pendingAt T k d .message ≡ letterAt k d

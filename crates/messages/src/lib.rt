@@ -2,13 +2,18 @@
 // A receiver that is none of the tasks is read as task 1, so that every record lies in a mailbox.
 // Promises what each search finds and what each change makes of every mailbox, in the ledger's own functions.
 // Rests on the crates ledger (what a mailbox is) and rows (records put in and taken out).
+pub mod number;
+pub mod place;
+pub mod sender;
+
 ghost use mathlib.Core.Path.{_≡_};
 ghost use Prim.Native.Nat.{_+_, _-_, _*_, _^_, _<_, _≤_};
 ghost use lib.Bits.{bitOr};
 ghost use lib.ListN.{length};
 ghost use Rattle.ledger.specs.Lists.{within};
-ghost use Rattle.messages.specs.Pending.{letter, letterAt, pending, pendingAt, pendingIn, for, placeFor, behind, wantedBy, numbersIn, occurs, completeIn};
+ghost use Rattle.messages.specs.Pending.{letter, letterAt, pending, pendingAt, for, numbersIn, occurs, completeIn};
 ghost use Rattle.messages.specs.Changes.{Inserted, Found, Removed, Emptied};
+ghost use Rattle.messages.specs.Searches.{Bounded};
 
 // A message, without its receiver.
 pub struct Message {
@@ -30,6 +35,13 @@ pub fn load(b: &[u8], k: usize) -> Message
     }
 }
 
+// What a search came to: the place of the first message that it was for, n if there is none, and how many it looked at.
+// It counts in a byte, one for each message looked at, whomever that is for.
+pub struct Search {
+    pub place: usize,
+    pub looked: u8,
+}
+
 // Whether a number is 1 to top.
 fn is_within(x: u8, top: usize) -> bool
     ensures { λ r. ⌜ r ≡ within 1 top x ⌝ }
@@ -39,7 +51,7 @@ fn is_within(x: u8, top: usize) -> bool
 
 // Whether record k is for task `to`: its receiver is that number, or is no task, which means task 1.
 // For another task than 1, a record for others costs one compare.
-fn is_for(b: &[u8], k: usize, tasks: usize, to: u8) -> bool
+pub fn is_for(b: &[u8], k: usize, tasks: usize, to: u8) -> bool
     requires { ⌜ (k * 4 + 4 ≤ length (now b)) × (1 ≤ to) × (to ≤ tasks) ⌝ }
     ensures { λ r. ⌜ r ≡ for to (pendingAt tasks k (now (b .entry))) ⌝ }
 {
@@ -52,69 +64,23 @@ fn is_for(b: &[u8], k: usize, tasks: usize, to: u8) -> bool
     !is_within(b[k * 4], tasks)
 }
 
-// Whether record k is for task `to`, from a higher sender.
-fn is_behind(b: &[u8], k: usize, tasks: usize, to: u8, sender: u8) -> bool
-    requires { ⌜ (k * 4 + 4 ≤ length (now b)) × (1 ≤ to) × (to ≤ tasks) ⌝ }
-    ensures { λ r. ⌜ r ≡ behind to sender (pendingAt tasks k (now (b .entry))) ⌝ }
-{
-    if !is_for(b, k, tasks, to) {
-        return false;
-    }
-    sender < b[k * 4 + 2]
-}
-
-// The place of a new message: before the first of the same receiver from a higher sender, else behind all.
-fn place(b: &[u8], n: usize, tasks: usize, to: u8, sender: u8) -> usize
-    requires { ⌜ (n * 4 ≤ length (now b)) × (1 ≤ to) × (to ≤ tasks) ⌝ }
-    ensures { λ r. ⌜ r ≡ placeFor to sender (pendingIn tasks n (now (b .entry))) ⌝ }
-{
-    let mut k = 0;
-    while k < n {
-        if is_behind(b, k, tasks, to, sender) {
-            return k;
-        }
-        k += 1;
-    }
-    k
-}
-
 // Puts a message in behind those of the same receiver from the same or a lower sender.
 pub fn insert(b: &mut [u8], n: usize, tasks: usize, to: u8, number: u8, sender: u8, semaphore: u8)
-    requires { ⌜ (n * 4 + 4 ≤ length (now b)) × (1 ≤ to) × (to ≤ tasks) ⌝ }
+    requires { ⌜ Bounded (n + 1) (now b) × (1 ≤ to) × (to ≤ tasks) ⌝ }
     ensures { λ _. ⌜ Inserted tasks n (pending to number sender semaphore) (now (b .entry)) (now (b .exit)) ⌝ }
 {
-    let at = place(b, n, tasks, to, sender);
+    let s = place::search(b, n, tasks, to, sender);
     let row = [to, number, sender, semaphore];
-    rows::insert_at(b, n, 4, at, &row);
-}
-
-// Whether record k is for task `to`, and from `from`, or from any if that is 0.
-fn is_wanted(b: &[u8], k: usize, tasks: usize, to: u8, from: u8) -> bool
-    requires { ⌜ (k * 4 + 4 ≤ length (now b)) × (1 ≤ to) × (to ≤ tasks) ⌝ }
-    ensures { λ r. ⌜ r ≡ wantedBy to from (pendingAt tasks k (now (b .entry))) ⌝ }
-{
-    if !is_for(b, k, tasks, to) {
-        return false;
-    }
-    if from == 0 {
-        return true;
-    }
-    from == b[k * 4 + 2]
+    rows::insert_at(b, n, 4, s.place, &row);
 }
 
 // The place of the first message for task `to` that is from `from`, or from any if that is 0; n if there is none.
 pub fn find(b: &[u8], n: usize, tasks: usize, to: u8, from: u8) -> usize
-    requires { ⌜ (n * 4 ≤ length (now b)) × (1 ≤ to) × (to ≤ tasks) ⌝ }
+    requires { ⌜ Bounded n (now b) × (1 ≤ to) × (to ≤ tasks) ⌝ }
     ensures { λ r. ⌜ Found tasks n to from (now (b .entry)) r ⌝ }
 {
-    let mut k = 0;
-    while k < n {
-        if is_wanted(b, k, tasks, to, from) {
-            return k;
-        }
-        k += 1;
-    }
-    k
+    let s = sender::search(b, n, tasks, to, from);
+    s.place
 }
 
 // Takes record k out; the records behind it move up.
@@ -145,17 +111,11 @@ pub fn remove_all(b: &mut [u8], n: usize, tasks: usize, to: u8) -> usize
 
 // Whether some record has a number.
 pub fn holds(b: &[u8], n: usize, number: u8) -> bool
-    requires { ⌜ n * 4 ≤ length (now b) ⌝ }
+    requires { ⌜ Bounded n (now b) ⌝ }
     ensures { λ r. ⌜ r ≡ occurs number (numbersIn n (now (b .entry))) ⌝ }
 {
-    let mut k = 0;
-    while k < n {
-        if b[k * 4 + 1] == number {
-            return true;
-        }
-        k += 1;
-    }
-    false
+    let s = number::search(b, n, number);
+    s.place < n
 }
 
 // The numbers seen, bit x - 1 for x, with one more.

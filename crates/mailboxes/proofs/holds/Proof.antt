@@ -1,7 +1,6 @@
 -- The records that are searched are those that the count says, which the ledger's mailboxes hold.
-use native.Mathlib.Omega.{arith}
 use denote.Ref.{now}
-use Rattle.mailboxes.specs.Mail.{lies, bytes-length}
+use Rattle.mailboxes.specs.Mail.{lies, bytes-bounded}
 use Rattle.mailboxes.specs.Operations.{holds-told}
 use borrow.Author.Needs.{needs}
 use Rattle.mailboxes.proofs.holds.Statement.{statement}
@@ -23,7 +22,7 @@ part-holds-end : tie.Need-part-holds-end
 part-holds-end c = lies (c .before .before .before .pre) .within
 
 holds-requires : tie.Need-holds-requires
-holds-requires c κs = let s = c .before .before .before .before in omega (arith, bytes-length (now (s .args .tables)) (s .pre), c .before .count .ensures)
+holds-requires c κs = let s = c .before .before .before .before in bytes-bounded (now (s .args .tables)) (s .pre) (c .before .count .ensures .1)
 
 returns : tie.Need-returns
 returns c =

@@ -1,7 +1,7 @@
 -- There is room; the region came back with the message's record in it, and the count is one more.
 use native.Mathlib.Omega.{arith}
 use denote.Ref.{now}
-use Rattle.mailboxes.specs.Mail.{lies, bytes-length}
+use Rattle.mailboxes.specs.Mail.{lies, bytes-bounded}
 use Rattle.mailboxes.specs.Operations.{insert-done}
 use borrow.Author.Needs.{needs}
 use Rattle.mailboxes.proofs.insert.Statement.{statement}
@@ -26,7 +26,7 @@ insert-requires : tie.Need-insert-requires
 insert-requires c κs =
     let s = c .before .before .before .before in
     let t = s .pre .1 in
-    (omega (arith, bytes-length (now (s .args .tables)) (s .pre .0), c .before .count .ensures .0, s .pre .2), omega (arith, t .0, t .1), omega (arith, t .0, t .1))
+    (bytes-bounded (now (s .args .tables)) (s .pre .0) (omega (arith, c .before .count .ensures .0, s .pre .2)), omega (arith, t .0, t .1), omega (arith, t .0, t .1))
 
 add-tables : tie.Need-add-tables
 add-tables c =

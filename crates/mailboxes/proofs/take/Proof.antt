@@ -3,7 +3,7 @@ use native.Mathlib.Omega.{arith}
 use denote.Ref.{now}
 use Rattle.messages.specs.Pending.{letter}
 use Rattle.mailboxes.specs.Received.{viewReceived, taken}
-use Rattle.mailboxes.specs.Mail.{lies, bytes-length}
+use Rattle.mailboxes.specs.Mail.{lies, bytes-length, bytes-bounded}
 use Rattle.mailboxes.specs.Operations.{take-none, take-some, take-done}
 use borrow.Author.Needs.{needs}
 use Rattle.mailboxes.proofs.take.Statement.{statement}
@@ -27,7 +27,7 @@ part-find-end c = lies (c .before .before .before .before .pre .0) .within
 find-requires : tie.Need-find-requires
 find-requires c κs =
     let s = c .before .before .before .before .before in
-    (omega (arith, bytes-length (now (s .args .tables)) (s .pre .0), c .before .before .count .ensures .1), s .pre .1 .0, s .pre .1 .1)
+    (bytes-bounded (now (s .args .tables)) (s .pre .0) (c .before .before .count .ensures .1), s .pre .1 .0, s .pre .1 .1)
 
 same-length : tie.Need-same-length
 same-length c = search needs

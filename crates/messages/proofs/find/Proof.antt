@@ -1,60 +1,20 @@
--- The search stops at the first record that is wanted, or behind the last one.
-use Prim.Native.Nat.{_-_}
-use native.Mathlib.Omega.{arith}
+-- The place is what the search gave, of the first record that is wanted.
+use borrow.Author.Needs.{needs}
 use denote.Ref.{now}
-use Rattle.messages.specs.Pending.{pendingIn, wantedBy, placeOf}
-use Rattle.messages.specs.Records.{pending-length, pending-at, Searched, search-start, search-here, search-on, search-end}
+use Rattle.messages.specs.Pending.{wantedBy, placeOf}
+use Rattle.messages.specs.Searches.{pendings, ended-inside}
 use Rattle.messages.proofs.find.Statement.{statement}
 use Rattle.messages.proofs.find.Tie as tie
 
-abbrev Inv-loop : tie.InvT-loop
-Inv-loop b n tasks to from k₀ k = Searched (wantedBy to from) (pendingIn tasks n b) n k
+search-requires : tie.Need-search-requires
+search-requires c κs = search needs
 
-abbrev μ-loop : tie.MeasureT-loop
-μ-loop b n tasks to from k₀ k = n - k
-
-loop-holds : tie.Need-loop-holds Inv-loop μ-loop
-loop-holds c = let a = c .before .args in search-start (wantedBy (a .to) (a .from)) (pendingIn (a .tasks) (a .n) (now (a .b))) (a .n) (pending-length (a .tasks) (a .n) (now (a .b)))
-
-is-wanted-requires : tie.Need-is-wanted-requires Inv-loop μ-loop
-is-wanted-requires c κs = let s = c .before .before .before in (omega arith, s .pre .1, s .pre .2)
-
-returns : tie.Need-returns Inv-loop μ-loop
+returns : tie.Need-returns
 unfolding placeOf
 returns c =
-    let a = c .before .before .before .before .before .args in
-    let l = c .before .before .before .loop in
-    record { place = search-here (wantedBy (a .to) (a .from)) (pendingIn (a .tasks) (a .n) (now (a .b))) (a .n) (pending-length (a .tasks) (a .n) (now (a .b))) (l .k) (l .inv) (c .before .before .loop-test .taken) _ (pending-at (a .tasks) (a .n) (l .k) (now (a .b)) (c .before .before .loop-test .taken)) (c .before .is-wanted .ensures) (c .if1 .taken); inside = l .inv .inside }
-
-add-k : tie.Need-add-k Inv-loop μ-loop
-add-k c = omega arith
-
-loop-less : tie.Need-loop-less Inv-loop μ-loop
-loop-less c = omega arith
-
-loop-again : tie.Need-loop-again Inv-loop μ-loop
-loop-again c =
-    let a = c .before .before .before .before .before .args in
-    let l = c .before .before .before .loop in
-    search-on (wantedBy (a .to) (a .from)) (pendingIn (a .tasks) (a .n) (now (a .b))) (a .n) (pending-length (a .tasks) (a .n) (now (a .b))) (l .k) (l .inv) (c .before .before .loop-test .taken) _ (pending-at (a .tasks) (a .n) (l .k) (now (a .b)) (c .before .before .loop-test .taken)) (c .before .is-wanted .ensures) (c .if1 .left)
-
-returns-2 : tie.Need-returns-2 Inv-loop μ-loop
-unfolding placeOf
-returns-2 c =
-    let a = c .before .before .before .args in
-    let l = c .before .loop in
-    record { place = search-end (wantedBy (a .to) (a .from)) (pendingIn (a .tasks) (a .n) (now (a .b))) (a .n) (pending-length (a .tasks) (a .n) (now (a .b))) (l .k) (l .inv) (c .loop-test .left); inside = l .inv .inside }
+    let a = c .before .before .args in
+    let s = c .search in
+    record { place = s .ensures .0 .found; inside = ended-inside (pendings (a .tasks) (a .n) (now (a .b))) (wantedBy (a .to) (a .from)) (s .ensures .0) }
 
 pub find-spec : {M : Type 1} → statement M
-find-spec =
-    tie.close
-    (tie.spec
-    Inv-loop
-    μ-loop
-    loop-holds
-    is-wanted-requires
-    returns
-    add-k
-    loop-less
-    loop-again
-    returns-2)
+find-spec = tie.close (tie.spec search-requires returns)

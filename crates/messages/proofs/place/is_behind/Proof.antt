@@ -3,8 +3,8 @@ use denote.Ref.{now}
 use borrow.Author.Tests.{not-true, not-false}
 use Rattle.messages.specs.Records.{behind-other, behind-own}
 use borrow.Author.Needs.{needs}
-use Rattle.messages.proofs.is_behind.Statement.{statement}
-use Rattle.messages.proofs.is_behind.Tie as tie
+use Rattle.messages.proofs.place.is_behind.Statement.{statement}
+use Rattle.messages.proofs.place.is_behind.Tie as tie
 
 is-for-requires : tie.Need-is-for-requires
 is-for-requires c κs = search needs

@@ -4,8 +4,8 @@ use mathlib.Core.Path.{sym}
 use borrow.Author.Tests.{eq-eqb, ne-eqb, not-true, not-false}
 use Rattle.messages.specs.Records.{wanted-other, wanted-own}
 use borrow.Author.Needs.{needs}
-use Rattle.messages.proofs.is_wanted.Statement.{statement}
-use Rattle.messages.proofs.is_wanted.Tie as tie
+use Rattle.messages.proofs.sender.is_wanted.Statement.{statement}
+use Rattle.messages.proofs.sender.is_wanted.Tie as tie
 
 is-for-requires : tie.Need-is-for-requires
 is-for-requires c κs = search needs
