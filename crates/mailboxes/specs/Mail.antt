@@ -11,7 +11,7 @@ use borrow.Rule.Slice.PartMut.{putMid}
 use Rattle.rows.specs.Splice.{cut, splice}
 use Rattle.rows.specs.Laws.{length-cut, length-splice, lent-back, splice-whole}
 use Rattle.messages.specs.Pending.{Pending, addressed, pendingIn, mailboxOf}
-use Rattle.messages.specs.Searches.{roomIn, Bounded}
+use Rattle.messages.specs.Searches.{recordRoom, Bounded}
 use Rattle.tables.specs.declared.shape.Shape.{Shape}
 use Rattle.tables.specs.Layout.{OneOf, countAt, Laid, Fits, fitting, bound, region, Regions, named, regions, but, written, byte-written, region-at, region-length}
 use Rattle.tables.specs.Decode.{countOf}
@@ -47,7 +47,7 @@ pub bytes-length : {s : Shape} (d : List ℕ) → Fits s (length d) → length (
 bytes-length {s} d f = let l = lies f in length-cut d (s .messageat) (s .bodyat) (l .within) ∙ l .room
 
 -- G: what is lent to the searches has room for just as many messages as there are
-pub bytes-room : {s : Shape} (d : List ℕ) → Fits s (length d) → roomIn (bytes s d) ≡ s .messages
+pub bytes-room : {s : Shape} (d : List ℕ) → Fits s (length d) → recordRoom (bytes s d) ≡ s .messages
 bytes-room d f = omega (arith, bytes-length d f)
 
 pub bytes-bounded : {s : Shape} (d : List ℕ) → Fits s (length d) → {n : ℕ} → n ≤ s .messages → Bounded n (bytes s d)

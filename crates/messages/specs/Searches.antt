@@ -15,13 +15,13 @@ use Rattle.messages.specs.Pending.{Pending, pendingOf, pendingAt, pendin
 use Rattle.messages.specs.Records.{pending-length, pending-at, number-length, number-at}
 
 -- G: so many records of four bytes have room in d
-abbrev pub roomIn : List ℕ → ℕ
-roomIn d = length d / 4
+abbrev pub recordRoom : List ℕ → ℕ
+recordRoom d = length d / 4
 
 -- n records lie in d, which has room for G of them, and G is 64 at most
 pub record Bounded (n : ℕ) (d : List ℕ) : Type 0 where
-  pub room : n ≤ roomIn d
-  pub few : roomIn d ≤ 64
+  pub room : n ≤ recordRoom d
+  pub few : recordRoom d ≤ 64
 
 -- how many items a search looks at: each up to the first that passes, and that one
 abbrev pub lookedAt : {A : Type 0} → (A → Bool) → List A → ℕ
@@ -29,14 +29,14 @@ lookedAt p [] = 0
 lookedAt p (u ∷ us) = suc (cond (p u) 0 (lookedAt p us))
 
 -- the one that it stops at is counted, and none is counted twice or before the first
-pub record Counts : Type 0 where
+pub record Looks : Type 0 where
   where-none-lie : lookedAt (eqb 7) [] ≡ 0
   the-first-passes : lookedAt (eqb 7) (7 ∷ 8 ∷ 7 ∷ []) ≡ 1
   the-last-passes : lookedAt (eqb 7) (5 ∷ 6 ∷ 7 ∷ []) ≡ 3
   none-passes : lookedAt (eqb 7) (5 ∷ 6 ∷ 8 ∷ []) ≡ 3
 
-pub counts : Counts
-counts = record { where-none-lie = refl; the-first-passes = refl; the-last-passes = refl; none-passes = refl }
+pub looks : Looks
+looks = record { where-none-lie = refl; the-first-passes = refl; the-last-passes = refl; none-passes = refl }
 
 -- a search in l has ended: where the first that passes lies, the length if none does, and how many items were looked at
 pub record Ended {A : Type 0} (p : A → Bool) (l : List A) (place looked : ℕ) : Type 0 where
@@ -44,12 +44,12 @@ pub record Ended {A : Type 0} (p : A → Bool) (l : List A) (place looked : ℕ)
   pub counted : looked ≡ lookedAt p l
 
 -- the count of messages looked at, which are no more than lie, never passes G
-pub never-past : {n : ℕ} {d : List ℕ} → Bounded n d → (looked : ℕ) → looked ≤ n → looked ≤ roomIn d
+pub never-past : {n : ℕ} {d : List ℕ} → Bounded n d → (looked : ℕ) → looked ≤ n → looked ≤ recordRoom d
 never-past b looked h = omega (arith, b .room)
 
--- ---- n items, and what is read as item k
+-- ---- n items, and what is read as the one at k
 
-pub record Items (A : Type 0) (n : ℕ) : Type 0 where
+pub record Listed (A : Type 0) (n : ℕ) : Type 0 where
   all : List A
   many : length all ≡ n
   at : ℕ → A
@@ -57,20 +57,20 @@ pub record Items (A : Type 0) (n : ℕ) : Type 0 where
   reads : (k : ℕ) → k < n → getD all k else ≡ at k
 
 -- the pending messages, and their numbers
-abbrev pub pendings : (tasks n : ℕ) → List ℕ → Items Pending n
+abbrev pub pendings : (tasks n : ℕ) → List ℕ → Listed Pending n
 pendings T n d = record { all = pendingIn T n d; many = pending-length T n d; at = λ k. pendingAt T k d; else = pendingOf T []; reads = λ k h. pending-at T n k d h }
 
-abbrev pub numbers : (n : ℕ) → List ℕ → Items ℕ n
+abbrev pub numbers : (n : ℕ) → List ℕ → Listed ℕ n
 numbers n d = record { all = numbersIn n d; many = number-length n d; at = λ k. getD d (k * 4 + 1) 0; else = 0; reads = λ k h. number-at n k d h }
 
 -- ---- a search in them, that has looked at so many, none of which passes
 
-pub record Looking {A : Type 0} {n : ℕ} (i : Items A n) (p : A → Bool) (looked : ℕ) : Type 0 where
+pub record Looking {A : Type 0} {n : ℕ} (i : Listed A n) (p : A → Bool) (looked : ℕ) : Type 0 where
   pub inside : looked ≤ n
   so-far : firstOf p (i .all) ≡ looked + firstOf p (drop looked (i .all))
   counted : lookedAt p (i .all) ≡ looked + lookedAt p (drop looked (i .all))
 
-module _ {A : Type 0} {n : ℕ} (i : Items A n) (p : A → Bool) where
+module _ {A : Type 0} {n : ℕ} (i : Listed A n) (p : A → Bool) where
   abbrev l : List A
   l = i .all
 

@@ -3,13 +3,13 @@ use crate::Search;
 ghost use Prim.Native.Nat.{_≤_};
 ghost use lib.Dec.{eqb};
 ghost use Rattle.messages.specs.Pending.{numbersIn};
-ghost use Rattle.messages.specs.Searches.{roomIn, Bounded, Ended};
+ghost use Rattle.messages.specs.Searches.{recordRoom, Bounded, Ended};
 
 // The search for the message of a number.
 pub fn search(b: &[u8], n: usize, number: u8) -> Search
     requires { ⌜ Bounded n (now b) ⌝ }
     ensures ended { λ r. ⌜ Ended (λ y. eqb y number) (numbersIn n (now (b .entry))) (r .place) (r .looked) ⌝ }
-    ensures bound { λ r. ⌜ r .looked ≤ roomIn (now (b .entry)) ⌝ }
+    ensures bound { λ r. ⌜ r .looked ≤ recordRoom (now (b .entry)) ⌝ }
 {
     let lying = n as u8;
     let mut looked: u8 = 0;

@@ -5,7 +5,7 @@ ghost use mathlib.Core.Path.{_≡_};
 ghost use Prim.Native.Nat.{_+_, _*_, _≤_};
 ghost use lib.ListN.{length};
 ghost use Rattle.messages.specs.Pending.{pendingAt, pendingIn, wantedBy};
-ghost use Rattle.messages.specs.Searches.{roomIn, Bounded, Ended};
+ghost use Rattle.messages.specs.Searches.{recordRoom, Bounded, Ended};
 
 // Whether record k is for task `to`, and from `from`, or from any if that is 0.
 fn is_wanted(b: &[u8], k: usize, tasks: usize, to: u8, from: u8) -> bool
@@ -26,7 +26,7 @@ fn is_wanted(b: &[u8], k: usize, tasks: usize, to: u8, from: u8) -> bool
 pub fn search(b: &[u8], n: usize, tasks: usize, to: u8, from: u8) -> Search
     requires { ⌜ Bounded n (now b) × (1 ≤ to) × (to ≤ tasks) ⌝ }
     ensures ended { λ r. ⌜ Ended (wantedBy to from) (pendingIn tasks n (now (b .entry))) (r .place) (r .looked) ⌝ }
-    ensures bound { λ r. ⌜ r .looked ≤ roomIn (now (b .entry)) ⌝ }
+    ensures bound { λ r. ⌜ r .looked ≤ recordRoom (now (b .entry)) ⌝ }
 {
     let lying = n as u8;
     let mut looked: u8 = 0;
