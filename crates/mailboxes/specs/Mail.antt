@@ -46,12 +46,12 @@ bytes-are s d = refl
 pub bytes-length : {s : Shape} (d : List ℕ) → Fits s (length d) → length (bytes s d) ≡ s .messages * 4
 bytes-length {s} d f = let l = lies f in length-cut d (s .messageat) (s .bodyat) (l .within) ∙ l .room
 
--- G: what is lent to the searches has room for just as many messages as there are
+-- what is lent to the searches has room for just the shape's G messages
 pub bytes-room : {s : Shape} (d : List ℕ) → Fits s (length d) → recordRoom (bytes s d) ≡ s .messages
 bytes-room d f = omega (arith, bytes-length d f)
 
 pub bytes-bounded : {s : Shape} (d : List ℕ) → Fits s (length d) → {n : ℕ} → n ≤ s .messages → Bounded n (bytes s d)
-bytes-bounded d f h = record { room = omega (arith, bytes-room d f); few = omega (arith, bytes-room d f, lies f .most) }
+bytes-bounded d f h = record { few = omega (arith, bytes-room d f); most = omega (arith, bytes-room d f, lies f .most) }
 
 module _ {tidy : Bool} (c : Config) (s : Shape) (L : Ledger) (d z w : List ℕ) (h : ShowsAs tidy c s L d z w) where
   pub counter : getD (regions s d .clock) countAt 0 ≡ getD d countAt 0

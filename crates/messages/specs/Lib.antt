@@ -10,6 +10,7 @@ pub mod Full
 -- What is complete, and how many records are taken, by the mailboxes.
 pub mod Counted
 pub mod Lying
--- The loop that tests for a complete table.
+-- The loop of the searches, and the one that tests for a complete table.
+pub mod Looking
 pub mod Marks
 pub mod Checks

@@ -1,6 +1,6 @@
 // The pending messages of all mailboxes: n records of four bytes (receiver, number, sender, semaphore) at the start of a lent slice.
 // A receiver that is none of the tasks is read as task 1, so that every record lies in a mailbox.
-// Promises what each search finds and what each change makes of every mailbox, in the ledger's own functions.
+// Promises what each search finds, its count never past G, and what each change makes of every mailbox, in the ledger's own functions.
 // Rests on the crates ledger (what a mailbox is) and rows (records put in and taken out).
 pub mod number;
 pub mod place;
@@ -35,8 +35,8 @@ pub fn load(b: &[u8], k: usize) -> Message
     }
 }
 
-// What a search came to: the place of the first message that it was for, n if there is none, and how many it looked at.
-// It counts in a byte, one for each message looked at, whomever that is for.
+// What a search gives: the place of the first message that passes its test, n if none does, and how many messages it looked at.
+// It counts in a byte, one for each message looked at, whichever task that is for.
 pub struct Search {
     pub place: usize,
     pub looked: u8,

@@ -1,11 +1,11 @@
-// The place of a new message.
+// The search for the place of a new message.
 use crate::Search;
 use crate::is_for;
 ghost use mathlib.Core.Path.{_≡_};
 ghost use Prim.Native.Nat.{_+_, _*_, _≤_};
 ghost use lib.ListN.{length};
 ghost use Rattle.messages.specs.Pending.{pendingAt, pendingIn, behind};
-ghost use Rattle.messages.specs.Searches.{recordRoom, Bounded, Ended};
+ghost use Rattle.messages.specs.Searches.{recordRoom, Bounded, Searched};
 
 // Whether record k is for task `to`, from a higher sender.
 fn is_behind(b: &[u8], k: usize, tasks: usize, to: u8, sender: u8) -> bool
@@ -18,11 +18,12 @@ fn is_behind(b: &[u8], k: usize, tasks: usize, to: u8, sender: u8) -> bool
     sender < b[k * 4 + 2]
 }
 
-// The search for the place of a new message: before the first of the same receiver from a higher sender, else behind all.
+// Looks for the first message of the same receiver from a higher sender: a new one goes before it, or else behind all.
+// The count never passes G, the messages that b has room for.
 pub fn search(b: &[u8], n: usize, tasks: usize, to: u8, sender: u8) -> Search
     requires { ⌜ Bounded n (now b) × (1 ≤ to) × (to ≤ tasks) ⌝ }
-    ensures ended { λ r. ⌜ Ended (behind to sender) (pendingIn tasks n (now (b .entry))) (r .place) (r .looked) ⌝ }
-    ensures bound { λ r. ⌜ r .looked ≤ recordRoom (now (b .entry)) ⌝ }
+    ensures searched { λ r. ⌜ Searched (behind to sender) (pendingIn tasks n (now (b .entry))) (r .place) (r .looked) ⌝ }
+    ensures never_past { λ r. ⌜ r .looked ≤ recordRoom (now (b .entry)) ⌝ }
 {
     let lying = n as u8;
     let mut looked: u8 = 0;

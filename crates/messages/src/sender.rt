@@ -1,11 +1,11 @@
-// The message that a task receives from a sender.
+// The search for a sender's message.
 use crate::Search;
 use crate::is_for;
 ghost use mathlib.Core.Path.{_≡_};
 ghost use Prim.Native.Nat.{_+_, _*_, _≤_};
 ghost use lib.ListN.{length};
 ghost use Rattle.messages.specs.Pending.{pendingAt, pendingIn, wantedBy};
-ghost use Rattle.messages.specs.Searches.{recordRoom, Bounded, Ended};
+ghost use Rattle.messages.specs.Searches.{recordRoom, Bounded, Searched};
 
 // Whether record k is for task `to`, and from `from`, or from any if that is 0.
 fn is_wanted(b: &[u8], k: usize, tasks: usize, to: u8, from: u8) -> bool
@@ -21,12 +21,12 @@ fn is_wanted(b: &[u8], k: usize, tasks: usize, to: u8, from: u8) -> bool
     from == b[k * 4 + 2]
 }
 
-// The search for a sender's message: the first for task `to` that is from `from`, or from any if that is 0.
-// Its count never passes G, the messages that b has room for.
+// Looks for the first message for task `to` that is from `from`, or from any if that is 0.
+// The count never passes G, the messages that b has room for.
 pub fn search(b: &[u8], n: usize, tasks: usize, to: u8, from: u8) -> Search
     requires { ⌜ Bounded n (now b) × (1 ≤ to) × (to ≤ tasks) ⌝ }
-    ensures ended { λ r. ⌜ Ended (wantedBy to from) (pendingIn tasks n (now (b .entry))) (r .place) (r .looked) ⌝ }
-    ensures bound { λ r. ⌜ r .looked ≤ recordRoom (now (b .entry)) ⌝ }
+    ensures searched { λ r. ⌜ Searched (wantedBy to from) (pendingIn tasks n (now (b .entry))) (r .place) (r .looked) ⌝ }
+    ensures never_past { λ r. ⌜ r .looked ≤ recordRoom (now (b .entry)) ⌝ }
 {
     let lying = n as u8;
     let mut looked: u8 = 0;

@@ -13,8 +13,64 @@ type Frame = Vec<u8>;
 /// How many messages lie.
 const LYING: [u8; 8] = [0, 1, 2, 3, 32, 62, 63, 64];
 const MOST: u8 = 64;
-const OWN: u8 = 1;
-const OTHER: u8 = 2;
+
+/// A session of two tasks that are runnable, the first of which receives.
+#[derive(Clone, Copy, Debug)]
+struct Case {
+    /// The task that receives, behind it the other one; those before it are idle. Records for task 1 are told by another test than
+    /// those for a task above it.
+    own: u8,
+    messages: u8,
+    lying: u8,
+    /// Behind the last where this is as many as lie.
+    place: u8,
+}
+
+impl Case {
+    fn each(check: impl Fn(Case)) {
+        for lying in LYING {
+            let rooms = if lying == MOST { vec![MOST] } else { vec![lying, MOST] };
+            for (own, messages) in [1, 2].into_iter().flat_map(|own| rooms.iter().map(move |&messages| (own, messages)))
+            {
+                (0..=lying).for_each(|place| check(Case { own, messages, lying, place }));
+            }
+        }
+    }
+
+    fn other(self) -> u8 {
+        self.own + 1
+    }
+
+    fn lies(self) -> bool {
+        self.place < self.lying
+    }
+
+    /// All are for the other task but the one at the place.
+    fn mail_for_both(self) -> Vec<Frame> {
+        let to = |at: u8| if at == self.place { self.own } else { self.other() };
+        (0..self.lying).map(|at| send(to(at), at + 1)).collect()
+    }
+
+    /// All are for the task that receives: its own up to the place, the other's from there on. It runs again.
+    fn mail_from_both(self) -> Vec<Frame> {
+        let sends = |places: std::ops::Range<u8>| places.map(|at| send(self.own, at + 1)).collect::<Vec<_>>();
+        let suspends = vec![service(SUSPEND, 0)];
+        let resumes = vec![service(RESUME, self.own)];
+        [sends(0..self.place), suspends, sends(self.place..self.lying), resumes].concat()
+    }
+
+    /// Compares the session, and gives the number, the outcome's kind and the first byte of its value behind the last frame.
+    fn last(self, frames: Vec<Frame>) -> (u8, u8, u8) {
+        let states = (1..=self.other()).map(|task| u8::from(task < self.own));
+        let configuration = [vec![self.other(), 1, 0, 0, self.messages, 1, 0, 1], states.collect()].concat();
+        let script = Script { configuration, frames };
+        compare(&script, &|memory, frame| memory.frame(frame), &format!("{self:?}"));
+        let mut other = Executive::configure(&script.configuration).expect("accepted");
+        let answers: Vec<_> = script.frames.iter().map(|frame| other.frame(frame)).collect();
+        let answer = answers.last().expect("a frame");
+        (answer.refusal(), answer.kind(), answer.bytes().get(4).copied().unwrap_or(0))
+    }
+}
 
 fn service(code: u8, task: u8) -> Frame {
     vec![code, task, 0, 0, 0]
@@ -25,84 +81,51 @@ fn send(to: u8, message: u8) -> Frame {
     vec![SEND, to, 1, 0, message]
 }
 
-/// Two tasks, both runnable, one semaphore, so many messages.
-fn script(messages: u8, frames: impl IntoIterator<Item = Frame>) -> Script {
-    Script { configuration: vec![2, 1, 0, 0, messages, 1, 0, 1, 0, 0], frames: frames.into_iter().collect() }
-}
-
-/// Compares the session, and gives the refusal, the outcome's kind and its first byte behind the last frame.
-fn last(script: &Script) -> (u8, u8, u8) {
-    compare(script, &|memory, frame| memory.frame(frame), "searches");
-    let mut other = Executive::configure(&script.configuration).expect("accepted");
-    let answers: Vec<_> = script.frames.iter().map(|frame| other.frame(frame)).collect();
-    let answer = answers.last().expect("a frame");
-    (answer.refusal(), answer.kind(), answer.bytes()[4..].first().copied().unwrap_or(0))
-}
-
-/// Each number of messages that lie, with G just as many or 64, and each place among them, the one behind the last with them.
-fn each_place(mut check: impl FnMut(u8, u8, u8)) {
-    for lying in LYING {
-        for messages in [lying, MOST] {
-            (0..=lying).for_each(|place| check(messages, lying, place));
-        }
-    }
-}
-
-/// All are for the other task but the one at this place.
-fn for_others(lying: u8, place: u8) -> impl Iterator<Item = Frame> {
-    (0..lying).map(move |at| send(if at == place { OWN } else { OTHER }, at + 1))
-}
-
-/// All are for task 1: its own up to this place, the other task's from there on. Task 1 runs again.
-fn from_others(lying: u8, place: u8) -> impl Iterator<Item = Frame> {
-    let own = (0..place).map(|at| send(OWN, at + 1));
-    let other = (place..lying).map(|at| send(OWN, at + 1));
-    own.chain([service(SUSPEND, 0)]).chain(other).chain([service(RESUME, OWN)])
+fn with(mut frames: Vec<Frame>, last: Frame) -> Vec<Frame> {
+    frames.push(last);
+    frames
 }
 
 #[test]
 fn received_among_messages_for_others() {
-    each_place(|messages, lying, place| {
-        for from in [0, OWN] {
-            let frames = for_others(lying, place).chain([service(RECEIVE, from)]);
-            let received = last(&script(messages, frames));
-            if place < lying {
-                assert_eq!(received, (0, answer::MESSAGE, place + 1), "{place} of {lying}");
-            } else {
-                assert_eq!(received, (0, answer::BEGIN, 0), "the other task begins: {lying}");
-            }
+    Case::each(|case| {
+        for from in [0, case.own] {
+            let received = case.last(with(case.mail_for_both(), service(RECEIVE, from)));
+            let begins = (0, answer::BEGIN, 0);
+            let expected = if case.lies() { (0, answer::MESSAGE, case.place + 1) } else { begins };
+            assert_eq!(received, expected, "{case:?}, from {from}");
         }
     });
 }
 
 #[test]
 fn received_among_messages_from_others() {
-    each_place(|messages, lying, place| {
-        let received = last(&script(messages, from_others(lying, place).chain([service(RECEIVE, OTHER)])));
-        if place < lying {
-            assert_eq!(received, (0, answer::MESSAGE, place + 1), "{place} of {lying}");
-        } else {
-            assert_eq!(received.1, answer::PLAIN, "the other task runs: {lying}");
-        }
+    Case::each(|case| {
+        let received = case.last(with(case.mail_from_both(), service(RECEIVE, case.other())));
+        let resumed = (0, answer::PLAIN, 0);
+        let expected = if case.lies() { (0, answer::MESSAGE, case.place + 1) } else { resumed };
+        assert_eq!(received, expected, "{case:?}");
     });
 }
 
 #[test]
 fn sent_a_second_time() {
-    each_place(|messages, lying, place| {
-        if place < lying {
-            let refused = last(&script(messages, for_others(lying, lying).chain([send(OWN, place + 1)])));
-            assert_eq!(refused.0, MESSAGE_IN_MAILBOX, "{place} of {lying}");
+    Case::each(|case| {
+        if case.lies() {
+            let refused = case.last(with(case.mail_for_both(), send(case.own, case.place + 1)));
+            assert_eq!(refused.0, MESSAGE_IN_MAILBOX, "{case:?}");
         }
     });
 }
 
+/// A new message goes in before those from the higher sender: the task receives from the first on, and it comes at its place.
 #[test]
-fn sent_before_a_higher_sender() {
-    each_place(|messages, lying, place| {
-        if lying < messages {
-            let frames = from_others(lying, place).chain([send(OWN, lying + 1), service(RECEIVE, OTHER)]);
-            last(&script(messages, frames));
+fn put_in_at_each_place() {
+    Case::each(|case| {
+        if case.lying < case.messages {
+            let sent = with(case.mail_from_both(), send(case.own, case.lying + 1));
+            let receives = (0..=case.place).map(|_| service(RECEIVE, 0)).collect();
+            assert_eq!(case.last([sent, receives].concat()), (0, answer::MESSAGE, case.lying + 1), "{case:?}");
         }
     });
 }

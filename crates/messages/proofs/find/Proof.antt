@@ -2,7 +2,7 @@
 use borrow.Author.Needs.{needs}
 use denote.Ref.{now}
 use Rattle.messages.specs.Pending.{wantedBy, placeOf}
-use Rattle.messages.specs.Searches.{pendings, ended-inside}
+use Rattle.messages.specs.Looking.{pendings, place-inside}
 use Rattle.messages.proofs.find.Statement.{statement}
 use Rattle.messages.proofs.find.Tie as tie
 
@@ -14,7 +14,7 @@ unfolding placeOf
 returns c =
     let a = c .before .before .args in
     let s = c .search in
-    record { place = s .ensures .0 .found; inside = ended-inside (pendings (a .tasks) (a .n) (now (a .b))) (wantedBy (a .to) (a .from)) (s .ensures .0) }
+    record { place = s .ensures .0 .found; inside = place-inside (pendings (a .tasks) (a .n) (now (a .b))) (wantedBy (a .to) (a .from)) (s .ensures .0) }
 
 pub find-spec : {M : Type 1} → statement M
 find-spec = tie.close (tie.spec search-requires returns)

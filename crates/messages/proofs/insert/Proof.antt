@@ -4,7 +4,7 @@ use borrow.Author.Needs.{needs}
 use denote.Ref.{now}
 use Rattle.messages.specs.Pending.{behind, placeFor}
 use Rattle.messages.specs.Records.{inserted}
-use Rattle.messages.specs.Searches.{pendings, ended-inside}
+use Rattle.messages.specs.Looking.{pendings, place-inside}
 use Rattle.messages.proofs.insert.Statement.{statement}
 use Rattle.messages.proofs.insert.Tie as tie
 
@@ -18,7 +18,7 @@ insert-at-requires : tie.Need-insert-at-requires
 insert-at-requires c κs =
     let s = c .before .before .before .before .before in
     let a = s .args in
-    (ended-inside (pendings (a .tasks) (a .n) (now (a .b))) (behind (a .to) (a .sender)) (c .before .before .search .ensures .0), search needs, omega (arith, s .pre .0 .room))
+    (place-inside (pendings (a .tasks) (a .n) (now (a .b))) (behind (a .to) (a .sender)) (c .before .before .search .ensures .0), search needs, omega (arith, s .pre .0 .few))
 
 same-length : tie.Need-same-length
 same-length c = search needs

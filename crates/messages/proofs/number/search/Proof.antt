@@ -1,11 +1,11 @@
 -- The search stops at the first record with the number, or behind the last one.
-use Prim.Native.Nat.{_+_, _-_}
+use Prim.Native.Nat.{_-_}
 use native.Mathlib.Omega.{arith}
 use denote.Ref.{now}
 use mathlib.Core.Path.{refl}
 use lib.Dec.{eqb}
 use borrow.Author.Tests.{eq-eqb, ne-eqb}
-use Rattle.messages.specs.Searches.{numbers, Looking, look-start, look-here, look-on, look-end, never-past}
+use Rattle.messages.specs.Looking.{numbers, Looking, look-start, look-here, look-on, look-end}
 use Rattle.messages.proofs.number.search.Statement.{statement}
 use Rattle.messages.proofs.number.search.Tie as tie
 
@@ -16,7 +16,7 @@ abbrev μ-loop : tie.MeasureT-loop
 μ-loop b n number lying looked₀ looked = n - looked
 
 cast-lying : tie.Need-cast-lying Inv-loop μ-loop
-cast-lying c = let s = c in omega (arith, s .pre .room, s .pre .few)
+cast-lying c = let s = c in omega (arith, s .pre .few, s .pre .most)
 
 loop-holds : tie.Need-loop-holds Inv-loop μ-loop
 loop-holds c = let a = c .args in look-start (numbers (a .n) (now (a .b))) (λ y. eqb y (a .number))
@@ -25,32 +25,26 @@ cast-k : tie.Need-cast-k Inv-loop μ-loop
 cast-k c = omega arith
 
 mul-if1 : tie.Need-mul-if1 Inv-loop μ-loop
-mul-if1 c = let s = c .before .before in omega (arith, s .pre .room, s .pre .few)
+mul-if1 c = let s = c .before .before in omega (arith, s .pre .few, s .pre .most)
 
 add-if1 : tie.Need-add-if1 Inv-loop μ-loop
-add-if1 c = let s = c .before .before in omega (arith, s .pre .room, s .pre .few)
+add-if1 c = let s = c .before .before in omega (arith, s .pre .few, s .pre .most)
 
 shared-slice-read-if1 : tie.Need-shared-slice-read-if1 Inv-loop μ-loop
-shared-slice-read-if1 c = let s = c .before .before .before in omega (arith, s .pre .room)
+shared-slice-read-if1 c = let s = c .before .before .before in omega (arith, s .pre .few)
 
 add-looked : tie.Need-add-looked Inv-loop μ-loop
-add-looked c =
-    let s = c .before .before .before .before in
-    let l = c .before .before .before .loop in
-    omega (arith, never-past (s .pre) (l .looked + 1) (omega arith), s .pre .few)
+add-looked c = let s = c .before .before .before .before in omega (arith, s .pre .few, s .pre .most)
 
 returns : tie.Need-returns Inv-loop μ-loop
 returns c =
     let s = c .before .before .before .before in
     let a = s .args in
     let l = c .before .before .before .loop in
-    (look-here (numbers (a .n) (now (a .b))) (λ y. eqb y (a .number)) (l .looked) (l .inv) (c .before .before .loop-test .taken) refl (eq-eqb _ _ (c .if1 .taken)), never-past (s .pre) (l .looked + 1) (omega arith))
+    look-here (numbers (a .n) (now (a .b))) (λ y. eqb y (a .number)) (l .looked) (l .inv) (c .before .before .loop-test .taken) refl (s .pre) (eq-eqb _ _ (c .if1 .taken))
 
 add-looked-2 : tie.Need-add-looked-2 Inv-loop μ-loop
-add-looked-2 c =
-    let s = c .before .before .before .before in
-    let l = c .before .before .before .loop in
-    omega (arith, never-past (s .pre) (l .looked + 1) (omega arith), s .pre .few)
+add-looked-2 c = let s = c .before .before .before .before in omega (arith, s .pre .few, s .pre .most)
 
 loop-less : tie.Need-loop-less Inv-loop μ-loop
 loop-less c = omega arith
@@ -69,7 +63,7 @@ returns-2 c =
     let s = c .before .before in
     let a = s .args in
     let l = c .before .loop in
-    (look-end (numbers (a .n) (now (a .b))) (λ y. eqb y (a .number)) (l .looked) (l .inv) (c .loop-test .left), never-past (s .pre) (l .looked) (l .inv .inside))
+    look-end (numbers (a .n) (now (a .b))) (λ y. eqb y (a .number)) (l .looked) (l .inv) (s .pre) (c .loop-test .left)
 
 pub search-spec : {M : Type 1} → statement M
 search-spec =

@@ -1,9 +1,9 @@
 -- The search stops at the first record that is for the receiver, from a higher sender, or behind the last one.
-use Prim.Native.Nat.{_+_, _-_}
+use Prim.Native.Nat.{_-_}
 use native.Mathlib.Omega.{arith}
 use denote.Ref.{now}
 use Rattle.messages.specs.Pending.{behind}
-use Rattle.messages.specs.Searches.{pendings, Looking, look-start, look-here, look-on, look-end, never-past}
+use Rattle.messages.specs.Looking.{pendings, Looking, look-start, look-here, look-on, look-end}
 use Rattle.messages.proofs.place.search.Statement.{statement}
 use Rattle.messages.proofs.place.search.Tie as tie
 
@@ -14,7 +14,7 @@ abbrev μ-loop : tie.MeasureT-loop
 μ-loop b n tasks to sender lying looked₀ looked = n - looked
 
 cast-lying : tie.Need-cast-lying Inv-loop μ-loop
-cast-lying c = let s = c .before in omega (arith, s .pre .0 .room, s .pre .0 .few)
+cast-lying c = let s = c .before in omega (arith, s .pre .0 .few, s .pre .0 .most)
 
 loop-holds : tie.Need-loop-holds Inv-loop μ-loop
 loop-holds c = let a = c .before .args in look-start (pendings (a .tasks) (a .n) (now (a .b))) (behind (a .to) (a .sender))
@@ -23,26 +23,20 @@ cast-k : tie.Need-cast-k Inv-loop μ-loop
 cast-k c = omega arith
 
 is-behind-requires : tie.Need-is-behind-requires Inv-loop μ-loop
-is-behind-requires c κs = let s = c .before .before .before in (omega (arith, s .pre .0 .room), s .pre .1, s .pre .2)
+is-behind-requires c κs = let s = c .before .before .before in (omega (arith, s .pre .0 .few), s .pre .1, s .pre .2)
 
 add-looked : tie.Need-add-looked Inv-loop μ-loop
-add-looked c =
-    let s = c .before .before .before .before .before in
-    let l = c .before .before .before .loop in
-    omega (arith, never-past (s .pre .0) (l .looked + 1) (omega arith), s .pre .0 .few)
+add-looked c = let s = c .before .before .before .before .before in omega (arith, s .pre .0 .few, s .pre .0 .most)
 
 returns : tie.Need-returns Inv-loop μ-loop
 returns c =
     let s = c .before .before .before .before .before in
     let a = s .args in
     let l = c .before .before .before .loop in
-    (look-here (pendings (a .tasks) (a .n) (now (a .b))) (behind (a .to) (a .sender)) (l .looked) (l .inv) (c .before .before .loop-test .taken) (c .before .is-behind .ensures) (c .if1 .taken), never-past (s .pre .0) (l .looked + 1) (omega arith))
+    look-here (pendings (a .tasks) (a .n) (now (a .b))) (behind (a .to) (a .sender)) (l .looked) (l .inv) (c .before .before .loop-test .taken) (c .before .is-behind .ensures) (s .pre .0) (c .if1 .taken)
 
 add-looked-2 : tie.Need-add-looked-2 Inv-loop μ-loop
-add-looked-2 c =
-    let s = c .before .before .before .before .before in
-    let l = c .before .before .before .loop in
-    omega (arith, never-past (s .pre .0) (l .looked + 1) (omega arith), s .pre .0 .few)
+add-looked-2 c = let s = c .before .before .before .before .before in omega (arith, s .pre .0 .few, s .pre .0 .most)
 
 loop-less : tie.Need-loop-less Inv-loop μ-loop
 loop-less c = omega arith
@@ -61,7 +55,7 @@ returns-2 c =
     let s = c .before .before .before in
     let a = s .args in
     let l = c .before .loop in
-    (look-end (pendings (a .tasks) (a .n) (now (a .b))) (behind (a .to) (a .sender)) (l .looked) (l .inv) (c .loop-test .left), never-past (s .pre .0) (l .looked) (l .inv .inside))
+    look-end (pendings (a .tasks) (a .n) (now (a .b))) (behind (a .to) (a .sender)) (l .looked) (l .inv) (s .pre .0) (c .loop-test .left)
 
 pub search-spec : {M : Type 1} → statement M
 search-spec =
