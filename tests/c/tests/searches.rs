@@ -86,26 +86,23 @@ fn with(mut frames: Vec<Frame>, last: Frame) -> Vec<Frame> {
     frames
 }
 
+/// The message at the place is received; where none is, the other task runs, with an outcome of this kind.
+fn is_received(case: Case, mail: Vec<Frame>, from: u8, otherwise: u8) {
+    let received = case.last(with(mail, service(RECEIVE, from)));
+    let expected = if case.lies() { (0, answer::MESSAGE, case.place + 1) } else { (0, otherwise, 0) };
+    assert_eq!(received, expected, "{case:?}, from {from}");
+}
+
 #[test]
 fn received_among_messages_for_others() {
     Case::each(|case| {
-        for from in [0, case.own] {
-            let received = case.last(with(case.mail_for_both(), service(RECEIVE, from)));
-            let begins = (0, answer::BEGIN, 0);
-            let expected = if case.lies() { (0, answer::MESSAGE, case.place + 1) } else { begins };
-            assert_eq!(received, expected, "{case:?}, from {from}");
-        }
+        [0, case.own].into_iter().for_each(|from| is_received(case, case.mail_for_both(), from, answer::BEGIN))
     });
 }
 
 #[test]
 fn received_among_messages_from_others() {
-    Case::each(|case| {
-        let received = case.last(with(case.mail_from_both(), service(RECEIVE, case.other())));
-        let resumed = (0, answer::PLAIN, 0);
-        let expected = if case.lies() { (0, answer::MESSAGE, case.place + 1) } else { resumed };
-        assert_eq!(received, expected, "{case:?}");
-    });
+    Case::each(|case| is_received(case, case.mail_from_both(), case.other(), answer::PLAIN));
 }
 
 #[test]
