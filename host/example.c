@@ -32,6 +32,7 @@ static const char *advice(uint8_t number)
     case MCX11_NUMBER_HAS_A_TIMER: return "purge the old timer first";
     case MCX11_NUMBER_IDLE_OR_WAITING: return "delay tasks that are neither idle nor waiting";
     case MCX11_NUMBER_BEFORE_FIRST: return "execute its first tasks before it";
+    case MCX11_NUMBER_ABOVE_MODULE: return "give the module a smaller part of the ride: host/both.c";
     default: return "this number is new: see docs/HOST.md";
     }
 }

@@ -1,14 +1,21 @@
 /**
  * @file mcx11.h
- * @brief MCX11, the task executive of a ride controller, as a C or C++ host calls it.
+ * @brief MCX11, the task executive of a ride controller and of its brake module, as a C or C++ host calls it.
  *
  * Link with libmcx11.a of the same version. docs/HOST.md shows the first host and what to do about each number,
  * docs/FRAMES.md what each service does, docs/MEMORY.md what the lent memory holds. mcx11_state.h reads the state out of it.
+ *
+ * The controller has an mcx11_t, the module an mcx11_module_t, which is smaller. The calls are in mcx11_calls.h. Each is there for
+ * both: mcx11_wait(mcx11_t *, ..) and mcx11_module_wait(mcx11_module_t *, ..) do the same.
  *
  * Numbers behind a $ are hexadecimal, as in lines and answers; all others are decimal. C99, C11, C++98 and later.
  */
 #ifndef MCX11_H
 #define MCX11_H
+
+#ifdef MCX11_AS_MODULE
+#error "include mcx11_as_module.h behind mcx11.h"
+#endif
 
 #include <stddef.h>
 #include <stdint.h>
@@ -20,9 +27,9 @@ extern "C" {
 /** @name The version: docs/CHANGES.md says what each changed for hosts
  * @{ */
 #define MCX11_VERSION_MAJOR 4 /**< a host has to be changed */
-#define MCX11_VERSION_MINOR 0 /**< something is new, or the lent memory has another layout */
+#define MCX11_VERSION_MINOR 1 /**< something is new, or the lent memory has another layout */
 #define MCX11_VERSION_PATCH 0 /**< something is mended */
-#define MCX11_VERSION "4.0.0" /**< the three as a text */
+#define MCX11_VERSION "4.1.0" /**< the three as a text */
 /** @} */
 
 /** @name The sizes of the lent blocks
@@ -32,16 +39,31 @@ extern "C" {
 #define MCX11_SLOTS_BYTES 2024  /**< of mcx11_t::slots */
 #define MCX11_TIMERS_BYTES 659  /**< of mcx11_t::timers */
 #define MCX11_ANSWER_BYTES 21   /**< of mcx11_t::answer */
+
+#define MCX11_MODULE_CONFIG_BYTES 178 /**< of mcx11_module_t::config */
+#define MCX11_MODULE_TABLES_BYTES 985 /**< of mcx11_module_t::tables */
+#define MCX11_MODULE_SLOTS_BYTES 264  /**< of mcx11_module_t::slots */
+#define MCX11_MODULE_TIMERS_BYTES 99  /**< of mcx11_module_t::timers */
+#define MCX11_MODULE_ANSWER_BYTES 21  /**< of mcx11_module_t::answer */
 /** @} */
 
 /** @name The most there can be
  * @{ */
-#define MCX11_FRAME_BYTES 326 /**< the longest frame, a configuration's; a line has room for it */
-#define MCX11_LINE_DIGITS 652 /**< the longest line of digits */
-#define MCX11_ENTRY_BYTES 16  /**< the widest entry of a queue */
-#define MCX11_MOST_TASKS 126  /**< T */
-#define MCX11_MOST_QUEUES 32  /**< Q */
-#define MCX11_MOST_PAIRS 64   /**< pairs of tasks in a configuration */
+#define MCX11_FRAME_BYTES 326       /**< the longest frame, a configuration's; a line has room for it */
+#define MCX11_LINE_DIGITS 652       /**< the longest line of digits */
+#define MCX11_ENTRY_BYTES 16        /**< the widest entry of a queue */
+#define MCX11_MOST_PAIRS 64         /**< pairs of tasks in a configuration, on the module too */
+#define MCX11_MOST_TASKS 126        /**< T */
+#define MCX11_MOST_QUEUES 32        /**< Q */
+#define MCX11_MOST_TIMERS 64        /**< R */
+#define MCX11_MOST_MESSAGES 64      /**< G */
+#define MCX11_MOST_QUEUE_BYTES 4096 /**< widths times depths of all queues */
+
+#define MCX11_MODULE_MOST_TASKS 16        /**< T on the module; a configuration with more is refused there with 27 */
+#define MCX11_MODULE_MOST_QUEUES 8        /**< Q, the same */
+#define MCX11_MODULE_MOST_TIMERS 8        /**< R, the same */
+#define MCX11_MODULE_MOST_MESSAGES 8      /**< G, the same */
+#define MCX11_MODULE_MOST_QUEUE_BYTES 256 /**< widths times depths of all queues, the same */
 /** @} */
 
 /**
@@ -56,6 +78,15 @@ typedef struct mcx11_t {
     uint8_t timers[MCX11_TIMERS_BYTES]; /**< the timers and their clock */
     uint8_t answer[MCX11_ANSWER_BYTES]; /**< the length of the last answer, and behind it the answer */
 } mcx11_t;
+
+/** The same for the brake module, with less room: the calls mcx11_module_.. take it. Its blocks are laid out as those above. */
+typedef struct mcx11_module_t {
+    uint8_t config[MCX11_MODULE_CONFIG_BYTES]; /**< as mcx11_t::config */
+    uint8_t tables[MCX11_MODULE_TABLES_BYTES]; /**< as mcx11_t::tables */
+    uint8_t slots[MCX11_MODULE_SLOTS_BYTES];   /**< as mcx11_t::slots */
+    uint8_t timers[MCX11_MODULE_TIMERS_BYTES]; /**< as mcx11_t::timers */
+    uint8_t answer[MCX11_MODULE_ANSWER_BYTES]; /**< as mcx11_t::answer */
+} mcx11_module_t;
 
 /** The codes of frames. A, B and X are the frame's fields; one that a code does not name is ignored. */
 enum mcx11_code {
@@ -109,7 +140,8 @@ enum mcx11_number {
     MCX11_NUMBER_ALL_TIMERS_ACTIVE = 23,  /**< $17: no timer is free */
     MCX11_NUMBER_HAS_A_TIMER = 24,        /**< $18: task and semaphore have a timer */
     MCX11_NUMBER_IDLE_OR_WAITING = 25,    /**< $19: delay of a task that is idle or waiting */
-    MCX11_NUMBER_BEFORE_FIRST = 26        /**< $1A: execute before a first task, one that is idle */
+    MCX11_NUMBER_BEFORE_FIRST = 26,       /**< $1A: execute before a first task, one that is idle */
+    MCX11_NUMBER_ABOVE_MODULE = 27        /**< $1B: a configuration for the controller that is above the module's limits */
 };
 
 /* ---- The archive's own functions. Of these a host needs the last three alone. */
@@ -122,6 +154,14 @@ uint8_t mcx11_configure_blocks(const uint8_t *frame, size_t length, uint8_t *con
 uint8_t mcx11_frame_blocks(const uint8_t *frame, size_t length, const uint8_t *config, size_t config_bytes, uint8_t *tables,
                            size_t tables_bytes, uint8_t *slots, size_t slots_bytes, uint8_t *timers, size_t timers_bytes,
                            uint8_t *answer, size_t answer_bytes);
+/** The module's mcx11_configure_blocks, over blocks of its sizes. */
+uint8_t mcx11_module_configure_blocks(const uint8_t *frame, size_t length, uint8_t *config, size_t config_bytes,
+                                      uint8_t *tables, size_t tables_bytes, uint8_t *slots, size_t slots_bytes,
+                                      uint8_t *timers, size_t timers_bytes, uint8_t *answer, size_t answer_bytes);
+/** The module's mcx11_frame_blocks, over blocks of its sizes. */
+uint8_t mcx11_module_frame_blocks(const uint8_t *frame, size_t length, const uint8_t *config, size_t config_bytes,
+                                  uint8_t *tables, size_t tables_bytes, uint8_t *slots, size_t slots_bytes,
+                                  uint8_t *timers, size_t timers_bytes, uint8_t *answer, size_t answer_bytes);
 
 /** Reads a line of digits, without its end, into frame. @return the frame's length, or a number with a minus sign */
 int32_t mcx11_read_line(const uint8_t *line, size_t digits, uint8_t *frame, size_t room);
@@ -133,7 +173,7 @@ int32_t mcx11_write_line(const uint8_t *frame, size_t length, uint8_t *line, siz
  * MCX11_ONCE, or a number with a minus sign: 10 where it is another number of tocks, 3 where per is 0 */
 int32_t mcx11_milliseconds(uint16_t ms, uint16_t per);
 
-/* ---- The trace hook */
+/* ---- The trace hooks */
 
 /** What was traced. */
 enum mcx11_traced {
@@ -143,52 +183,18 @@ enum mcx11_traced {
 
 #ifdef MCX11_TRACE
 /**
- * A function of the host's, which MCX11_TRACE names before this header is included. It is called behind every call with the
- * bytes that were fed and the number; m holds the answer, with 11 an older one. It makes no call on m itself. Without
- * MCX11_TRACE nothing is called.
+ * A function of the host's, which MCX11_TRACE names before this header is included. It is called behind every call on an
+ * mcx11_t with the bytes that were fed and the number; m holds the answer, with 11 an older one. It makes no call on m itself.
+ * Without MCX11_TRACE nothing is called.
  */
 void MCX11_TRACE(const mcx11_t *m, enum mcx11_traced what, const uint8_t *bytes, size_t length, uint8_t number);
 #endif
 
-/* ---- Any frame */
-
-/**
- * Begins anew with this configuration, whatever *m held. A refused one changes the answer alone: what was begun before goes on
- * with the next frame, and this answer names no task to switch to.
- * @param m      the lent memory
- * @param bytes  the configuration frame, outside *m; after the call their place may be used again
- * @param length how many bytes
- * @return the number, 0 accepted
- */
-static inline uint8_t mcx11_configure(mcx11_t *m, const uint8_t *bytes, size_t length)
-{
-    const uint8_t number = mcx11_configure_blocks(bytes, length, m->config, sizeof m->config, m->tables, sizeof m->tables,
-                                                  m->slots, sizeof m->slots, m->timers, sizeof m->timers, m->answer,
-                                                  sizeof m->answer);
-#ifdef MCX11_TRACE
-    MCX11_TRACE(m, MCX11_TRACED_CONFIGURATION, bytes, length, number);
+#ifdef MCX11_MODULE_TRACE
+/** The same for the module's calls: MCX11_MODULE_TRACE names it. A host that runs both may have one, both or none. */
+void MCX11_MODULE_TRACE(const mcx11_module_t *m, enum mcx11_traced what, const uint8_t *bytes, size_t length,
+                        uint8_t number);
 #endif
-    return number;
-}
-
-/** Carries out a frame; its bytes as above. @return the number, 0 accepted */
-static inline uint8_t mcx11_frame(mcx11_t *m, const uint8_t *bytes, size_t length)
-{
-    const uint8_t number = mcx11_frame_blocks(bytes, length, m->config, sizeof m->config, m->tables, sizeof m->tables,
-                                              m->slots, sizeof m->slots, m->timers, sizeof m->timers, m->answer,
-                                              sizeof m->answer);
-#ifdef MCX11_TRACE
-    MCX11_TRACE(m, MCX11_TRACED_FRAME, bytes, length, number);
-#endif
-    return number;
-}
-
-/** The frame of five bytes: every code but enqueue, whose entry stands behind them. @return the number, 0 accepted */
-static inline uint8_t mcx11_call(mcx11_t *m, uint8_t code, uint8_t a, uint8_t b, uint16_t x)
-{
-    const uint8_t bytes[5] = {code, a, b, (uint8_t)(x >> 8), (uint8_t)(x & 0xFF)};
-    return mcx11_frame(m, bytes, sizeof bytes);
-}
 
 /* ---- The configuration by names */
 
@@ -206,7 +212,7 @@ typedef struct mcx11_pair_t {
 
 /**
  * A configuration. Begin with all bytes 0: then there are no pairs. The tables are indexed by the number of the task, queue or
- * pair; place 0 is unused.
+ * pair; place 0 is unused. The ranges are the controller's; the module has MCX11_MODULE_MOST_TASKS and so on, and gives 27 above.
  */
 typedef struct mcx11_configuration_t {
     uint8_t tasks;                              /**< T, 1 to 126 */
@@ -254,15 +260,7 @@ static inline size_t mcx11_configuration_bytes(const mcx11_configuration_t *conf
     return length;
 }
 
-/** Begins anew with this configuration. @return the number, 0 accepted. @see mcx11_configure */
-static inline uint8_t mcx11_configure_from(mcx11_t *m, const mcx11_configuration_t *configuration)
-{
-    uint8_t bytes[MCX11_FRAME_BYTES];
-    const size_t length = mcx11_configuration_bytes(configuration, bytes);
-    return mcx11_configure(m, bytes, length);
-}
-
-/* ---- The services by names. Each gives the number, 0 accepted; docs/FRAMES.md says what they do. */
+/* ---- What the services are told */
 
 #define MCX11_SELF ((uint8_t)0) /**< as a task: the running task */
 #define MCX11_ANY ((uint8_t)0)  /**< as the sender in receive: whoever it is */
@@ -278,122 +276,6 @@ static inline uint16_t mcx11_every(int32_t n) { return n >= 1 && n <= 32768 ? (u
 
 #define MCX11_ONCE(n) mcx11_once(n)   /**< for delay and timer: n tocks once */
 #define MCX11_EVERY(n) mcx11_every(n) /**< for delay and timer: every n tocks */
-
-/** The running task waits until the semaphore is signalled; if it is DONE, not at all. */
-static inline uint8_t mcx11_wait(mcx11_t *m, uint8_t semaphore) { return mcx11_call(m, MCX11_WAIT, 0, semaphore, 0); }
-
-/** Wakes the task that waits on the semaphore; if none does, the semaphore is DONE. The outcome tells whom: mcx11_woke. */
-static inline uint8_t mcx11_signal(mcx11_t *m, uint8_t semaphore) { return mcx11_call(m, MCX11_SIGNAL, 0, semaphore, 0); }
-
-/** Makes the semaphore PENDING. */
-static inline uint8_t mcx11_pend(mcx11_t *m, uint8_t semaphore) { return mcx11_call(m, MCX11_PEND, 0, semaphore, 0); }
-
-/** Puts the message into the task's mailbox, with a semaphore to signal when it was read. */
-static inline uint8_t mcx11_send(mcx11_t *m, uint16_t message, uint8_t task, uint8_t semaphore)
-{
-    return mcx11_call(m, MCX11_SEND, task, semaphore, message);
-}
-
-/** The same, and the running task waits on the semaphore. */
-static inline uint8_t mcx11_sendw(mcx11_t *m, uint16_t message, uint8_t task, uint8_t semaphore)
-{
-    return mcx11_call(m, MCX11_SENDW, task, semaphore, message);
-}
-
-/** The running task takes a message from its mailbox, or waits for one. */
-static inline uint8_t mcx11_receive(mcx11_t *m, uint8_t sender) { return mcx11_call(m, MCX11_RECEIVE, sender, 0, 0); }
-
-/** The running task takes the oldest entry, or waits for one. */
-static inline uint8_t mcx11_dequeue(mcx11_t *m, uint8_t queue) { return mcx11_call(m, MCX11_DEQUEUE, queue, 0, 0); }
-
-/** The running task puts an entry of width bytes, or waits for room. The bytes are copied. */
-static inline uint8_t mcx11_enqueue(mcx11_t *m, uint8_t queue, const uint8_t *entry, size_t width)
-{
-    uint8_t bytes[5 + MCX11_ENTRY_BYTES] = {MCX11_ENQUEUE, 0, 0, 0, 0};
-    const size_t copied = width > MCX11_ENTRY_BYTES ? 0 : width; /* 0 is refused as any other wrong width is */
-    size_t i;
-    bytes[1] = queue;
-    for (i = 0; i < copied; i++)
-        bytes[5 + i] = entry[i];
-    return mcx11_frame(m, bytes, 5 + copied);
-}
-
-/** Ends the task's suspension. */
-static inline uint8_t mcx11_resume(mcx11_t *m, uint8_t task) { return mcx11_call(m, MCX11_RESUME, task, 0, 0); }
-
-/** Suspends the task until it is resumed or executed. */
-static inline uint8_t mcx11_suspend(mcx11_t *m, uint8_t task) { return mcx11_call(m, MCX11_SUSPEND, task, 0, 0); }
-
-/** Ends the task: it is idle, and its timers and messages are gone. */
-static inline uint8_t mcx11_terminate(mcx11_t *m, uint8_t task) { return mcx11_call(m, MCX11_TERMINATE, task, 0, 0); }
-
-/** Starts the task from its beginning. Refused with 26 while a task that a pair of the configuration puts first is idle. */
-static inline uint8_t mcx11_execute(mcx11_t *m, uint8_t task) { return mcx11_call(m, MCX11_EXECUTE, task, 0, 0); }
-
-/** Starts a timer, and has the task wait on the semaphore that it will signal. The tocks: MCX11_ONCE(n) or MCX11_EVERY(n). */
-static inline uint8_t mcx11_delay(mcx11_t *m, uint8_t task, uint8_t semaphore, uint16_t tocks)
-{
-    return mcx11_call(m, MCX11_DELAY, task, semaphore, tocks);
-}
-
-/** Starts a timer that will signal the semaphore. The tocks: MCX11_ONCE(n) or MCX11_EVERY(n). */
-static inline uint8_t mcx11_timer(mcx11_t *m, uint8_t task, uint8_t semaphore, uint16_t tocks)
-{
-    return mcx11_call(m, MCX11_TIMER, task, semaphore, tocks);
-}
-
-/** Removes the task's timer on this semaphore, if there is one. */
-static inline uint8_t mcx11_purge(mcx11_t *m, uint8_t task, uint8_t semaphore)
-{
-    return mcx11_call(m, MCX11_PURGE, task, semaphore, 1);
-}
-
-/** Removes all of the task's timers. */
-static inline uint8_t mcx11_purge_all(mcx11_t *m, uint8_t task) { return mcx11_call(m, MCX11_PURGE, task, 0, 0); }
-
-/** The clock ticked. No service of a task. */
-static inline uint8_t mcx11_tick(mcx11_t *m) { return mcx11_call(m, MCX11_TICK, 0, 0, 0); }
-
-/** A device's interrupt ends and signals the semaphore, or none. No service of a task. */
-static inline uint8_t mcx11_interrupt_exit(mcx11_t *m, uint8_t semaphore)
-{
-    return mcx11_call(m, MCX11_INTERRUPT_EXIT, 0, semaphore, 0);
-}
-
-/* ---- The answer to the last call that did not give 11. It stands until the next call. */
-
-/** The answer's bytes. */
-static inline const uint8_t *mcx11_answer(const mcx11_t *m) { return m->answer + 1; }
-
-/** How many bytes the answer has, 4 to 20; 0 before the first call. */
-static inline size_t mcx11_answer_length(const mcx11_t *m) { return m->answer[0] > 20 ? 20 : m->answer[0]; }
-
-/** The running task, which is the one to switch to; 0 is the null task. */
-static inline uint8_t mcx11_running(const mcx11_t *m) { return m->answer[2]; }
-
-/** How often settling issued a request again. */
-static inline uint8_t mcx11_reissues(const mcx11_t *m) { return m->answer[3]; }
-
-/** The kind of the running task's outcome, an enum mcx11_outcome_kind. */
-static inline uint8_t mcx11_outcome(const mcx11_t *m) { return m->answer[4]; }
-
-/** The outcome's value. */
-static inline const uint8_t *mcx11_value(const mcx11_t *m) { return m->answer + 5; }
-
-/** How many bytes the value has, 0 to 16. */
-static inline size_t mcx11_value_length(const mcx11_t *m)
-{
-    return mcx11_answer_length(m) < 4 ? 0 : mcx11_answer_length(m) - 4;
-}
-
-/**
- * Whom the running task's signal woke: the task that lost its event wait, also if it is suspended besides; 0 if none waited, and
- * where the outcome is not MCX11_OUTCOME_WOKE. Where the woken task runs first, its waker is told when it runs again.
- */
-static inline uint8_t mcx11_woke(const mcx11_t *m)
-{
-    return mcx11_outcome(m) == MCX11_OUTCOME_WOKE ? mcx11_value(m)[0] : (uint8_t)0;
-}
 
 /* ---- Names as texts; what has none is "unknown" */
 
@@ -419,13 +301,29 @@ static inline const char *mcx11_number_name(uint8_t number)
     static const char *const from_0[] = {"accepted",  "line",  "length",  "configuration", "code",         "task",
                                          "semaphore", "queue", "message", "tock value",    "milliseconds", "memory"};
     static const char *const from_20[] = {"null task runs", "semaphore waiting", "message in mailbox", "all timers active",
-                                          "has a timer",    "idle or waiting",   "before first"};
+                                          "has a timer",    "idle or waiting",   "before first",      "above module"};
     if (number <= MCX11_NUMBER_MEMORY)
         return from_0[number];
-    if (number >= MCX11_NUMBER_NULL_TASK_RUNS && number <= MCX11_NUMBER_BEFORE_FIRST)
+    if (number >= MCX11_NUMBER_NULL_TASK_RUNS && number <= MCX11_NUMBER_ABOVE_MODULE)
         return from_20[number - MCX11_NUMBER_NULL_TASK_RUNS];
     return "unknown";
 }
+
+/* ---- The calls: for the controller, and once more for the module */
+
+#ifdef MCX11_TRACE
+#define MCX11_HOOK MCX11_TRACE
+#endif
+#include "mcx11_calls.h"
+#undef MCX11_HOOK
+
+#ifdef MCX11_MODULE_TRACE
+#define MCX11_HOOK MCX11_MODULE_TRACE
+#endif
+#include "mcx11_as_module.h"
+#include "mcx11_calls.h"
+#include "mcx11_as_module.h"
+#undef MCX11_HOOK
 
 #ifdef __cplusplus
 }

@@ -1,12 +1,12 @@
 //! Measures the verified executive beside the other implementation on the same recorded sessions, and prints tables.
 
+mod callers;
 mod dear;
 mod frames;
 mod measure;
 mod mixes;
 mod session;
 mod sessions;
-mod stack;
 mod stage;
 mod storm;
 mod worst;
@@ -22,6 +22,7 @@ fn main() {
     match arguments.as_slice() {
         [only] if only == worst::RUN_ALL => worst::run_all(),
         [only] if only == "worst" => return worst::print(),
+        [only] if only == "callers" => return callers::print(),
         _ => {}
     }
     let (recorded, random, growing) = (sessions::recorded(), mixes::random(), sessions::growing());
@@ -34,6 +35,7 @@ fn main() {
         describe(sessions);
     }
     print(&["Frame", "T", "Runs", "Q", "Messages", "Timers"], &growing);
+    callers::print();
     worst::print();
 }
 

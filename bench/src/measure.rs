@@ -4,6 +4,8 @@ use std::fs;
 use std::process::Command;
 use std::time::Instant;
 
+use c::caller::Caller;
+
 use crate::session::{run_broken, run_engine, run_other, Frame, Session};
 
 /// Of all rounds and repetitions the least time is taken, so that what else the machine does counts for little.
@@ -43,15 +45,23 @@ fn timed(session: &Session, run: impl FnOnce(&[Frame])) -> f64 {
     start.elapsed().as_nanos() as f64 / session.frames.len() as f64
 }
 
-/// What `instructions` has counted: one of the three runs the frames of a session in a file, or nobody does.
+/// Who runs the frames: the verified functions by the controller's entry or by the module's, the other implementation, or the
+/// controller's entry twice, first on memory that breaks a rule.
+pub const ENGINE: &str = "engine";
+pub const MODULE: &str = "module";
+const OTHER: &str = "other";
+const BROKEN: &str = "broken";
+
+/// What `instructions_of` has counted: one of the four runs the frames of a session in a file, or nobody does.
 pub fn run_one(who: &str, file: &str, before: usize, with_frames: bool) -> ! {
     let lines = fs::read(file).expect("a session");
     let session = Session::read(&lines, before);
     let (mut memory, mut other, breaks) = (session.memory(), session.other(), session.breaks());
     let frames: &[Frame] = if with_frames { &session.frames } else { &[] };
     match who {
-        "engine" => run_engine(frames, &mut memory),
-        "other" => run_other(frames, &mut other),
+        ENGINE => run_engine(frames, &mut memory),
+        MODULE => run_engine(frames, &mut session.memory_of(Caller::Module)),
+        OTHER => run_other(frames, &mut other),
         _ => run_broken(frames, &mut memory, &breaks),
     }
     std::process::exit(0)
@@ -63,12 +73,18 @@ pub struct Counted {
     pub test: f64,
 }
 
-/// By callgrind, with the frames less without them. None where valgrind is missing.
 pub fn instructions(session: &Session) -> Option<Counted> {
+    let cost = Cost { engine: instructions_of(session, ENGINE)?, other: instructions_of(session, OTHER)? };
+    let test = instructions_of(session, BROKEN)? - cost.engine;
+    Some(Counted { cost, test })
+}
+
+/// Of a frame, by callgrind, with the frames less without them. None where valgrind is missing.
+pub fn instructions_of(session: &Session, who: &str) -> Option<f64> {
     let program = std::env::current_exe().expect("a name");
     let file = program.with_file_name("session.txt");
     fs::write(&file, session.lines()).expect("a file beside the program");
-    let count = |who: &str, frames: &str| {
+    let count = |frames: &str| {
         let output = Command::new("valgrind")
             .args(["--tool=callgrind", "--callgrind-out-file=/dev/null"])
             .arg(&program)
@@ -80,8 +96,5 @@ pub fn instructions(session: &Session) -> Option<Counted> {
         let collected = said.lines().find_map(|line| line.split("Collected :").nth(1)).expect("callgrind's count");
         collected.trim().parse::<f64>().ok()
     };
-    let each = |who: &str| Some((count(who, "frames")? - count(who, "none")?) / session.frames.len() as f64);
-    let cost = Cost { engine: each("engine")?, other: each("other")? };
-    let test = each("broken")? - cost.engine;
-    Some(Counted { cost, test })
+    Some((count("frames")? - count("none")?) / session.frames.len() as f64)
 }

@@ -14,7 +14,8 @@ pub fn random() -> Vec<Session> {
     SIZES.map(|(tasks, queues)| session(tasks, queues)).to_vec()
 }
 
-fn session(tasks: u8, queues: u8) -> Session {
+/// A session of this size.
+pub fn session(tasks: u8, queues: u8) -> Session {
     let configuration = configuration(tasks, queues);
     let mut frames = Generator::new(tasks.into()).lasting_script_of(configuration.clone(), FRAMES + FRAMES / 10).frames;
     frames.retain(|frame| BYTES.contains(&frame.len()));

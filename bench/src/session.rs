@@ -2,7 +2,8 @@
 
 use std::hint::black_box;
 
-use c::lent::{pairs_at, Lent, Regions, COUNT, FRAME, PART, SIZES};
+use c::caller::{call, Caller};
+use c::lent::{pairs_at, Lent, Regions, COUNT, FRAME, PART};
 use plain_executive::configuration::Configuration;
 use plain_executive::executive::Executive;
 use plain_executive::generator::Script;
@@ -35,18 +36,25 @@ impl Break {
     }
 
     /// The number of a frame that is fed to the broken memory.
-    fn frame(self, memory: &mut Lent, frame: &[u8]) -> u8 {
+    fn frame(self, memory: &mut Lent, frame: &[u8], feed: impl Fn(&mut Lent, &[u8]) -> u8) -> u8 {
         let (byte, value) = self.byte(memory);
         let kept = std::mem::replace(byte, value);
-        let number = memory.frame(frame);
+        let number = feed(memory, frame);
         *self.byte(memory).0 = kept;
         number
     }
 }
 
+/// As `Lent::frame`, but the caller's function is looked up here and not with every frame.
+fn feeding(memory: &Lent) -> impl Fn(&mut Lent, &[u8]) -> u8 {
+    let function = memory.caller.feeding();
+    move |memory, frame| unsafe { call(function, frame, memory.lend()) }
+}
+
 pub fn run_engine(frames: &[Frame], memory: &mut Lent) {
+    let feed = feeding(memory);
     for frame in frames {
-        black_box(memory.frame(black_box(frame)));
+        black_box(feed(memory, black_box(frame)));
     }
 }
 
@@ -58,9 +66,10 @@ pub fn run_other(frames: &[Frame], other: &mut Executive) {
 
 /// As `run_engine`, but each frame is first fed to memory that breaks a rule, which ends it behind the test for 11.
 pub fn run_broken(frames: &[Frame], memory: &mut Lent, breaks: &[Break]) {
+    let feed = feeding(memory);
     for (frame, rule) in frames.iter().zip(breaks) {
-        black_box(rule.frame(memory, black_box(frame)));
-        black_box(memory.frame(black_box(frame)));
+        black_box(rule.frame(memory, black_box(frame), &feed));
+        black_box(feed(memory, black_box(frame)));
     }
 }
 
@@ -80,9 +89,14 @@ impl Session {
         Session { name: String::new(), configuration, before, frames: std::iter::from_fn(next).collect() }
     }
 
-    /// The lent memory after the frames that prepare.
+    /// The controller's memory after the frames that prepare.
     pub fn memory(&self) -> Lent {
-        let mut memory = Lent::new(SIZES, || 0);
+        self.memory_of(Caller::Controller)
+    }
+
+    /// A caller's.
+    pub fn memory_of(&self, caller: Caller) -> Lent {
+        let mut memory = Lent::of(caller, caller.sizes(), || 0);
         assert_eq!(memory.configure(&self.configuration), 0, "{}", self.name);
         for frame in &self.before {
             assert_eq!(memory.frame(frame), 0, "{}: {frame:02X?}", self.name);
@@ -99,9 +113,14 @@ impl Session {
         other
     }
 
-    /// Both give the same answers to the frames and hold the same in the end.
+    /// The controller's and the other implementation give the same answers to the frames and hold the same in the end.
     pub fn check(&self) {
-        let (mut memory, mut other) = (self.memory(), self.other());
+        self.check_of(Caller::Controller);
+    }
+
+    /// So do a caller's and the other implementation.
+    pub fn check_of(&self, caller: Caller) {
+        let (mut memory, mut other) = (self.memory_of(caller), self.other());
         for frame in &self.frames {
             let answer = other.frame(frame);
             assert_eq!(memory.frame(frame), answer.refusal(), "{}: {frame:02X?}", self.name);
@@ -124,7 +143,8 @@ impl Session {
             let length = Break::Config(PART + 1, (last - FRAME) as u8);
             let candidates = [number, depth, Some(length)];
             let mut found = candidates.into_iter().flatten();
-            let found = found.find(|rule| rule.frame(&mut memory.clone(), frame) == MEMORY).expect("a break");
+            let found =
+                found.find(|rule| rule.frame(&mut memory.clone(), frame, Lent::frame) == MEMORY).expect("a break");
             memory.frame(frame);
             found
         };

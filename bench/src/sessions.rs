@@ -19,6 +19,8 @@ struct Numbers {
     tasks: u8,
     named: u8,
     queues: u8,
+    timers: u8,
+    messages: u8,
     ticks: u8,
     /// Tasks 1 to this one are idle at first.
     idle: u8,
@@ -26,14 +28,15 @@ struct Numbers {
     depth: u8,
 }
 
-const TIMERS: u8 = 64;
-const MESSAGES: u8 = 64;
-const SMALL: Numbers = Numbers { tasks: 8, named: 64, queues: 4, ticks: 4, idle: 0, width: 8, depth: 8 };
+const SMALL: Numbers =
+    Numbers { tasks: 8, named: 64, queues: 4, timers: 64, messages: 64, ticks: 4, idle: 0, width: 8, depth: 8 };
 const LARGE: Numbers = Numbers { tasks: 126, queues: 32, depth: 16, ..SMALL };
+/// All that the brake module has room for.
+const MODULE: Numbers = Numbers { tasks: 16, queues: 8, timers: 8, messages: 8, depth: 4, ..SMALL };
 
 impl Numbers {
     fn frame(self) -> Frame {
-        let mut frame = vec![self.tasks, self.named, self.queues, TIMERS, MESSAGES, self.ticks, 0, 125];
+        let mut frame = vec![self.tasks, self.named, self.queues, self.timers, self.messages, self.ticks, 0, 125];
         frame.extend((1..=self.tasks).map(|task| u8::from(task <= self.idle)));
         frame.extend([self.width, self.depth].repeat(self.queues.into()));
         frame
@@ -46,10 +49,16 @@ impl Numbers {
 
 /// A ride at work, in four mixtures of frames, small and large.
 pub fn recorded() -> Vec<Session> {
-    [SMALL, LARGE]
-        .into_iter()
-        .flat_map(|numbers| [mixed(numbers), ticks(numbers), queues(numbers), messages(numbers)])
-        .collect()
+    [SMALL, LARGE].into_iter().flat_map(mixtures).collect()
+}
+
+/// The same mixtures on a ride that the module has room for.
+pub fn for_module() -> [Session; 4] {
+    mixtures(MODULE)
+}
+
+fn mixtures(numbers: Numbers) -> [Session; 4] {
+    [mixed(numbers), ticks(numbers), queues(numbers), messages(numbers)]
 }
 
 fn mixed(numbers: Numbers) -> Session {
@@ -94,7 +103,7 @@ fn mixed(numbers: Numbers) -> Session {
         let semaphore = random.between(0, numbers.named + numbers.tasks);
         let queue = random.between(1, numbers.queues);
         match code {
-            SEND | SENDW => vec![code, task, semaphore, 0, random.between(1, MESSAGES)],
+            SEND | SENDW => vec![code, task, semaphore, 0, random.between(1, numbers.messages)],
             ENQUEUE => put(random, numbers, queue),
             DEQUEUE => take(queue),
             DELAY | TIMER => vec![code, task, semaphore, random.pick(&[0, 0, 255]), random.between(1, 99)],
@@ -103,11 +112,12 @@ fn mixed(numbers: Numbers) -> Session {
     })
 }
 
-/// 64 cyclic timers, and tasks that wait for their semaphores. Most frames are ticks; each fourth tick ends a tock.
+/// Cyclic timers, as many as there may be, and tasks that wait for their semaphores. Most frames are ticks; each fourth tick ends a tock.
 fn ticks(numbers: Numbers) -> Session {
-    let starts =
-        (1..=TIMERS).map(|number| timed(TIMER, 1 + number % numbers.tasks, number, -5 - i16::from(number))).collect();
-    record(numbers.name("ticks, 64 timers"), numbers, starts, |random, executive| {
+    let starts = (1..=numbers.timers)
+        .map(|number| timed(TIMER, 1 + number % numbers.tasks, number, -5 - i16::from(number)))
+        .collect();
+    record(numbers.name(&format!("ticks, {} timers", numbers.timers)), numbers, starts, |random, executive| {
         if executive.running() == 0 || random.percent(60) {
             return tick();
         }
@@ -135,7 +145,7 @@ fn queues(numbers: Numbers) -> Session {
 /// Tasks that send and receive, with about half of the messages lying in mailboxes.
 fn messages(numbers: Numbers) -> Session {
     record(numbers.name("messages"), numbers, Vec::new(), |random, executive| {
-        let message = random.between(1, MESSAGES);
+        let message = random.between(1, numbers.messages);
         if executive.mailboxes().holds(message) {
             vec![RECEIVE, 0, 0, 0, 0]
         } else {
@@ -191,7 +201,7 @@ const MUCH: Held = Held { tasks: 126, running: 126, queues: 32, messages: 64, ti
 impl Held {
     fn session(self, name: &str, frame: &[u8]) -> Session {
         let Held { tasks, running, queues, messages, timers } = self;
-        let numbers = Numbers { tasks, named: 64, queues, ticks: 1, idle: running - 1, width: 8, depth: 16 };
+        let numbers = Numbers { tasks, queues, ticks: 1, idle: running - 1, depth: 16, ..SMALL };
         let sends = (1..=messages).map(|message| vec![SEND, tasks, 0, 0, message]);
         let starts = (1..=timers).map(|number| timed(TIMER, tasks, number, i16::MIN));
         Session {

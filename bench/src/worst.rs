@@ -6,10 +6,10 @@ use std::process::Command;
 use std::time::{Duration, Instant};
 
 use c::lent::Lent;
+use c::stack;
 
 use crate::dear;
 use crate::session::Session;
-use crate::stack;
 
 const CODES: [&str; 17] = [
     "wait",
@@ -50,7 +50,7 @@ pub fn print() {
     let times = nanoseconds(&dearest);
     for (((session, count), time), name) in dearest.into_iter().zip(times).zip(CODES) {
         let (code, mut memory) = (session.frames[0][0], session.memory());
-        let bytes = stack::bytes(&session.frames[0], &mut memory);
+        let bytes = stack::bytes(memory.caller.feeding(), &session.frames[0], &mut memory);
         let reissues = memory.answered()[2];
         println!("| ${code:02X} {name} | {count} | {time:.0} | {reissues} | {bytes} | {} |", session.name);
     }

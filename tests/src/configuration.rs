@@ -1,10 +1,10 @@
 //! The configuration frame.
 
-use crate::numbers::{require, Number, CONFIGURATION, LENGTH};
+use crate::limits::Limits;
+use crate::numbers::{require, Number, ABOVE_MODULE, CONFIGURATION, LENGTH};
 
 const FIXED_BYTES: usize = 8;
 const MOST_SEMAPHORES: usize = 255;
-const MOST_QUEUE_BYTES: usize = 4096;
 pub const MOST_PAIRS: usize = 64;
 
 #[derive(Clone, Copy, Debug, PartialEq, Eq)]
@@ -13,6 +13,12 @@ pub struct QueueSize {
     pub width: u8,
     /// Entries in the queue.
     pub depth: u8,
+}
+
+impl QueueSize {
+    pub fn bytes(&self) -> usize {
+        usize::from(self.width) * usize::from(self.depth)
+    }
 }
 
 /// One task, and another that is not started while the first is idle.
@@ -38,14 +44,24 @@ pub struct Configuration {
 }
 
 impl Configuration {
+    /// As a caller with these limits takes it. What the controller refuses is refused with its number; 27 comes last.
+    pub fn read_within(limits: Limits, frame: &[u8]) -> Result<Self, Number> {
+        let configuration = Configuration::read(frame)?;
+        require(configuration.is_within(limits), ABOVE_MODULE)?;
+        Ok(configuration)
+    }
+
+    /// As the controller takes it.
     pub fn read(frame: &[u8]) -> Result<Self, Number> {
         let (fixed, rest) = frame.split_first_chunk::<FIXED_BYTES>().ok_or(LENGTH)?;
         let [tasks, named, queues, timers, messages, ticks, high, low] = *fixed;
         let milliseconds = u16::from_be_bytes([high, low]);
         let (task_count, queue_count) = (usize::from(tasks), usize::from(queues));
 
-        require((1..=126).contains(&tasks), CONFIGURATION)?;
-        require(queues <= 32 && timers <= 64 && messages <= 64, CONFIGURATION)?;
+        let most = Limits::CONTROLLER;
+        require((1..=most.tasks).contains(&tasks), CONFIGURATION)?;
+        let fit = queues <= most.queues && timers <= most.timers && messages <= most.messages;
+        require(fit, CONFIGURATION)?;
         require(ticks >= 1 && milliseconds >= 1, CONFIGURATION)?;
         let semaphores = usize::from(named) + task_count + 2 * queue_count;
         require(semaphores <= MOST_SEMAPHORES, CONFIGURATION)?;
@@ -66,6 +82,14 @@ impl Configuration {
             pairs: read_pairs(pairs, &starts_idle)?,
             starts_idle,
         })
+    }
+
+    fn is_within(&self, limits: Limits) -> bool {
+        self.tasks <= limits.tasks
+            && self.queue_count() <= limits.queues
+            && self.timers <= limits.timers
+            && self.messages <= limits.messages
+            && queue_bytes(&self.queues) <= limits.queue_bytes
     }
 
     pub fn queue_count(&self) -> u8 {
@@ -113,9 +137,13 @@ fn read_queues(bytes: &[u8]) -> Result<Vec<QueueSize>, Number> {
         bytes.chunks_exact(2).map(|pair| QueueSize { width: pair[0], depth: pair[1] }).collect();
     let possible = |size: &QueueSize| (1..=16).contains(&size.width) && size.depth >= 1;
     require(sizes.iter().all(possible), CONFIGURATION)?;
-    let bytes: usize = sizes.iter().map(|size| usize::from(size.width) * usize::from(size.depth)).sum();
-    require(bytes <= MOST_QUEUE_BYTES, CONFIGURATION)?;
+    require(queue_bytes(&sizes) <= Limits::CONTROLLER.queue_bytes, CONFIGURATION)?;
     Ok(sizes)
+}
+
+/// The widths times depths.
+fn queue_bytes(sizes: &[QueueSize]) -> usize {
+    sizes.iter().map(QueueSize::bytes).sum()
 }
 
 /// Both are tasks and the first is the lower. No task starts runnable whose first starts idle.

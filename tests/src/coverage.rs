@@ -3,6 +3,7 @@
 pub mod causes;
 mod configurations;
 mod lines;
+mod module;
 mod refusals;
 mod situations;
 mod step;
@@ -29,7 +30,9 @@ impl Default for Coverage {
 
 impl Coverage {
     pub fn new() -> Self {
-        let names = situations::names().chain(refusals::names()).chain(configurations::names()).chain(lines::names());
+        let frames = situations::names().chain(refusals::names());
+        let configurations = configurations::names().chain(module::names());
+        let names = frames.chain(configurations).chain(lines::names());
         let counts: BTreeMap<String, u64> = names.map(|name| (name, 0)).collect();
         Coverage { counts, lengths: vec![0; LONGEST + 1] }
     }
@@ -56,6 +59,7 @@ impl Coverage {
 
     pub fn watch_configuration(&mut self, frame: &[u8]) {
         self.count(configurations::reached(frame));
+        self.count(module::reached(frame));
     }
 
     pub fn watch_input(&mut self, input: &[u8]) {
@@ -84,6 +88,11 @@ impl Coverage {
     /// The causes of refused configurations that were not reached.
     pub fn missing_of_refused(&self) -> Vec<String> {
         configurations::refused_names().filter(|name| self.counts[name] == 0).collect()
+    }
+
+    /// The situations of configurations on the module that were not reached.
+    pub fn missing_of_module(&self) -> Vec<String> {
+        module::names().filter(|name| self.counts[name] == 0).collect()
     }
 
     fn count(&mut self, reached: impl IntoIterator<Item = String>) {

@@ -5,6 +5,7 @@ use crate::clock::Clock;
 use crate::command;
 use crate::configuration::Configuration;
 use crate::history::History;
+use crate::limits::Limits;
 use crate::mailboxes::Mailboxes;
 use crate::numbers::{require, Number, SEMAPHORE_WAITING};
 use crate::queues::Queues;
@@ -29,8 +30,14 @@ pub struct Executive {
 }
 
 impl Executive {
+    /// The controller's.
     pub fn configure(frame: &[u8]) -> Result<Self, Number> {
-        Configuration::read(frame).map(Executive::fresh)
+        Executive::configure_within(Limits::CONTROLLER, frame)
+    }
+
+    /// That of a caller with these limits.
+    pub fn configure_within(limits: Limits, frame: &[u8]) -> Result<Self, Number> {
+        Configuration::read_within(limits, frame).map(Executive::fresh)
     }
 
     pub fn fresh(configuration: Configuration) -> Self {

@@ -1,6 +1,7 @@
 //! Random sessions. Frames are chosen by looking at the executive's state, so that they meet meaningful situations,
 //! and are mixed with plain noise.
 
+mod above;
 mod cascade;
 mod configurations;
 mod damage;
@@ -12,12 +13,14 @@ use std::ops::RangeInclusive;
 
 use crate::command::INTERRUPT_EXIT;
 use crate::executive::Executive;
+use crate::limits::Limits;
 use crate::line;
 use crate::random::Random;
 use crate::tasks::Block;
 use moves::Mood;
 
 pub use cascade::cascade;
+pub use configurations::largest;
 pub use damage::LONGEST;
 
 /// A configuration and the frames behind it.
@@ -36,18 +39,25 @@ impl Script {
 }
 
 pub struct Generator {
+    limits: Limits,
     random: Random,
     mood: Mood,
 }
 
 impl Generator {
+    /// Sessions for the controller.
     pub fn new(seed: u64) -> Self {
-        Generator { random: Random::new(seed), mood: Mood::Any }
+        Generator::within(Limits::CONTROLLER, seed)
     }
 
-    /// A configuration that is accepted and this many frames.
+    /// Sessions for a caller with these limits.
+    pub fn within(limits: Limits, seed: u64) -> Self {
+        Generator { limits, random: Random::new(seed), mood: Mood::Any }
+    }
+
+    /// A configuration that is accepted, with so many tasks as far as the limits go, and this many frames.
     pub fn script(&mut self, tasks: RangeInclusive<u8>, frames: usize) -> Script {
-        let configuration = configurations::accepted(&mut self.random, tasks);
+        let configuration = configurations::within(&mut self.random, self.limits, tasks).bytes();
         self.script_of(configuration, frames)
     }
 
@@ -65,9 +75,14 @@ impl Generator {
         Script { configuration, frames }
     }
 
-    /// A configuration that is refused.
+    /// A configuration that every caller refuses.
     pub fn refused_configuration(&mut self) -> Vec<u8> {
         configurations::refused(&mut self.random)
+    }
+
+    /// A configuration that the controller accepts, and the module refuses.
+    pub fn configuration_above_module(&mut self) -> Vec<u8> {
+        above::above(&mut self.random, Limits::MODULE)
     }
 
     /// Any bytes as the session program may find them: damaged lines, refused configurations, no last $0A.

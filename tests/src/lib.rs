@@ -8,6 +8,7 @@ pub mod configuration;
 pub mod executive;
 pub mod history;
 pub mod items;
+pub mod limits;
 pub mod line;
 pub mod mailboxes;
 pub mod numbers;

@@ -1,7 +1,8 @@
 //! The random sessions reach every named situation.
 
 use plain_executive::coverage::Coverage;
-use plain_executive::generator::{cascade, Generator};
+use plain_executive::generator::{cascade, largest, Generator};
+use plain_executive::limits::Limits;
 
 const SESSIONS: u64 = 2000;
 const FRAMES: usize = 250;
@@ -10,6 +11,7 @@ const FRAMES: usize = 250;
 fn every_situation_is_reached() {
     let mut coverage = Coverage::new();
     coverage.watch_script(&cascade());
+    coverage.watch_configuration(&largest(Limits::MODULE));
     for seed in 0..SESSIONS {
         let mut generator = Generator::new(seed);
         let tasks = match seed % 10 {
@@ -20,6 +22,8 @@ fn every_situation_is_reached() {
         };
         coverage.watch_script(&generator.script(tasks, FRAMES));
         coverage.watch_configuration(&generator.refused_configuration());
+        coverage.watch_configuration(&generator.configuration_above_module());
+        coverage.watch_configuration(&Generator::within(Limits::MODULE, seed).script(1..=16, 0).configuration);
         coverage.watch_input(&generator.input(20));
     }
     println!("{}", coverage.table());

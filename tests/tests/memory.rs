@@ -1,9 +1,10 @@
-//! docs/MEMORY.md: its sizes, marks and regions are those of the Rattle sources and of the largest configuration, and its example
-//! is what the other executive holds.
+//! docs/MEMORY.md: its sizes, marks and regions are those of the Rattle sources and of the largest configuration, on the controller and
+//! on the module, and its example is what the other executive holds.
 
-use plain_executive::configuration::{Configuration, QueueSize};
+use plain_executive::configuration::{Configuration, QueueSize, MOST_PAIRS};
 use plain_executive::executive::Executive;
 use plain_executive::items::{OutcomeItem, RequestItem};
+use plain_executive::limits::Limits;
 use plain_executive::line;
 use plain_executive::tasks::Letter;
 use plain_executive::written::PLANES;
@@ -46,12 +47,22 @@ fn owned(words: &[&str]) -> Vec<String> {
     words.iter().map(|word| word.to_string()).collect()
 }
 
+/// Who lends: its limits, its name in the specifications, and its column of the page's sizes.
+struct Caller {
+    limits: Limits,
+    name: &'static str,
+    column: usize,
+}
+
+const CONTROLLER: Caller = Caller { limits: Limits::CONTROLLER, name: "controller", column: 1 };
+const MODULE: Caller = Caller { limits: Limits::MODULE, name: "brakeModule", column: 2 };
+
 /// Of each block its bytes, and what a configuration needs.
-fn sizes() -> Vec<(String, usize, String)> {
-    let rows = table(&["Block", "Bytes", "Needed for a configuration"]);
+fn sizes(caller: &Caller) -> Vec<(String, usize, String)> {
+    let rows = table(&["Block", "Bytes", "On the module", "Needed for a configuration"]);
     let sizes: Vec<_> = rows
         .iter()
-        .map(|row| (row[0].trim_matches('`').to_string(), row[1].parse().unwrap(), row[2].clone()))
+        .map(|row| (row[0].trim_matches('`').to_string(), row[caller.column].parse().unwrap(), row[3].clone()))
         .collect();
     assert_eq!(sizes.iter().map(|size| size.0.as_str()).collect::<Vec<_>>(), BLOCKS);
     sizes
@@ -120,12 +131,14 @@ impl Numbers {
 
 // ---- configurations
 
-/// T 126, S 65, Q 32, R 64, G 64, 32 queues of 128 bytes, and 64 pairs.
-fn largest_frame() -> Vec<u8> {
-    let mut frame = vec![126, 65, 32, 64, 64, 255, 255, 255];
-    frame.extend([0; 126]);
-    frame.extend([16, 8].repeat(32));
-    frame.extend([1, 126].repeat(64));
+/// As much of everything as the limits allow, and 64 pairs; all queues have the same bytes, 16 a row.
+fn largest_frame(limits: Limits) -> Vec<u8> {
+    let Limits { tasks, queues, timers, messages, queue_bytes } = limits;
+    let depth = queue_bytes / 16 / usize::from(queues);
+    let mut frame = vec![tasks, 255 - tasks - 2 * queues, queues, timers, messages, 255, 255, 255];
+    frame.extend(vec![0; tasks.into()]);
+    frame.extend([16, depth as u8].repeat(queues.into()));
+    frame.extend([1, tasks].repeat(MOST_PAIRS));
     frame
 }
 
@@ -134,39 +147,60 @@ fn some_configurations() -> Vec<Configuration> {
     let plain = line::read(b"010000000001000100").unwrap();
     let queues = line::read(b"030502020901000A000100030410FF").unwrap();
     let pairs = line::read(b"03000100000100010000000201010302030103").unwrap();
-    [session, plain, queues, pairs, largest_frame()]
+    [session, plain, queues, pairs, largest_frame(Limits::CONTROLLER), largest_frame(Limits::MODULE)]
         .iter()
         .map(|frame| Configuration::read(frame).expect("accepted"))
         .collect()
 }
 
+fn grouped(number: usize) -> String {
+    if number < 1000 {
+        return number.to_string();
+    }
+    format!("{},{:03}", number / 1000, number % 1000)
+}
+
+/// The page's words for it.
+fn told(numbers: Numbers) -> String {
+    let Numbers { tasks, named, queues, timers, messages, pairs, queue_bytes } = numbers;
+    format!("T {tasks}, S {named}, Q {queues}, R {timers}, G {messages}, P {pairs} and W {}", grouped(queue_bytes))
+}
+
 #[test]
 fn the_sizes_are_what_the_largest_configuration_needs() {
-    let largest = Configuration::read(&largest_frame()).expect("accepted");
-    for (block, bytes, needed) in sizes() {
-        let needed = evaluate(&needed, |name| Numbers::of(&largest).letter(name));
-        assert_eq!(needed + of_marks(&block), bytes, "{block}");
+    let page = text("docs/MEMORY.md").split_whitespace().collect::<Vec<_>>().join(" ");
+    for caller in [CONTROLLER, MODULE] {
+        let frame = largest_frame(caller.limits);
+        let largest = Numbers::of(&Configuration::read_within(caller.limits, &frame).expect("accepted"));
+        let sizes = sizes(&caller);
+        for (block, bytes, needed) in &sizes {
+            assert_eq!(evaluate(needed, |name| largest.letter(name)) + of_marks(block), *bytes, "{block}");
+        }
+        assert_eq!(FRAME + frame.len() + 4, sizes[0].1);
+        let total = sizes.iter().map(|size| size.1).sum();
+        for words in [told(largest), format!(" {} bytes", grouped(total))] {
+            assert!(page.contains(&words), "the page does not say: {words}");
+        }
     }
-    assert_eq!(FRAME + largest_frame().len() + 4, sizes()[0].1);
-    let total: usize = sizes().iter().map(|size| size.1).sum();
-    assert!(text("docs/MEMORY.md").contains(&format!(" {},{:03} bytes", total / 1000, total % 1000)), "{total}");
 }
 
 #[test]
 fn no_accepted_configuration_needs_more() {
-    for tasks in 1..=126 {
-        for queues in (0..=32).take_while(|queues| tasks + 2 * queues <= 255) {
-            let most = Numbers {
-                tasks,
-                named: 255 - tasks - 2 * queues,
-                queues,
-                timers: 64,
-                messages: 64,
-                pairs: 64,
-                queue_bytes: (queues * 16 * 255).min(4096),
-            };
-            for (block, bytes, needed) in sizes() {
-                assert!(evaluate(&needed, |name| most.letter(name)) + of_marks(&block) <= bytes, "{block}: {most:?}");
+    for caller in [CONTROLLER, MODULE] {
+        let Limits { tasks, queues, timers, messages, queue_bytes } = caller.limits;
+        let [tasks, queues, timers, messages] = [tasks, queues, timers, messages].map(usize::from);
+        let sizes = sizes(&caller);
+        for tasks in 1..=tasks {
+            for queues in (0..=queues).take_while(|queues| tasks + 2 * queues <= 255) {
+                let named = 255 - tasks - 2 * queues;
+                let queue_bytes = (queues * 16 * 255).min(queue_bytes);
+                let most = Numbers { tasks, named, queues, timers, messages, pairs: MOST_PAIRS, queue_bytes };
+                for (block, bytes, needed) in &sizes {
+                    assert!(
+                        evaluate(needed, |name| most.letter(name)) + of_marks(block) <= *bytes,
+                        "{block}: {most:?}"
+                    );
+                }
             }
         }
     }
@@ -174,13 +208,47 @@ fn no_accepted_configuration_needs_more() {
 
 // ---- the sources
 
+/// The values of a record such as `controller = record { tasks = 126; queues = 32 }`.
+fn record_of(file: &str, name: &str) -> HashMap<String, String> {
+    let source = text(file);
+    let (_, body) = source.split_once(&format!("\n{name} = record {{")).unwrap_or_else(|| panic!("{file}: no {name}"));
+    let fields = body.split('}').next().expect("its end").split(';').filter_map(|field| field.split_once(" = "));
+    fields.map(|(field, value)| (field.trim().to_string(), value.trim().to_string())).collect()
+}
+
+/// The limits of the specifications are those of the other implementation.
+#[test]
+fn the_limits_are_those_of_the_sources() {
+    for caller in [CONTROLLER, MODULE] {
+        let Limits { tasks, queues, timers, messages, queue_bytes } = caller.limits;
+        let counts = [("tasks", tasks), ("queues", queues), ("timers", timers), ("messages", messages)];
+        let counts = counts.map(|(name, most)| (name.to_string(), most.to_string()));
+        let due = counts.into_iter().chain([("bytes".to_string(), queue_bytes.to_string())]);
+        assert_eq!(record_of("crates/ledger/specs/Config.antt", caller.name), due.collect(), "{}", caller.name);
+    }
+}
+
+/// The sizes of the page are `sizesOf` of the limits.
 #[test]
 fn the_sizes_are_those_of_the_sources() {
-    let full = sides("crates/mcx11/specs/Sizes.antt", "Full", " ≤ ");
-    for (block, bytes, _) in sizes() {
-        let asked = full.iter().find(|(_, right)| *right == format!("length (m .{block})"));
-        let (size, _) = asked.unwrap_or_else(|| panic!("Full asks no size of {block}"));
-        assert_eq!(size.parse(), Ok(bytes), "{block}");
+    let sums = record_of("crates/mcx11/specs/Contract.antt", "sizesOf k");
+    for caller in [CONTROLLER, MODULE] {
+        let Limits { tasks, queues, timers, messages, queue_bytes } = caller.limits;
+        let value = |name: &str| match name.trim_start_matches("k .") {
+            "tasks" => tasks.into(),
+            "queues" => queues.into(),
+            "timers" => timers.into(),
+            "messages" => messages.into(),
+            "bytes" => queue_bytes,
+            "longest k" => 8 + usize::from(tasks) + 2 * usize::from(queues) + 2 * MOST_PAIRS,
+            "partAt" | "frameAt" => number("crates/parts/specs/Parts.antt", name),
+            "recordsAt" => number("crates/tables/specs/Layout.antt", name),
+            "answerBytes" => number("crates/answer/specs/Written.antt", name),
+            _ => panic!("sizesOf: no number {name}"),
+        };
+        for (block, bytes, _) in sizes(&caller) {
+            assert_eq!(evaluate(&sums[&block], value), bytes, "{block} of {}", caller.name);
+        }
     }
 }
 
@@ -247,7 +315,7 @@ fn slots_and_timers_are_those_of_the_tables() {
     for (block, name) in [(2, "length z"), (3, "length w")] {
         let (sum, _) = needed.iter().find(|(_, right)| right == name).unwrap_or_else(|| panic!("no line with {name}"));
         for numbers in some_configurations().iter().map(Numbers::of) {
-            let of_the_page = evaluate(&sizes()[block].2, |name| numbers.letter(name));
+            let of_the_page = evaluate(&sizes(&CONTROLLER)[block].2, |name| numbers.letter(name));
             assert_eq!(evaluate(sum, |name| fields(numbers)[name]), of_the_page, "{numbers:?}");
         }
     }
@@ -276,7 +344,7 @@ fn the_regions_are_those_of_the_layout() {
             }
             at += evaluate(&region[1], |name| numbers.letter(name));
         }
-        assert_eq!(at, evaluate(&sizes()[1].2, |name| numbers.letter(name)), "{numbers:?}");
+        assert_eq!(at, evaluate(&sizes(&CONTROLLER)[1].2, |name| numbers.letter(name)), "{numbers:?}");
     }
 }
 
@@ -478,10 +546,11 @@ fn the_example_is_what_the_other_executive_holds() {
         let length = memory["answer"].number(0);
         assert_eq!(memory["answer"].some(1, length), answer.bytes());
         assert!(memory["answer"].bytes[1 + length..].iter().all(|shown| *shown == Shown::Outside), "behind the answer");
-        let needed =
-            |block: usize| evaluate(&sizes()[block].2, |name| Numbers::of(executive.configuration()).letter(name));
+        let needed = |block: usize| {
+            evaluate(&sizes(&CONTROLLER)[block].2, |name| Numbers::of(executive.configuration()).letter(name))
+        };
         for (block, name) in BLOCKS.into_iter().enumerate().take(4) {
-            memory[name].is_laid_out(sizes()[block].1, &marks()[name], needed(block));
+            memory[name].is_laid_out(sizes(&CONTROLLER)[block].1, &marks()[name], needed(block));
         }
         memory.values().for_each(Bytes::all_others_are_free);
     }

@@ -95,9 +95,9 @@ class App {
   }
 
   head(sessions, about) {
-    const lines = sessions.map(({ frames, tocks, found: { refusals, reissues } }) => {
+    const lines = sessions.map(({ on, frames, tocks, found: { refusals, reissues } }) => {
       const marks = `${grouped(refusals.length)} refused, ${grouped(reissues.length)} with reissues`;
-      return `${counted(frames, "frame")}, ${counted(tocks[frames], "tock")}, ${marks}`;
+      return `${counted(frames, "frame")}, ${counted(tocks[frames], "tock")}, ${marks}${on}`;
     });
     document.getElementById("about").textContent = lines.join(" | ");
     if (sessions.length < 2) return;

@@ -1,11 +1,14 @@
 //! What the command line asks for.
 
+use c::caller::Caller;
+
 pub const USAGE: &str = "\
-view words [FILE] [--names NAMES]              each frame and its answer in words
-view page FILE [-o PAGE] [--names NAMES]       one page for a browser
-view page FILE FILE [-o PAGE] [--names NAMES]  two sessions side by side
+view words [FILE] [--names NAMES] [--module]              each frame and its answer in words
+view page FILE [-o PAGE] [--names NAMES] [--module]       one page for a browser
+view page FILE FILE [-o PAGE] [--names NAMES] [--module]  two sessions side by side
 FILE is a session: lines of upper-case digits, first the configuration; '-' is standard input.
 NAMES has lines such as 't1 gate', 's2 train-in', 'q1 orders', 'm1 go'. PAGE is page.html if it is not told.
+With --module it is a session of the brake module, with its limits and its memory, not of the controller.
 Ends with 0; with 1 if a configuration is refused; with 2 if the command or a file is wrong; with 3 if the two
 implementations differ, and then no page is written.
 ";
@@ -21,15 +24,18 @@ pub enum Task {
 pub struct Arguments {
     pub task: Task,
     pub names: Option<String>,
+    /// Whose session it is.
+    pub caller: Caller,
 }
 
 pub fn read(words: impl IntoIterator<Item = String>) -> Result<Arguments, String> {
-    let (mut names, mut page, mut plain) = (None, None, Vec::new());
+    let (mut names, mut page, mut plain, mut caller) = (None, None, Vec::new(), Caller::Controller);
     let mut words = words.into_iter();
     while let Some(word) = words.next() {
         let mut value = || words.next().ok_or_else(|| format!("'{word}' needs a file behind it"));
         match word.as_str() {
-            "-h" | "--help" => return Ok(Arguments { task: Task::Help, names: None }),
+            "-h" | "--help" => return Ok(Arguments { task: Task::Help, names: None, caller }),
+            "--module" => caller = Caller::Module,
             "--names" => names = Some(value()?),
             "-o" => page = Some(value()?),
             option if option.starts_with('-') && option != "-" => return Err(format!("there is no option '{option}'")),
@@ -48,5 +54,5 @@ pub fn read(words: impl IntoIterator<Item = String>) -> Result<Arguments, String
         ("page", _) => return Err("'page' takes one file, or two to compare them".to_string()),
         _ => return Err(format!("there is no command '{command}': say 'words' or 'page'")),
     };
-    Ok(Arguments { task, names })
+    Ok(Arguments { task, names, caller })
 }

@@ -1,5 +1,6 @@
 //! The first frame, answer and item in which two sessions differ.
 
+use c::caller::Caller;
 use plain_executive::items::Items;
 use plain_executive::line::MOST_BYTES;
 use plain_executive::session::lines;
@@ -19,12 +20,13 @@ pub struct Differences {
     pub item: First,
 }
 
-/// Of two sessions whose configurations are accepted.
-pub fn between(first: &[u8], second: &[u8], names: &Names) -> Differences {
+/// Of two sessions of a caller whose configurations are accepted.
+pub fn between(caller: Caller, first: &[u8], second: &[u8], names: &Names) -> Differences {
     let mut found = Differences::default();
     let (mut ones, mut others) = (lines(first), lines(second));
     let (head, other_head) = (ones.next().unwrap_or_default(), others.next().unwrap_or_default());
-    let (Ok(mut one), Ok(mut other)) = (Replay::begin(head), Replay::begin(other_head)) else { return found };
+    let begun = (Replay::begin(caller, head), Replay::begin(caller, other_head));
+    let (Ok(mut one), Ok(mut other)) = begun else { return found };
     let configuration = one.other().configuration().clone();
     let words = Words { configuration: &configuration, names };
     if head != other_head {

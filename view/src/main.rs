@@ -1,9 +1,10 @@
-//! `view words FILE`, `view page FILE -o page.html`, `view page A B -o page.html`.
+//! `view words FILE`, `view page FILE -o page.html`, `view page A B -o page.html`; `--module` for the brake module's.
 
 use std::fs;
 use std::io::{self, BufWriter, ErrorKind, Read, Write};
 use std::process::exit;
 
+use c::caller::Caller;
 use plain_executive::configuration::Configuration;
 use plain_executive::line::MOST_BYTES;
 use plain_executive::session::lines;
@@ -25,10 +26,11 @@ fn main() {
         exit(WRONG)
     });
     let names = arguments.names.as_deref().map_or_else(Names::default, read_names);
+    let caller = arguments.caller;
     match arguments.task {
         Task::Help => print!("{USAGE}"),
-        Task::Words { file } => print_words(&file, &names),
-        Task::Page { files, page } => write_page(&files, &names, &page),
+        Task::Words { file } => print_words(caller, &file, &names),
+        Task::Page { files, page } => write_page(caller, &files, &names, &page),
     }
 }
 
@@ -53,11 +55,11 @@ fn read_names(file: &str) -> Names {
 }
 
 /// Ends the program where a session does not begin.
-fn begin(file: &str, input: &[u8]) -> Replay {
+fn begin(caller: Caller, file: &str, input: &[u8]) -> Replay {
     let Some(first) = lines(input).next() else {
         stop(WRONG, &format!("{file} is empty: a session begins with the line of its configuration"))
     };
-    Replay::begin(first).unwrap_or_else(|why| match why {
+    Replay::begin(caller, first).unwrap_or_else(|why| match why {
         Stop::Refused(number) => {
             let rule = configuration_rule(first, number);
             stop(
@@ -74,13 +76,13 @@ fn check_names(names: &Names, configuration: &Configuration) {
 }
 
 /// A reader that goes away is no failure.
-fn print_words(file: &str, names: &Names) {
+fn print_words(caller: Caller, file: &str, names: &Names) {
     let input = read_file(file);
     let first = lines(&input).next().unwrap_or_default();
-    if let (false, Err(Stop::Refused(number))) = (input.is_empty(), Replay::begin(first)) {
+    if let (false, Err(Stop::Refused(number))) = (input.is_empty(), Replay::begin(caller, first)) {
         println!("0  configuration: refused {number}, {}; the session ends", configuration_rule(first, number));
     }
-    let mut replay = begin(file, &input);
+    let mut replay = begin(caller, file, &input);
     let configuration = replay.other().configuration().clone();
     check_names(names, &configuration);
     let words = Words { configuration: &configuration, names };
@@ -113,14 +115,14 @@ fn differs(file: &str, line: usize, why: &Stop) -> String {
     format!("{file}: line {line}: the two implementations differ: {why:?}. Report this with the file")
 }
 
-fn write_page(files: &[String], names: &Names, page: &str) {
+fn write_page(caller: Caller, files: &[String], names: &Names, page: &str) {
     let inputs: Vec<Vec<u8>> = files.iter().map(|file| read_file(file)).collect();
     for (file, input) in files.iter().zip(&inputs) {
-        let replay = begin(file, input);
+        let replay = begin(caller, file, input);
         check_names(names, replay.other().configuration());
     }
     let sessions: Vec<(&str, &[u8])> = files.iter().map(String::as_str).zip(inputs.iter().map(Vec::as_slice)).collect();
-    let made = page::make(&sessions, names).unwrap_or_else(|(file, line, why)| {
+    let made = page::make(caller, &sessions, names).unwrap_or_else(|(file, line, why)| {
         stop(DIFFERS, &format!("{}. No page is written", differs(&file, line, &why)))
     });
     fs::write(page, &made.html).unwrap_or_else(|error| stop(WRONG, &format!("{page} cannot be written: {error}")));

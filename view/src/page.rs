@@ -1,5 +1,6 @@
 //! The page: one file with its styles, its program and the sessions, packed.
 
+use c::caller::Caller;
 use c::lent::Lent;
 
 use crate::base64;
@@ -34,22 +35,23 @@ pub struct Made {
 /// A file, the line in it, and why it does not go on.
 pub type Failure = (String, usize, Stop);
 
-/// A page of one session or of two, each with its file's name and its lines.
-pub fn make(sessions: &[(&str, &[u8])], names: &Names) -> Result<Made, Failure> {
-    make_with(sessions, names, Lent::frame)
+/// A page of one session of a caller or of two, each with its file's name and its lines.
+pub fn make(caller: Caller, sessions: &[(&str, &[u8])], names: &Names) -> Result<Made, Failure> {
+    make_with(caller, sessions, names, Lent::frame)
 }
 
-pub fn make_with(sessions: &[(&str, &[u8])], names: &Names, call: Call) -> Result<Made, Failure> {
+pub fn make_with(caller: Caller, sessions: &[(&str, &[u8])], names: &Names, call: Call) -> Result<Made, Failure> {
     let mut packed = String::new();
     let mut frames = 0;
     for (file, input) in sessions {
-        let recording = Recording::of(file, input, names, call).map_err(|(line, why)| (file.to_string(), line, why))?;
+        let recording =
+            Recording::of(caller, file, input, names, call).map_err(|(line, why)| (file.to_string(), line, why))?;
         frames += recording.frames;
         let data = base64::write(&deflate::write(&recording.bytes()));
         packed += &format!("<script type=\"application/octet-stream\" class=\"packed\">{data}</script>\n");
     }
     let differences = match sessions {
-        [(_, first), (_, second)] => differences::between(first, second, names).json(),
+        [(_, first), (_, second)] => differences::between(caller, first, second, names).json(),
         _ => Json::List(Vec::new()),
     };
     let title = sessions.iter().map(|(file, _)| file_name(file)).collect::<Vec<_>>().join(" and ");

@@ -2,6 +2,7 @@
 
 use std::collections::HashMap;
 
+use c::caller::Caller;
 use c::compare::unequal_items;
 use plain_executive::command::*;
 use plain_executive::configuration::Configuration;
@@ -14,7 +15,7 @@ use crate::names::Names;
 use crate::progress::Progress;
 use crate::replay::{Call, Replay, Step, Stop};
 use crate::summary::Summary;
-use crate::words::{hex, Words};
+use crate::words::{hex, on, Words};
 
 /// Lines that are named by their place.
 #[derive(Default)]
@@ -48,11 +49,11 @@ pub struct Recording {
 pub type Failure = (usize, Stop);
 
 impl Recording {
-    /// Of a session whose configuration is accepted.
-    pub fn of(file: &str, input: &[u8], names: &Names, call: Call) -> Result<Self, Failure> {
+    /// Of a caller's session whose configuration is accepted.
+    pub fn of(caller: Caller, file: &str, input: &[u8], names: &Names, call: Call) -> Result<Self, Failure> {
         let mut rest = lines(input);
         let first = rest.next().unwrap_or_default();
-        let mut replay = Replay::begin_with(first, call).map_err(|why| (1, why))?;
+        let mut replay = Replay::begin_with(caller, first, call).map_err(|why| (1, why))?;
         let configuration = replay.other().configuration().clone();
         let words = Words { configuration: &configuration, names };
         let mut writer = Writer::new(&words, &replay.first(first));
@@ -65,7 +66,7 @@ impl Recording {
             progress.at(place + 1);
         }
         progress.end();
-        Ok(writer.end(file))
+        Ok(writer.end(caller, file))
     }
 
     /// All of it: each part behind its length.
@@ -118,10 +119,11 @@ impl<'a> Writer<'a> {
         Ok(())
     }
 
-    fn end(self, file: &str) -> Recording {
+    fn end(self, caller: Caller, file: &str) -> Recording {
         let Writer { words, frames, asked, answered, changes, summary } = self;
         let header = Json::Object(vec![
             ("file", file.into()),
+            ("on", on(caller).into()),
             ("frames", frames.into()),
             ("configuration", configured(words.configuration)),
             ("names", Json::List(words.names.all().map(|(key, name)| vec![key.as_str(), name].into()).collect())),

@@ -1,19 +1,20 @@
 //! The rule that a refused frame broke, in words.
 
 use plain_executive::command::*;
-use plain_executive::configuration::MOST_PAIRS;
+use plain_executive::configuration::{Configuration, QueueSize, MOST_PAIRS};
 use plain_executive::executive::Executive;
+use plain_executive::limits::Limits;
 use plain_executive::line::{self, MOST_DIGITS};
 use plain_executive::numbers::*;
 use plain_executive::semaphore::Semaphore;
 use plain_executive::tasks::Block;
 
 use crate::replay::Step;
-use crate::words::{counted, listed, Words};
+use crate::words::{counted, grouped, listed, Words};
 
 /// Each number's rule in few words; empty where there is no such number.
-pub const SHORT: [&str; 27] = {
-    let mut short = [""; 27];
+pub const SHORT: [&str; 28] = {
+    let mut short = [""; 28];
     short[1] = "no line of digits";
     short[2] = "length";
     short[3] = "configuration value";
@@ -32,6 +33,7 @@ pub const SHORT: [&str; 27] = {
     short[24] = "task and semaphore have a timer";
     short[25] = "delay of a task that is idle or waiting";
     short[26] = "execute before a first task, one that is idle";
+    short[27] = "a configuration above the module's limits";
     short
 };
 
@@ -84,6 +86,10 @@ pub fn line_rule(text: &[u8]) -> String {
 /// What is wrong with a configuration that met this number.
 pub fn configuration_rule(text: &[u8], number: Number) -> String {
     let Ok(frame) = line::read(text) else { return line_rule(text) };
+    if number == ABOVE_MODULE {
+        return Configuration::read(&frame)
+            .map_or_else(|_| String::new(), |configuration| above_module(&configuration));
+    }
     let [tasks, named, queues, timers, messages, ticks, high, low, ref rest @ ..] = frame[..] else {
         return format!("it has {}, and the first eight are needed", counted(frame.len(), "byte"));
     };
@@ -101,6 +107,22 @@ pub fn configuration_rule(text: &[u8], number: Number) -> String {
         .or_else(|| told(sum <= 255, format!("S + T + 2Q is {sum}, not at most 255")))
         .or_else(|| wrong_rest(rest, tasks.into(), queues.into()))
         .unwrap_or_else(|| SHORT[usize::from(CONFIGURATION)].to_string())
+}
+
+/// Which of the module's limits a configuration is above, and by how much.
+fn above_module(configuration: &Configuration) -> String {
+    let Limits { tasks, queues, timers, messages, queue_bytes } = Limits::MODULE;
+    let counts = [
+        ("task", configuration.tasks.into(), tasks.into()),
+        ("queue", configuration.queues.len(), queues.into()),
+        ("timer", configuration.timers.into(), timers.into()),
+        ("message", configuration.messages.into(), messages.into()),
+        ("queue byte", configuration.queues.iter().map(QueueSize::bytes).sum(), queue_bytes),
+    ];
+    let above = counts.into_iter().filter(|(_, count, most)| count > most);
+    let by = |count: usize, most: usize| format!("({} above {})", grouped(count - most), grouped(most));
+    let told = above.map(|(what, count, most)| format!("{} {}", counted(count, what), by(count, most)));
+    format!("the module has no room for {}", listed(&told.collect::<Vec<_>>()))
 }
 
 /// Of a configuration of so many bytes, where 8 + T + 2Q is the other number.

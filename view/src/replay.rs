@@ -1,6 +1,7 @@
-//! A session fed line by line to the exported functions, with the other implementation beside them.
+//! A session fed line by line to a caller's exported functions, with the other implementation beside them.
 
-use c::lent::{Lent, SIZES};
+use c::caller::Caller;
+use c::lent::Lent;
 use plain_executive::executive::Executive;
 use plain_executive::line::MOST_BYTES;
 use plain_executive::numbers::{Number, LINE};
@@ -56,17 +57,17 @@ impl Step<'_> {
 }
 
 impl Replay {
-    pub fn begin(line: &[u8]) -> Result<Self, Stop> {
-        Replay::begin_with(line, Lent::frame)
+    pub fn begin(caller: Caller, line: &[u8]) -> Result<Self, Stop> {
+        Replay::begin_with(caller, line, Lent::frame)
     }
 
-    pub fn begin_with(line: &[u8], call: Call) -> Result<Self, Stop> {
+    pub fn begin_with(caller: Caller, line: &[u8], call: Call) -> Result<Self, Stop> {
         let mut room = [0; MOST_BYTES];
         let length = c::read_line(line, &mut room).map_err(Stop::Refused)?;
         let frame = &room[..length];
-        let mut memory = Lent::new(SIZES, || 0);
+        let mut memory = Lent::of(caller, caller.sizes(), || 0);
         let number = memory.configure(frame);
-        let other = Executive::configure(frame);
+        let other = Executive::configure_within(caller.limits(), frame);
         if other.as_ref().err().copied().unwrap_or(0) != number {
             return Err(Stop::Differs(format!("the configuration is answered with {number}, the other has {other:?}")));
         }

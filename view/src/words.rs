@@ -2,6 +2,7 @@
 
 use std::collections::BTreeSet;
 
+use c::caller::Caller;
 use plain_executive::answer;
 use plain_executive::command::*;
 use plain_executive::configuration::Configuration;
@@ -109,7 +110,7 @@ impl Words<'_> {
     /// What the frame asks for.
     pub fn asked(&self, step: &Step) -> String {
         if step.number == 0 {
-            return configured(self.configuration) + &self.only_after();
+            return configured(self.configuration) + on(step.memory.caller) + &self.only_after();
         }
         match step.frame {
             None => format!("a line of {}", counted(step.line.len(), "character")),
@@ -173,6 +174,14 @@ impl Words<'_> {
             [answer::WOKE, woken] => format!(", woke {}", self.task(*woken)),
             _ => String::new(),
         }
+    }
+}
+
+/// Behind what is said of a whole session: the caller, if it is not the controller.
+pub fn on(caller: Caller) -> &'static str {
+    match caller {
+        Caller::Controller => "",
+        Caller::Module => "; on the brake module",
     }
 }
 

@@ -4,6 +4,7 @@ use std::fs;
 use std::path::{Path, PathBuf};
 use std::process::Command;
 
+use c::caller::Caller;
 use c::lent::{slot, Lent};
 use plain_executive::numbers::Number;
 use plain_executive::random::Random;
@@ -40,13 +41,15 @@ fn wrong_item(memory: &mut Lent, frame: &[u8]) -> Number {
 fn no_page_where_the_other_implementation_differs() {
     let station = story("station");
     let sessions: [(&str, &[u8]); 1] = [("station.session", &station)];
-    assert!(page::make(&sessions, &Names::default()).is_ok());
-    for (call, line) in [(wrong_answer as fn(&mut Lent, &[u8]) -> Number, 2), (wrong_item, 2)] {
-        let failed = page::make_with(&sessions, &Names::default(), call).err().expect("no page");
-        assert!(
-            matches!(&failed, (file, at, Stop::Differs(_)) if file == "station.session" && *at == line),
-            "{failed:?}"
-        );
+    for caller in Caller::ALL {
+        assert!(page::make(caller, &sessions, &Names::default()).is_ok());
+        for (call, line) in [(wrong_answer as fn(&mut Lent, &[u8]) -> Number, 2), (wrong_item, 2)] {
+            let failed = page::make_with(caller, &sessions, &Names::default(), call).err().expect("no page");
+            assert!(
+                matches!(&failed, (file, at, Stop::Differs(_)) if file == "station.session" && *at == line),
+                "{failed:?}"
+            );
+        }
     }
 }
 
@@ -79,14 +82,16 @@ fn the_first_differences_of_two_sessions() {
     let station = story("station");
     let text = String::from_utf8(station.clone()).unwrap();
     let other = text.replace("1100020000", "1100030000").into_bytes();
-    let found = differences::between(&station, &other, &Names::default());
+    let between =
+        |first: &[u8], second: &[u8]| differences::between(Caller::Controller, first, second, &Names::default());
+    let found = between(&station, &other);
     let asked = "interrupt exit, signals semaphore 2 | interrupt exit, signals semaphore 3";
     assert_eq!(found.frame, Some((14, asked.to_string())));
     assert_eq!(found.answer, Some((14, "task 2 runs, has semaphore 2 | the null task runs".to_string())));
     assert_eq!(found.item, Some((14, "the blocks of task 2".to_string())));
-    assert_eq!(differences::between(&station, &station, &Names::default()), differences::Differences::default());
+    assert_eq!(between(&station, &station), differences::Differences::default());
     let longer = [&station[..], b"1000000000\n"].concat();
-    let found = differences::between(&station, &longer, &Names::default());
+    let found = between(&station, &longer);
     assert_eq!(found.frame, Some((19, "the first session ends".to_string())));
     assert_eq!((found.answer, found.item), (None, None));
 }

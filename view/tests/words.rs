@@ -8,6 +8,7 @@ use std::process::{Command, Output, Stdio};
 use std::time::Instant;
 
 use plain_executive::generator::Generator;
+use plain_executive::limits::Limits;
 
 fn repository() -> PathBuf {
     Path::new(env!("CARGO_MANIFEST_DIR")).join("..")
@@ -272,6 +273,44 @@ fn a_refused_configuration_ends_with_1_and_says_why() {
             said.starts_with("0  configuration: refused ") && said.ends_with(&format!(", {why}; the session ends\n"))
         );
     }
+}
+
+/// What the module says of a session is what the controller says, and that it is the module.
+#[test]
+fn a_session_of_the_module_is_told_as_the_controllers() {
+    for seed in 0..10 {
+        let input = Generator::within(Limits::MODULE, 700 + seed).script(1..=16, 300).lines();
+        let output = view(&["words", "--module"], &input);
+        assert_eq!(output.status.code(), Some(0), "{}", text(&output.stderr));
+        let (first, rest) = (text(&output.stdout), words(&input));
+        assert_eq!(first.matches("; on the brake module").count(), 1);
+        assert_eq!(first.replace("; on the brake module", ""), rest);
+    }
+}
+
+#[test]
+fn a_configuration_above_the_module_says_by_how_much() {
+    let states = "00".repeat(17);
+    let cases = [
+        (format!("1100000000010001{states}"), "17 tasks (1 above 16)"),
+        (format!("0100090000010001{}{}", "00", "0101".repeat(9)), "9 queues (1 above 8)"),
+        ("010000400001000100".to_string(), "64 timers (56 above 8)"),
+        ("010000000A01000100".to_string(), "10 messages (2 above 8)"),
+        ("0100020000010001001010".to_string() + "0101", "257 queue bytes (1 above 256)"),
+        (
+            format!("11000109090100{}{states}10FF", "01"),
+            "17 tasks (1 above 16), 9 timers (1 above 8), 9 messages (1 above 8) and 4,080 queue bytes (3,824 above 256)",
+        ),
+    ];
+    for (line, what) in cases {
+        assert!(words(line.as_bytes()).starts_with("0  configuration of "), "the controller accepts {line}");
+        let output = view(&["words", "--module"], line.as_bytes());
+        assert_eq!(output.status.code(), Some(1), "{line}");
+        let due = format!("0  configuration: refused 27, the module has no room for {what}; the session ends\n");
+        assert_eq!(text(&output.stdout), due);
+    }
+    let (output, due) = (view(&["words", "--module"], b"7F00000000010001"), "refused with 3, so the session ends: T, ");
+    assert!(text(&output.stderr).contains(due), "{}", text(&output.stderr));
 }
 
 #[test]

@@ -6,18 +6,16 @@ use Prim.Native.Nat.{ℕ, _+_, _*_, _≤_}
 use native.Mathlib.Omega.{arith}
 use lib.Dec.{leb}
 use lib.ListN.{length}
-use borrow.Author.Tests.{le-leb}
 use Rattle.rows.specs.Splice.{cut}
-use Rattle.ledger.specs.Lists.{byte, word, sum, all}
-use Rattle.ledger.specs.Config.{QueueShape, configIn, controller, longest, front, configRefusal}
+use Rattle.ledger.specs.Lists.{byte, sum, all}
+use Rattle.ledger.specs.Config.{QueueShape, configIn, controller, front, configRefusal}
 use Rattle.ledger.specs.Theorems.Configured.{Long, passed, states-many, shapes-many}
 use Rattle.ledger.specs.Theorems.Checks.{and-left, and-right}
 use Rattle.tables.specs.declared.shape.Shape.{Shape}
 use Rattle.tables.specs.Shows.{Of}
-use Rattle.configuration.specs.Block.{product, goodQueues, goodPairs, rule, frameRule, rest-parts, front-is, shapes-in}
+use Rattle.configuration.specs.Block.{product, goodQueues, goodPairs, rule, rest-parts, front-is, shapes-in}
 use Rattle.configuration.specs.Limits.{controller-made}
-use Rattle.configuration.specs.Head.{Head}
-use Rattle.configuration.specs.Layout.{laidOut, shapeOf, rule-head, rule-room, of-shape}
+use Rattle.configuration.specs.Layout.{laidOut, shapeOf, rule-room, of-shape}
 use Rattle.configuration.specs.Room.{bytesIn}
 
 pub record Accepted (f : List ℕ) : Type 0 where
@@ -38,17 +36,6 @@ accepted f h =
     }
 
 module _ (f : List ℕ) (a : Accepted f) where
-  pub accepted-head : Head controller (byte 0 f) (byte 1 f) (byte 2 f) (byte 3 f) (byte 4 f) (byte 5 f) (word 6 f)
-  unfolding configIn
-  accepted-head = rule-head controller controller-made (configIn f) (a .rule)
-
-  pub accepted-rule : frameRule controller f ≡ true
-  unfolding frameRule configIn
-  accepted-rule =
-      let h = accepted-head in
-      let l : length f ≤ longest controller = omega (arith, a .whole .most, h .few, h .queues) in
-      rw (le-leb (8 + byte 0 f + 2 * byte 2 f) (length f) (a .whole .front), le-leb (length f) (longest controller) l) (a .rule)
-
   pub accepted-length : 8 ≤ length f
   accepted-length = omega (arith, a .whole .front)
 

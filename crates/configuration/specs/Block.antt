@@ -1,6 +1,6 @@
 -- The frame that the block of the configuration holds: the structure rule for it, and where its parts lie.
 use mathlib.Core.Path.{_≡_, refl, sym, ap, _∙_}
-use mathlib.Core.Bool.{Bool, _&&_, and-assoc}
+use mathlib.Core.Bool.{Bool, true, false, _&&_, and-assoc}
 use mathlib.Core.List.{List, map}
 use Prim.Native.Nat.{ℕ, _+_, _-_, _*_}
 use native.Mathlib.Omega.{arith}
@@ -9,7 +9,7 @@ use lib.ListN.{length, take, drop, length-drop}
 use lib.Seq.{take-all}
 use Rattle.rows.specs.Splice.{cut}
 use Rattle.ledger.specs.Lists.{within, byte, sum, all}
-use Rattle.ledger.specs.Config.{QueueShape, Config, Limits, longest, shapesIn, pairsIn, configIn, front, goodHead, goodPair, goodRest}
+use Rattle.ledger.specs.Config.{QueueShape, Config, Limits, longest, shapesIn, pairsIn, configIn, front, fewEnough, goodValues, goodHead, goodPair, goodRest}
 
 -- ---- the structure rule of number 11. The initial states are not read again
 
@@ -32,6 +32,23 @@ rule m c = goodHead m c && goodQueues m c
 -- bytes mean pairs
 unfoldable pub frameRule : Limits → List ℕ → Bool
 frameRule m f = leb (front (configIn f)) (length f) && leb (length f) (longest m) && rule m (configIn f)
+
+-- its first part: how long the frame is, and how much there is of each
+unfoldable pub countsRule : Limits → List ℕ → Bool
+countsRule m f = leb (front (configIn f)) (length f) && leb (length f) (longest m) && fewEnough m (configIn f)
+
+pub counts-first : (m : Limits) (f : List ℕ) → let c = configIn f in frameRule m f ≡ (countsRule m f && (goodValues c && goodQueues m c))
+unfolding frameRule countsRule rule goodHead
+counts-first m f = let c = configIn f in go (leb (front c) (length f)) (leb (length f) (longest m)) (fewEnough m c) (goodValues c) (goodQueues m c)
+  where
+    go : (a b x v q : Bool) → (a && b && (x && v && q)) ≡ (a && b && x && (v && q))
+    go true true true v q = refl
+    go true true false v q = refl
+    go true false x v q = refl
+    go false b x v q = refl
+
+pub counts-fail : (m : Limits) (f : List ℕ) → countsRule m f ≡ false → frameRule m f ≡ false
+counts-fail m f e = counts-first m f ∙ rw e
 
 unfoldable pub goodPairs : Config → Bool
 goodPairs c = all (goodPair (c .T) (c .states)) (c .pairs)

@@ -1,58 +1,78 @@
--- The rule for the first eight bytes, on the bytes.
-use mathlib.Core.Path.{_≡_, refl, sym}
-use mathlib.Core.Bool.{Bool, true, false, _&&_}
-use mathlib.Core.List.{List}
-use Prim.Native.Nat.{ℕ, _+_, _*_, _≤_}
+-- The rule for the first eight bytes: what its two parts say of them.
+use mathlib.Core.Path.{_≡_}
+use mathlib.Core.Bool.{true, false}
+use Prim.Native.Nat.{_+_, _*_, _≤_}
 use lib.Dec.{leb}
 use borrow.Author.Tests.{le-leb, leb-true}
 use Rattle.tables.specs.Encoded.{case}
 use Rattle.ledger.specs.Theorems.Checks.{and-left, and-right, within-numbered}
-use Rattle.ledger.specs.Lists.{within, byte, word}
-use Rattle.ledger.specs.Config.{Limits, configIn, goodHead}
+use Rattle.ledger.specs.Config.{Config, Limits, fewEnough, goodValues, goodHead}
 
-abbrev pub headRule : Limits → (t s q r g k ms : ℕ) → Bool
-headRule m t s q r g k ms =
-    within 1 (m .tasks) t && leb q (m .queues) && leb r (m .timers) && leb g (m .messages) && within 1 255 k && within 1 65535 ms && leb (s + t + 2 * q) 255
+-- ---- how much there is of each
 
-pub head-in : (m : Limits) (g : List ℕ) → goodHead m (configIn g) ≡ headRule m (byte 0 g) (byte 1 g) (byte 2 g) (byte 3 g) (byte 4 g) (byte 5 g) (word 6 g)
-unfolding goodHead configIn
-head-in m g = refl
+pub record Few (m : Limits) (c : Config) : Type 0 where
+  pub tasks : c .T ≤ m .tasks
+  pub queues : c .Q ≤ m .queues
+  pub timers : c .R ≤ m .timers
+  pub messages : c .G ≤ m .messages
 
--- what it says
-pub record Head (m : Limits) (t s q r g k ms : ℕ) : Type 0 where
-  pub some : 1 ≤ t
-  pub few : t ≤ m .tasks
-  pub queues : q ≤ m .queues
-  pub timers : r ≤ m .timers
-  pub messages : g ≤ m .messages
-  pub ticks : 1 ≤ k
-  pub tocks : k ≤ 255
-  pub long : 1 ≤ ms
-  pub short : ms ≤ 65535
-  pub sum : s + t + 2 * q ≤ 255
+module _ (m : Limits) (c : Config) where
+  -- by the last of the tests
+  pub few-last : c .T ≤ m .tasks → c .Q ≤ m .queues → c .R ≤ m .timers → fewEnough m c ≡ leb (c .G) (m .messages)
+  unfolding fewEnough
+  few-last t q r = rw (le-leb (c .T) (m .tasks) t, le-leb (c .Q) (m .queues) q, le-leb (c .R) (m .timers) r)
 
-module _ (m : Limits) (t s q r g k ms : ℕ) where
-  pub head-holds : Head m t s q r g k ms → true ≡ headRule m t s q r g k ms
-  head-holds h =
-      sym (rw (le-leb 1 t (h .some), le-leb t (m .tasks) (h .few), le-leb q (m .queues) (h .queues), le-leb r (m .timers) (h .timers), le-leb g (m .messages) (h .messages), le-leb 1 k (h .ticks), le-leb k 255 (h .tocks), le-leb 1 ms (h .long), le-leb ms 65535 (h .short), le-leb (s + t + 2 * q) 255 (h .sum)))
-
-  pub head-says : headRule m t s q r g k ms ≡ true → Head m t s q r g k ms
-  head-says e =
-      let a = within-numbered (m .tasks) t (search (and-left, and-right) depth 9) in
-      let b = within-numbered 255 k (search (and-left, and-right) depth 9) in
-      let d = within-numbered 65535 ms (search (and-left, and-right) depth 9) in
+  pub few-says : fewEnough m c ≡ true → Few m c
+  unfolding fewEnough
+  few-says e =
       record {
-        some = a .from;
-        few = a .upto;
-        queues = leb-true q (m .queues) (search (and-left, and-right) depth 9);
-        timers = leb-true r (m .timers) (search (and-left, and-right) depth 9);
-        messages = leb-true g (m .messages) (search (and-left, and-right) depth 9);
-        ticks = b .from;
-        tocks = b .upto;
-        long = d .from;
-        short = d .upto;
-        sum = leb-true (s + t + 2 * q) 255 (search (and-left, and-right) depth 9);
+        tasks = leb-true (c .T) (m .tasks) (search (and-left, and-right) depth 9);
+        queues = leb-true (c .Q) (m .queues) (search (and-left, and-right) depth 9);
+        timers = leb-true (c .R) (m .timers) (search (and-left, and-right) depth 9);
+        messages = leb-true (c .G) (m .messages) (search (and-left, and-right) depth 9);
       }
 
-  pub head-not : (Head m t s q r g k ms → ⊥) → false ≡ headRule m t s q r g k ms
-  head-not n = case (headRule m t s q r g k ms) (λ e. absurd (n (head-says e))) (λ e. sym e)
+  pub few-not : (Few m c → ⊥) → fewEnough m c ≡ false
+  few-not n = case (fewEnough m c) (λ e. absurd (n (few-says e))) (λ e. e)
+
+-- ---- what no limit is about
+
+pub record Values (c : Config) : Type 0 where
+  pub some : 1 ≤ c .T
+  pub ticks : 1 ≤ c .K
+  pub tocks : c .K ≤ 255
+  pub long : 1 ≤ c .ms
+  pub short : c .ms ≤ 65535
+  pub sum : c .S + c .T + 2 * c .Q ≤ 255
+
+module _ (c : Config) where
+  pub values-last : 1 ≤ c .T → (1 ≤ c .K) × (c .K ≤ 255) → (1 ≤ c .ms) × (c .ms ≤ 65535) → goodValues c ≡ leb (c .S + c .T + 2 * c .Q) 255
+  unfolding goodValues
+  values-last t k ms = rw (le-leb 1 (c .T) t, le-leb 1 (c .K) (k .0), le-leb (c .K) 255 (k .1), le-leb 1 (c .ms) (ms .0), le-leb (c .ms) 65535 (ms .1))
+
+  pub values-say : goodValues c ≡ true → Values c
+  unfolding goodValues
+  values-say e =
+      let k = within-numbered 255 (c .K) (search (and-left, and-right) depth 9) in
+      let ms = within-numbered 65535 (c .ms) (search (and-left, and-right) depth 9) in
+      record {
+        some = leb-true 1 (c .T) (search (and-left, and-right) depth 9);
+        ticks = k .from;
+        tocks = k .upto;
+        long = ms .from;
+        short = ms .upto;
+        sum = leb-true (c .S + c .T + 2 * c .Q) 255 (search (and-left, and-right) depth 9);
+      }
+
+  pub values-not : (Values c → ⊥) → goodValues c ≡ false
+  values-not n = case (goodValues c) (λ e. absurd (n (values-say e))) (λ e. e)
+
+-- ---- both
+
+pub record Head (m : Limits) (c : Config) : Type 0 where
+  pub few : Few m c
+  pub values : Values c
+
+pub head-says : (m : Limits) (c : Config) → goodHead m c ≡ true → Head m c
+unfolding goodHead
+head-says m c e = record { few = few-says m c (and-left (fewEnough m c) (goodValues c) e); values = values-say c (and-right (fewEnough m c) (goodValues c) e) }

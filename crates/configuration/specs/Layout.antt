@@ -39,18 +39,20 @@ laidOut t s q r g k n =
       end = recordsAt + 6 * t + (s + t + 2 * q) + 16 * t + 2 * q + 4 * g + n;
     }
 
-pub laid-out : (m : Limits) → Made m → (t s q r g k ms n : ℕ) → Head m t s q r g k ms → n ≤ m .bytes → Laid (laidOut t s q r g k n)
-laid-out m made t s q r g k ms n h b =
+pub laid-out : (m : Limits) → Made m → (c : Config) (n : ℕ) → Head m c → n ≤ m .bytes → Laid (laidOut (c .T) (c .S) (c .Q) (c .R) (c .G) (c .K) n)
+laid-out m made c n h b =
+    let f = h .few in
+    let v = h .values in
     record {
-      some = h .some;
-      few = omega (arith, h .few, made .tasks);
+      some = v .some;
+      few = omega (arith, f .tasks, made .tasks);
       semaphores = refl;
-      sum = h .sum;
-      queues = omega (arith, h .queues, made .queues);
-      timers = omega (arith, h .timers, made .timers);
-      messages = omega (arith, h .messages, made .messages);
-      ticks = h .ticks;
-      tocks = h .tocks;
+      sum = v .sum;
+      queues = omega (arith, f .queues, made .queues);
+      timers = omega (arith, f .timers, made .timers);
+      messages = omega (arith, f .messages, made .messages);
+      ticks = v .ticks;
+      tocks = v .tocks;
       records = refl;
       states = refl;
       waiting = refl;
@@ -71,9 +73,9 @@ Lends m f (Good s) = (frameRule m f ≡ true) × Of (configIn f) s
 
 -- ---- the shape of a configuration that keeps the rule
 module _ (m : Limits) (made : Made m) (c : Config) (h : rule m c ≡ true) where
-  pub rule-head : Head m (c .T) (c .S) (c .Q) (c .R) (c .G) (c .K) (c .ms)
-  unfolding rule goodHead
-  rule-head = head-says m (c .T) (c .S) (c .Q) (c .R) (c .G) (c .K) (c .ms) (and-left (goodHead m c) (goodQueues m c) h)
+  pub rule-head : Head m c
+  unfolding rule
+  rule-head = head-says m c (and-left (goodHead m c) (goodQueues m c) h)
 
   rule-shaped : all shaped (c .shapes) ≡ true
   unfolding rule goodQueues goodShapes
@@ -95,7 +97,7 @@ module _ (m : Limits) (made : Made m) (c : Config) (h : rule m c ≡ true) where
     of-shape =
         let w = rule-sized in
         record {
-          laid = laid-out m made (c .T) (c .S) (c .Q) (c .R) (c .G) (c .K) (c .ms) (sum (map product (c .shapes))) rule-head rule-room;
+          laid = laid-out m made c (sum (map product (c .shapes))) rule-head rule-room;
           tasks = refl;
           named = refl;
           queues = refl;

@@ -11,5 +11,6 @@ pub mod Kept
 pub mod Ring
 pub mod Fresh
 pub mod Accepted
+pub mod Within
 pub mod Written
 pub mod Started

@@ -2,7 +2,7 @@
 use Prim.Native.Nat.{_≤_}
 use native.Mathlib.Omega.{arith}
 use Rattle.ledger.specs.Config as config
-use Rattle.ledger.specs.Config.{controller}
+use Rattle.ledger.specs.Config.{controller, brakeModule}
 use Rattle.configuration.specs.declared.limits.Limits.{Limits}
 
 abbrev pub limitsOf : Limits → config.Limits
@@ -18,3 +18,6 @@ pub record Made (m : config.Limits) : Type 0 where
 
 pub controller-made : Made controller
 controller-made = record { tasks = omega arith; queues = omega arith; timers = omega arith; messages = omega arith; bytes = omega arith }
+
+pub brake-module-made : Made brakeModule
+brake-module-made = record { tasks = omega arith; queues = omega arith; timers = omega arith; messages = omega arith; bytes = omega arith }

@@ -1,6 +1,8 @@
 // What the frame in the lent configuration block says.
 use crate::Lent;
-use crate::frame::good_head;
+use crate::frame::few_enough;
+use crate::frame::front;
+use crate::frame::good_values;
 use crate::frame::room;
 use crate::frame::taken;
 use crate::frame::wide;
@@ -9,13 +11,15 @@ use queues::Ring;
 use tables::shape::RECORDS_AT;
 use tables::shape::Shape;
 ghost use mathlib.Core.Path.{_≡_};
-ghost use Prim.Native.Nat.{_≤_};
+ghost use mathlib.Core.Bool.{true};
+ghost use Prim.Native.Nat.{_<_, _≤_};
 ghost use lib.ListN.{length};
 ghost use Rattle.rows.specs.Splice.{cut};
 ghost use Rattle.ledger.specs.Config.{longest, configIn, configRefusal};
 ghost use Rattle.tables.specs.Shows.{Of};
 ghost use Rattle.queues.specs.Rings.{ringOf};
 ghost use Rattle.configuration.specs.Limits.{limitsOf, Made};
+ghost use Rattle.configuration.specs.Block.{countsRule};
 ghost use Rattle.configuration.specs.Layout.{frontBytes, laidOut, Lends};
 
 // The regions of the tables, one behind the other.
@@ -72,21 +76,33 @@ pub fn shape_of(frame: &[u8]) -> Shape
     )
 }
 
-// The structure rule of number 11, and the shape of a frame that keeps it. The frame is the first n of the block's bytes. Its initial
-// states are not read again, and of its pairs any bytes mean pairs.
-pub fn lent(limits: Limits, frame: &[u8], n: usize) -> Lent
-    requires { ⌜ Made (limitsOf limits) × (longest (limitsOf limits) ≤ length (now frame)) × (n ≤ longest (limitsOf limits)) ⌝ }
-    ensures { λ r. ⌜ Lends (limitsOf limits) (cut (now (frame .entry)) 0 n) r ⌝ }
+// The structure rule of number 11, in two steps. First how long the frame is, which is the first n of the block's bytes, and how much
+// there is of each: all that the limits are asked for, but for the bytes of the queues.
+pub fn counts(limits: Limits, bytes: &[u8], n: usize) -> bool
+    requires { ⌜ longest (limitsOf limits) < length (now bytes) ⌝ }
+    ensures { λ r. ⌜ r ≡ countsRule (limitsOf limits) (cut (now (bytes .entry)) 0 n) ⌝ }
 {
-    if !good_head(limits, frame) {
+    if n > crate::limits::longest(limits) {
+        return false;
+    }
+    if n < front(bytes) {
+        return false;
+    }
+    few_enough(limits, bytes)
+}
+
+// Then the rest, and the shape of a frame that keeps the rule. Its initial states are not read again, and of its pairs any bytes mean
+// pairs.
+pub fn lent(limits: Limits, frame: &[u8]) -> Lent
+    requires { ⌜ Made (limitsOf limits) × (countsRule (limitsOf limits) (now frame) ≡ true) ⌝ }
+    ensures { λ r. ⌜ Lends (limitsOf limits) (now (frame .entry)) r ⌝ }
+{
+    if !good_values(frame) {
         return Lent::Bad;
     }
     let queues = wide(frame[2]);
     let at = 8 + wide(frame[0]);
     let end = at + 2 * queues;
-    if n < end {
-        return Lent::Bad;
-    }
     let sum = room(&frame[at..end], queues);
     if sum > limits.bytes {
         return Lent::Bad;

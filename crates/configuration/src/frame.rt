@@ -5,13 +5,11 @@ use crate::pairs::good_length;
 use crate::pairs::good_pairs;
 ghost use mathlib.Core.Path.{_≡_};
 ghost use Prim.Native.Nat.{_+_, _*_, _/_, _%_, _≤_};
-ghost use mathlib.Core.Bool.{_&&_};
 ghost use lib.Dec.{leb};
 ghost use lib.ListN.{length, getD};
 ghost use Rattle.ledger.specs.Lists.{byte, all};
-ghost use Rattle.ledger.specs.Config.{configIn, goodHead, goodRest, configRefusal};
+ghost use Rattle.ledger.specs.Config.{configIn, fewEnough, goodValues, goodHead, goodRest, configRefusal, isWithin, configRefusalBy};
 ghost use Rattle.configuration.specs.Limits.{limitsOf, Made};
-ghost use Rattle.configuration.specs.Head.{headRule};
 ghost use Rattle.configuration.specs.Room.{bytesOrNone, roomIn, bytesIn};
 
 pub fn wide(x: u8) -> usize
@@ -26,52 +24,48 @@ fn word(high: u8, low: u8) -> u16
     256 * (high as u16) + low as u16
 }
 
-// The rule for the first eight bytes.
-fn head_rule(limits: Limits, t: u8, s: u8, q: u8, r: u8, g: u8, k: u8, ms: u16) -> bool
-    ensures { λ x. ⌜ x ≡ headRule (limitsOf limits) t s q r g k ms ⌝ }
+// Whether there is no more of each than the limits say.
+pub fn few_enough(limits: Limits, bytes: &[u8]) -> bool
+    requires { ⌜ 8 ≤ length (now bytes) ⌝ }
+    ensures { λ r. ⌜ r ≡ fewEnough (limitsOf limits) (configIn (now (bytes .entry))) ⌝ }
 {
-    if t == 0 {
+    if bytes[0] > limits.tasks {
         return false;
     }
-    if t > limits.tasks {
+    if bytes[2] > limits.queues {
         return false;
     }
-    if q > limits.queues {
+    if bytes[3] > limits.timers {
         return false;
     }
-    if r > limits.timers {
-        return false;
-    }
-    if g > limits.messages {
-        return false;
-    }
-    if k == 0 {
-        return false;
-    }
-    if ms == 0 {
-        return false;
-    }
-    if wide(s) + wide(t) + 2 * wide(q) > 255 {
-        return false;
-    }
-    true
+    bytes[4] <= limits.messages
 }
 
-pub fn good_head(limits: Limits, bytes: &[u8]) -> bool
+// What no limit is about: at least one task, the ticks and the milliseconds per tock, the semaphore sum.
+pub fn good_values(bytes: &[u8]) -> bool
+    requires { ⌜ 8 ≤ length (now bytes) ⌝ }
+    ensures { λ r. ⌜ r ≡ goodValues (configIn (now (bytes .entry))) ⌝ }
+{
+    if bytes[0] == 0 {
+        return false;
+    }
+    if bytes[5] == 0 {
+        return false;
+    }
+    if word(bytes[6], bytes[7]) == 0 {
+        return false;
+    }
+    wide(bytes[1]) + wide(bytes[0]) + 2 * wide(bytes[2]) <= 255
+}
+
+fn good_head(limits: Limits, bytes: &[u8]) -> bool
     requires { ⌜ 8 ≤ length (now bytes) ⌝ }
     ensures { λ r. ⌜ r ≡ goodHead (limitsOf limits) (configIn (now (bytes .entry))) ⌝ }
 {
-    let ms = word(bytes[6], bytes[7]);
-    head_rule(
-        limits,
-        bytes[0],
-        bytes[1],
-        bytes[2],
-        bytes[3],
-        bytes[4],
-        bytes[5],
-        ms,
-    )
+    if !few_enough(limits, bytes) {
+        return false;
+    }
+    good_values(bytes)
 }
 
 // Initial states 0 or 1.
@@ -146,7 +140,7 @@ pub fn taken(shapes: &[u8], queues: usize) -> u32
 }
 
 // The bytes in front of the pairs.
-fn front(frame: &[u8]) -> usize
+pub fn front(frame: &[u8]) -> usize
     requires { ⌜ 8 ≤ length (now frame) ⌝ }
     ensures { λ r. ⌜ r ≡ 8 + byte 0 (now (frame .entry)) + 2 * byte 2 (now (frame .entry)) ⌝ }
 {
@@ -186,6 +180,34 @@ pub fn refusal(frame: &[u8]) -> u8
     }
     if !good_rest(limits, frame) {
         return 3;
+    }
+    0
+}
+
+// Whether an accepted frame is within the limits.
+fn is_within(limits: Limits, frame: &[u8]) -> bool
+    requires { ⌜ configRefusal (now frame) ≡ 0 ⌝ }
+    ensures { λ r. ⌜ r ≡ isWithin (limitsOf limits) (configIn (now (frame .entry))) ⌝ }
+{
+    if !few_enough(limits, frame) {
+        return false;
+    }
+    let queues = wide(frame[2]);
+    let at = 8 + wide(frame[0]);
+    let end = at + 2 * queues;
+    taken(&frame[at..end], queues) <= limits.bytes
+}
+
+// By an executive with its own limits: 27 after every other check.
+pub fn refusal_by(limits: Limits, frame: &[u8]) -> u8
+    ensures { λ r. ⌜ r ≡ configRefusalBy (limitsOf limits) (now (frame .entry)) ⌝ }
+{
+    let number = refusal(frame);
+    if number != 0 {
+        return number;
+    }
+    if !is_within(limits, frame) {
+        return 27;
     }
     0
 }

@@ -9,7 +9,7 @@ use borrow.Author.Tests.{eq-eqb, eqb-true, eqb-false, ne-eqb, le-ltb}
 use lib.Dec.{eqb}
 use lib.ListN.{length, getD, take, drop, length-append}
 use lib.Seq.{take-at}
-use Rattle.ledger.specs.Config.{Config, configIn, configRefusal, controller}
+use Rattle.ledger.specs.Config.{Config, Limits, configIn, configRefusal, controller}
 use Rattle.ledger.specs.Ledger.{Ledger, fresh}
 use Rattle.ledger.specs.Session.{answer, step, refusedConfiguration}
 use Rattle.ledger.specs.Lines.{longestFrame, frameOf, stepLine, readLine, writtenInto}
@@ -17,20 +17,23 @@ use Rattle.ledger.specs.Theorems.Lines.{frame-is-short}
 use Rattle.ledger.specs.Theorems.Once.{Once, once-step, once-fresh}
 use Rattle.tables.specs.declared.shape.Shape.{Shape}
 use Rattle.tables.specs.Shows.{Of, Shows}
+use Rattle.configuration.specs.Limits.{controller-made}
 use Rattle.configuration.specs.Block.{frameRule}
 use Rattle.configuration.specs.Started.{timersBytes}
 use Rattle.parts.specs.Parts.{part, keptFrame}
-use Rattle.configuration.specs.Layout.{shapeOf, of-one}
+use Rattle.configuration.specs.declared.Lent.{Lent}
+use Rattle.configuration.specs.Layout.{shapeOf, of-one, Lends}
 use Rattle.answer.specs.Written.{written}
 use Rattle.answer.specs.Read.{read-length}
 use Rattle.line.specs.Answers.{answerTo, leftIn, Gives}
 use Rattle.line.specs.declared.Written.{Written}
 use Rattle.line.specs.declared.Written.the-variants as written-as
 use Rattle.ledger.specs.Theorems.Checks.{never}
-use Rattle.mcx11.specs.Contract.{Memory, memory, hasSizes, isMarked, configOf, tablesPart, slotsPart, timersPart, lentWellFor, lentWell, Displays, answering, Configures, Frames}
+use Rattle.ledger.specs.Theorems.Within.{controller-gives}
+use Rattle.mcx11.specs.Contract.{Memory, memory, hasSizes, fullSize, isMarked, configOf, tablesPart, slotsPart, timersPart, lentWell, Displays, answering, Configures, Frames}
 use Rattle.mcx11.specs.Answer.{answerOf}
 use Rattle.mcx11.specs.Sizes.{Full, sizes-full, well-frame}
-use Rattle.mcx11.specs.Entries.{TellsNow}
+use Rattle.mcx11.specs.Begun.{TellsNow}
 use Rattle.mcx11.specs.Kept.{begins-config, config-stays, well-again}
 use Rattle.mcx11.specs.Displayed.{answer-short, step-short}
 use Rattle.mcx11.specs.Answer.{answer-is}
@@ -40,7 +43,7 @@ use Rattle.feeding.specs.Input.{Stands, first, runs, over, Reply, config
 
 unfoldable pub At : Stands → Stage → Memory → Type 0
 At first p m = p ≡ First
-At (runs c l) p m = (p ≡ Running) × (configOf m ≡ c) × (lentWell m ≡ true) × Displays c l m × Once c (l .mailboxes)
+At (runs c l) p m = (p ≡ Running) × (configOf m ≡ c) × (lentWell controller m ≡ true) × Displays c l m × Once c (l .mailboxes)
 At over p m = p ≡ Ended
 
 unfoldable pub stageNumber : Stage → ℕ
@@ -131,29 +134,33 @@ unfolding configures At refusedConfiguration
 begins-none {f} g d z w a a' e h =
     begins f (record { stand = over; answer = refusedConfiguration 1 }) (ap configures e) refl (answers-written (memory g d z w a') (refusedConfiguration 1) a (omega arith) h)
 
-module _ {f : List ℕ} {m m' : Memory} {r : ℕ} (full : Full m) (h : Configures f m m' r) where
+module _ {f : List ℕ} {m m' : Memory} {r : ℕ} (full : Full controller m) (h : Configures controller f m m' r) where
   accepted-begins : configRefusal f ≡ 0 → FirstReply (some f) m' Running
   unfolding configures At
   accepted-begins z =
-      let a = h .accepted (sizes-full m full) z in
+      let a = h .accepted (sizes-full controller m full) (controller-gives f ∙ z) in
       let c = configIn f in
       begins (some f) (record { stand = runs c (fresh c); answer = answer 0 0 (fresh c) }) (rw (eq-eqb _ _ z)) (refl, begins-config a, a .well, a .shown, once-fresh c)
       (answers-written m' (answer 0 0 (fresh c)) (m .answer) (answer-short c (fresh c) m' (a .shown) 0 0 .1) (a .answered))
 
+  refused-here : (configRefusal f ≡ 0 → ⊥) → (r ≡ configRefusal f) × (m' ≡ answering (refusedConfiguration (configRefusal f)) m)
+  refused-here z =
+      let e = controller-gives f in
+      subst (λ (n : ℕ). (r ≡ n) × (m' ≡ answering (refusedConfiguration n) m)) e (h .refused (sizes-full controller m full) (λ x. z (sym e ∙ x)))
+
   refused-begins : (configRefusal f ≡ 0 → ⊥) → FirstReply (some f) m' Ended
   unfolding configures At answering refusedConfiguration
   refused-begins z =
-      let a = h .refused (sizes-full m full) z in
       let n = configRefusal f in
       begins (some f) (record { stand = over; answer = refusedConfiguration n }) (rw (ne-eqb _ _ z)) refl
-      (answers-written m' (refusedConfiguration n) (m .answer) (omega arith) (ap (λ (x : Memory). x .answer) (a .1)))
+      (answers-written m' (refusedConfiguration n) (m .answer) (omega arith) (ap (λ (x : Memory). x .answer) (refused-here z .1)))
 
   number-is : r ≡ configRefusal f
   number-is = go (eqb (configRefusal f) 0) refl
     where
       go : (b : Bool) → eqb (configRefusal f) 0 ≡ b → r ≡ configRefusal f
-      go true e = let z = eqb-true (configRefusal f) 0 e in h .accepted (sizes-full m full) z .number ∙ sym z
-      go false e = h .refused (sizes-full m full) (eqb-false (configRefusal f) 0 e) .0
+      go true e = let z = eqb-true (configRefusal f) 0 e in h .accepted (sizes-full controller m full) (controller-gives f ∙ z) .number ∙ sym z
+      go false e = refused-here (eqb-false (configRefusal f) 0 e) .0
 
   pub begins-running : {o : Option (List ℕ)} → o ≡ some f → r ≡ 0 → FirstReply o m' Running
   begins-running e z = rw e (accepted-begins (sym number-is ∙ z))
@@ -163,6 +170,10 @@ module _ {f : List ℕ} {m m' : Memory} {r : ℕ} (full : Full m) (h : Configure
 
 -- ---- a line that is no frame
 
+-- what the reading of the kept frame says, by limits and bytes that are known
+pub lends-as : {k j : Limits} → k ≡ j → {f g : List ℕ} → f ≡ g → (r : Lent) → Lends k f r → Lends j g r
+lends-as {k} ek {f} {g} ef r h = subst (λ (x : Limits). Lends x g r) ek (subst (λ (x : List ℕ). Lends k x r) ef h)
+
 pub refuses-line : (g d z a a' : List ℕ) (s : Shape) → Of (configIn (keptFrame g)) s → TellsNow s d z 1 a a' → RefusesLine g d z a a'
 refuses-line g d z a a' s o tells =
     let c = configIn (keptFrame g) in
@@ -171,8 +182,8 @@ refuses-line g d z a a' s o tells =
 -- ---- any other line
 
 -- with another answer
-answered-well : (g d z w a a' : List ℕ) → length a' ≡ length a → lentWell (memory g d z w a) ≡ true → lentWell (memory g d z w a') ≡ true
-unfolding lentWell lentWellFor hasSizes isMarked configOf tablesPart
+answered-well : (g d z w a a' : List ℕ) → length a' ≡ length a → lentWell controller (memory g d z w a) ≡ true → lentWell controller (memory g d z w a') ≡ true
+unfolding lentWell fullSize hasSizes isMarked configOf tablesPart
 answered-well g d z w a a' n h = rw n h
 
 pub goes-on-none : {f : Option (List ℕ)} (g d z w a a' : List ℕ) → f ≡ none → length a' ≡ length a → RefusesLine g d z a a' → GoesOn f (memory g d z w a) (memory g d z w a')
@@ -184,11 +195,11 @@ goes-on-none g d z w a a' e n h =
       tells = λ c l k.
           let v = subst (λ (x : Config). let s = shapeOf x in Shows x s l (part (s .end) d) (part (16 * s .tasks) z) (part (timersBytes s) w)) (sym (k .1)) (k .3) in (
             (refl, k .1, answered-well g d z w a a' n (k .2), k .3, k .4),
-            answers-written m' (answer 1 0 l) a (answer-short c l m (k .3) 1 0 .1) (h l _ (well-frame m (k .2)) v),
+            answers-written m' (answer 1 0 l) a (answer-short c l m (k .3) 1 0 .1) (h l _ (well-frame controller m (k .2)) v),
           );
     })
 
-pub goes-on-frame : {o : Option (List ℕ)} {f : List ℕ} {m m' : Memory} {r : ℕ} → o ≡ some f → Frames f m m' r → GoesOn o m m'
+pub goes-on-frame : {o : Option (List ℕ)} {f : List ℕ} {m m' : Memory} {r : ℕ} → o ≡ some f → Frames controller f m m' r → GoesOn o m m'
 unfolding At steps stepLine
 goes-on-frame {f = f} {m = m} {m' = m'} e h =
     rw e (record {
@@ -197,7 +208,7 @@ goes-on-frame {f = f} {m = m} {m' = m'} e h =
           let o : Once (configOf m) (l .mailboxes) = subst (λ (x : Config). Once x (l .mailboxes)) (sym (k .1)) (k .4) in
           let g = h .good (k .2) l v in
           let t = subst (λ (x : Config). Displays x (step x f l .ledger) m' × (m' .answer ≡ written (step x f l .answered) (m .answer))) (k .1) (g .shown, g .answered) in (
-            (refl, config-stays h ∙ k .1, well-again h l (k .2) v o, t .0, once-step c f l (k .4)),
+            (refl, config-stays h ∙ k .1, well-again h controller-made l (k .2) v o, t .0, once-step c f l (k .4)),
             answers-written m' (step c f l .answered) (m .answer) (step-short c f l m' (t .0)) (t .1),
           );
     })

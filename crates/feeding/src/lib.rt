@@ -1,6 +1,6 @@
 // A session's input fed in blocks: its lines cut out, answered by the executive, and the answers printed, all in lent memory.
 // Promises: whatever the blocks are, what is printed is the ledger's `output` of the whole input (specs/Whole, proofs/Session).
-// Rests on mcx11 for the executive, on line for digits, and on answer for the answer to a line that is no frame.
+// Rests on mcx11 for the executive, on line for digits, and on configuration, parts and answer for the answer to a line that is no frame.
 mod gathering; // gathering.rt: the bytes of a line, up to its end
 mod printing; // printing.rt: an answer as a line of output
 mod replying; // replying.rt: the answer to a line
@@ -15,6 +15,7 @@ ghost use Prim.Native.Nat.{_+_, _*_, _≤_, _<_};
 ghost use lib.ListN.{length, drop};
 ghost use Rattle.rows.specs.Splice.{cut};
 ghost use Rattle.mcx11.specs.Contract.{memory};
+ghost use Rattle.ledger.specs.Config as limits;
 ghost use Rattle.mcx11.specs.Sizes.{Full};
 ghost use Rattle.feeding.specs.Line.{most};
 ghost use Rattle.feeding.specs.Feeds.{begun, again, Says, lent, Feeds, Ends};
@@ -78,7 +79,7 @@ fn answer_line(
     out: &mut [u8],
     printed: usize,
 ) -> Answered
-    requires { ⌜ Full (memory (now config) (now tables) (now slots) (now timers) (now answer)) × (printed + 41 ≤ length (now out)) ⌝ }
+    requires { ⌜ Full limits.controller (memory (now config) (now tables) (now slots) (now timers) (now answer)) × (printed + 41 ≤ length (now out)) ⌝ }
     ensures { λ r. let m = memory (now (config .entry)) (now (tables .entry)) (now (slots .entry)) (now (timers .entry)) (now (answer .entry)) in
         let m' = memory (now (config .exit)) (now (tables .exit)) (now (slots .exit)) (now (timers .exit)) (now (answer .exit)) in
         ⌜ (r .printed ≤ printed + 41) × Says (now (line .entry)) stage m (now (out .entry)) printed m' (now (out .exit)) r ⌝ }
@@ -118,7 +119,7 @@ fn turn(
     out: &mut [u8],
 ) -> Reached
     requires { ⌜ (reached .next < length (now input)) × (reached .held ≤ most) × (reached .printed + 41 ≤ length (now out))
-        × (most ≤ length (now line)) × Full (memory (now config) (now tables) (now slots) (now timers) (now answer)) ⌝ }
+        × (most ≤ length (now line)) × Full limits.controller (memory (now config) (now tables) (now slots) (now timers) (now answer)) ⌝ }
     ensures { λ r. let x = lent (now (line .entry)) (memory (now (config .entry)) (now (tables .entry)) (now (slots .entry)) (now (timers .entry)) (now (answer .entry))) (now (out .entry)) in
         let x' = lent (now (line .exit)) (memory (now (config .exit)) (now (tables .exit)) (now (slots .exit)) (now (timers .exit)) (now (answer .exit))) (now (out .exit)) in
         ⌜ (reached .next < r .next) × (r .next ≤ length (now (input .entry))) × (r .held ≤ most) × (r .printed ≤ reached .printed + 41)
@@ -168,7 +169,7 @@ pub fn feed(
     out: &mut [u8],
 ) -> Reached
     requires { ⌜ (reached .next ≤ length (now input)) × (reached .held ≤ most) × (reached .printed ≤ 41 * reached .next) × (41 * length (now input) ≤ length (now out))
-        × (most ≤ length (now line)) × Full (memory (now config) (now tables) (now slots) (now timers) (now answer)) ⌝ }
+        × (most ≤ length (now line)) × Full limits.controller (memory (now config) (now tables) (now slots) (now timers) (now answer)) ⌝ }
     ensures { λ r. let x = lent (now (line .entry)) (memory (now (config .entry)) (now (tables .entry)) (now (slots .entry)) (now (timers .entry)) (now (answer .entry))) (now (out .entry)) in
         let x' = lent (now (line .exit)) (memory (now (config .exit)) (now (tables .exit)) (now (slots .exit)) (now (timers .exit)) (now (answer .exit))) (now (out .exit)) in
         ⌜ (r .next ≡ length (now (input .entry))) × (r .held ≤ most) × (r .printed ≤ length (now (out .entry)))
@@ -192,7 +193,7 @@ pub fn finish(
     answer: &mut [u8],
     out: &mut [u8],
 ) -> usize
-    requires { ⌜ (reached .held ≤ most) × (reached .printed + 41 ≤ length (now out)) × (most ≤ length (now line)) × Full (memory (now config) (now tables) (now slots) (now timers) (now answer)) ⌝ }
+    requires { ⌜ (reached .held ≤ most) × (reached .printed + 41 ≤ length (now out)) × (most ≤ length (now line)) × Full limits.controller (memory (now config) (now tables) (now slots) (now timers) (now answer)) ⌝ }
     ensures { λ r. let x = lent (now (line .entry)) (memory (now (config .entry)) (now (tables .entry)) (now (slots .entry)) (now (timers .entry)) (now (answer .entry))) (now (out .entry)) in
         ⌜ (r ≤ reached .printed + 41) × Ends reached x (now (out .exit)) r ⌝ }
 {

@@ -4,10 +4,15 @@ use configuration::Lent;
 use configuration::limits::controller;
 use line::LONGEST_FRAME;
 use line::Written;
+use parts::FRAME_AT;
 ghost use Prim.Native.Nat.{_≤_};
 ghost use lib.ListN.{length};
 ghost use Rattle.ledger.specs.Lines.{frameOf};
-ghost use Rattle.mcx11.specs.Contract.{memory};
+ghost use Rattle.answer.specs.Written.{answerBytes};
+ghost use Rattle.configuration.specs.Layout.{Lends};
+ghost use Rattle.parts.specs.Parts.{keptFrame};
+ghost use Rattle.mcx11.specs.Contract.{memory, sizesOf};
+ghost use Rattle.ledger.specs.Config as limits;
 ghost use Rattle.mcx11.specs.Sizes.{Full};
 ghost use Rattle.feeding.specs.Replies.{FirstReply, RefusesLine, GoesOn};
 
@@ -20,7 +25,7 @@ pub fn reply_first(
     timers: &mut [u8],
     answer: &mut [u8],
 ) -> Stage
-    requires { ⌜ Full (memory (now config) (now tables) (now slots) (now timers) (now answer)) ⌝ }
+    requires { ⌜ Full limits.controller (memory (now config) (now tables) (now slots) (now timers) (now answer)) ⌝ }
     ensures { λ r. ⌜ FirstReply (frameOf (now (line .entry))) (memory (now (config .exit)) (now (tables .exit)) (now (slots .exit)) (now (timers .exit)) (now (answer .exit))) r ⌝ }
 {
     let mut frame = [0u8; LONGEST_FRAME];
@@ -47,16 +52,29 @@ pub fn reply_first(
     }
 }
 
-// The answer to a line that is no frame.
-fn refuse_line(config: &[u8], tables: &[u8], slots: &[u8], answer: &mut [u8])
-    requires { ⌜ (336 ≤ length (now config)) × (7517 ≤ length (now tables)) × (2024 ≤ length (now slots)) × (21 ≤ length (now answer)) ⌝ }
-    ensures { λ _. ⌜ RefusesLine (now (config .entry)) (now (tables .entry)) (now (slots .entry)) (now (answer .entry)) (now (answer .exit)) ⌝ }
+// The frame of the configuration that the block keeps.
+fn by_frame(config: &[u8]) -> Lent
+    requires { ⌜ sizesOf limits.controller .config ≤ length (now config) ⌝ }
+    ensures { λ r. ⌜ Lends limits.controller (keptFrame (now (config .entry))) r ⌝ }
 {
     let limits = controller();
-    let l = mcx11::lent::by_frame(limits, config);
+    if !mcx11::lent::counts(limits, config) {
+        return Lent::Bad;
+    }
+    let end = FRAME_AT + parts::frame_length(config);
+    configuration::block::lent(limits, &config[FRAME_AT..end])
+}
+
+// The answer to a line that is no frame.
+fn refuse_line(config: &[u8], tables: &[u8], slots: &[u8], answer: &mut [u8])
+    requires { ⌜ (sizesOf limits.controller .config ≤ length (now config)) × (sizesOf limits.controller .tables ≤ length (now tables))
+        × (sizesOf limits.controller .slots ≤ length (now slots)) × (answerBytes ≤ length (now answer)) ⌝ }
+    ensures { λ _. ⌜ RefusesLine (now (config .entry)) (now (tables .entry)) (now (slots .entry)) (now (answer .entry)) (now (answer .exit)) ⌝ }
+{
+    let l = by_frame(config);
     match l {
         Lent::Bad => {}
-        Lent::Good(shape) => mcx11::entries::tell(tables, slots, shape, 1, answer),
+        Lent::Good(shape) => mcx11::by_limits::tell(tables, slots, shape, 1, answer),
     }
 }
 
@@ -69,7 +87,7 @@ pub fn reply_next(
     timers: &mut [u8],
     answer: &mut [u8],
 )
-    requires { ⌜ Full (memory (now config) (now tables) (now slots) (now timers) (now answer)) ⌝ }
+    requires { ⌜ Full limits.controller (memory (now config) (now tables) (now slots) (now timers) (now answer)) ⌝ }
     ensures { λ _. ⌜ GoesOn (frameOf (now (line .entry))) (memory (now (config .entry)) (now (tables .entry)) (now (slots .entry)) (now (timers .entry)) (now (answer .entry)))
         (memory (now (config .entry)) (now (tables .exit)) (now (slots .exit)) (now (timers .exit)) (now (answer .exit))) ⌝ }
 {

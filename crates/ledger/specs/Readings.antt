@@ -6,7 +6,7 @@ use mathlib.Core.Path.{_≡_, refl}
 use mathlib.Core.List.{List, [], _∷_, _++_, map}
 use mathlib.Core.Option.{none as nothing, some}
 use lib.ListN.{replicate, take}
-use Rattle.ledger.specs.Config.{configIn, controller, longest, configRefusal}
+use Rattle.ledger.specs.Config.{configIn, controller, brakeModule, longest, configRefusal, configRefusalBy}
 use Rattle.ledger.specs.Ledger.{PENDING, WAITING, begin, dequeue, Timer, Ledger, emptySlot, task, semaphoreOf, mailbox, queue, held, fresh}
 use Rattle.ledger.specs.Session.{runFrom}
 use Rattle.ledger.specs.Lines.{longestFrame, number, result, frameOf, lineOf, readLine, writeLine, output}
@@ -38,6 +38,13 @@ bare = "010002000003007D0002030101"
 -- as `room`, with task 1 runnable, 2 and 3 idle, and pairs behind it
 abbrev yard : String → List ℕ
 yard pairs = hex "030201030301007D0001010101" ++ hex pairs
+
+-- t tasks, s named semaphores, q queues of these widths and depths, r timers, g messages
+abbrev brakes : (t s q r g : ℕ) → String → List ℕ
+brakes t s q r g shapes = t ∷ s ∷ q ∷ r ∷ g ∷ 1 ∷ 0 ∷ 125 ∷ replicate t 0 ++ hex shapes
+
+abbrev onTheModule : List ℕ → ℕ
+onTheModule = configRefusalBy brakeModule
 
 -- task and semaphore of a timer
 abbrev on : Timer → ℕ × ℕ
@@ -211,6 +218,21 @@ pub record Table : Type 0 where
   an-odd-rest-is-2 : configRefusal (yard "020302") ≡ 2
   there-are-at-most-64-pairs : (configRefusal (yard "" ++ pairTimes 64 2 3) ≡ 0) × (configRefusal (yard "" ++ pairTimes 65 2 3) ≡ 2)
   the-length-is-tested-before-the-pairs : configRefusal (yard "000000") ≡ 2
+  -- ---- the brake module
+
+  -- each limit from both sides; 8 queues of 16 bytes and depth 2 have 256
+  sixteen-tasks-and-no-more : (onTheModule (brakes 16 0 0 0 0 "") ≡ 0) × (onTheModule (brakes 17 0 0 0 0 "") ≡ 27)
+  eight-queues : (onTheModule (brakes 1 0 8 0 0 "10021002100210021002100210021002") ≡ 0) × (onTheModule (brakes 1 0 9 0 0 "010101010101010101010101010101010101") ≡ 27)
+  eight-timers : (onTheModule (brakes 1 0 0 8 0 "") ≡ 0) × (onTheModule (brakes 1 0 0 9 0 "") ≡ 27)
+  eight-messages : (onTheModule (brakes 1 0 0 0 8 "") ≡ 0) × (onTheModule (brakes 1 0 0 0 9 "") ≡ 27)
+  of-queues-256-bytes : (onTheModule (brakes 1 0 1 0 0 "1010") ≡ 0) × (onTheModule (brakes 1 0 2 0 0 "10100101") ≡ 27)
+  the-named-semaphores-have-no-limit-but-the-sum : (onTheModule (brakes 16 223 8 8 8 "10021002100210021002100210021002") ≡ 0) × (onTheModule (brakes 16 224 8 8 8 "10021002100210021002100210021002") ≡ 3)
+  nor-have-the-pairs-but-the-64 : (onTheModule (brakes 16 0 0 0 0 "" ++ pairTimes 64 2 3) ≡ 0) × (onTheModule (brakes 16 0 0 0 0 "" ++ pairTimes 65 2 3) ≡ 2)
+  -- what is above the controller's limits is 3 there too; and every other check comes before 27: the length, the states, the queues, the pairs
+  the-controllers-limits-come-first : (onTheModule (brakes 127 0 0 0 0 "") ≡ 3) × (onTheModule (brakes 1 0 0 65 9 "") ≡ 3)
+  every-check-comes-before-27 : (onTheModule (brakes 17 0 0 0 0 "00") ≡ 2) × (onTheModule (17 ∷ 0 ∷ 0 ∷ 0 ∷ 0 ∷ 1 ∷ 0 ∷ 1 ∷ replicate 17 2) ≡ 3)
+      × (onTheModule (brakes 17 0 1 0 0 "1101") ≡ 3) × (onTheModule (brakes 17 0 0 0 0 "0302") ≡ 3)
+  the-controller-takes-them : (configRefusal (brakes 17 0 0 0 0 "") ≡ 0) × (configRefusal (brakes 1 0 2 0 0 "10100101") ≡ 0)
 
 pub the-table : Table
 unfolding everything pairTimes
@@ -323,4 +345,14 @@ the-table = record {
   an-odd-rest-is-2 = refl;
   there-are-at-most-64-pairs = (refl, refl);
   the-length-is-tested-before-the-pairs = refl;
+  sixteen-tasks-and-no-more = (refl, refl);
+  eight-queues = (refl, refl);
+  eight-timers = (refl, refl);
+  eight-messages = (refl, refl);
+  of-queues-256-bytes = (refl, refl);
+  the-named-semaphores-have-no-limit-but-the-sum = (refl, refl);
+  nor-have-the-pairs-but-the-64 = (refl, refl);
+  the-controllers-limits-come-first = (refl, refl);
+  every-check-comes-before-27 = (refl, refl, refl, refl);
+  the-controller-takes-them = (refl, refl);
 }

@@ -1,10 +1,10 @@
--- Sessions in which each sham that document 01 names, or that a request invites (a signal that tells, a start only after), would answer otherwise, with the
--- ledger's answers computed.
+-- Sessions in which each sham that document 01 names, or that a request invites (a signal that tells, a start only after, the brake module), would answer
+-- otherwise, with the ledger's answers computed.
 use Prim.Native.Nat.{ℕ}
 use mathlib.Core.Path.{_≡_, refl}
 use mathlib.Core.List.{List, [], _∷_, _++_}
-use lib.ListN.{getD}
-use Rattle.ledger.specs.Config.{configIn, configRefusal}
+use lib.ListN.{getD, replicate}
+use Rattle.ledger.specs.Config.{controller, brakeModule, configIn, configRefusal, configRefusalBy}
 use Rattle.ledger.specs.Ledger.{PENDING, DONE}
 use Rattle.ledger.specs.Session.{run, session}
 use Rattle.ledger.specs.Computing.Quick.{everything}
@@ -67,8 +67,16 @@ itself = 2 ∷ 0 ∷ 0 ∷ 0 ∷ 0 ∷ 1 ∷ 0 ∷ 125 ∷ 0 ∷ 0 ∷ 2 ∷ 2 �
 abbrev pub tooMany : List ℕ
 tooMany = (2 ∷ 0 ∷ 0 ∷ 0 ∷ 0 ∷ 1 ∷ 0 ∷ 125 ∷ 0 ∷ 0 ∷ []) ++ pairTimes 65 1 2
 
+-- seventeen tasks; and a byte too many behind them
+abbrev pub seventeen : List ℕ
+seventeen = (17 ∷ 0 ∷ 0 ∷ 0 ∷ 0 ∷ 1 ∷ 0 ∷ 125 ∷ []) ++ replicate 17 0
+
+abbrev pub seventeenAndMore : List ℕ
+seventeenAndMore = seventeen ++ (0 ∷ [])
+
 pub record ShamAnswers : Type 0 where
-  pub accepted : configRefusal twoTasks ≡ 0
+  -- both executives accept what the sessions begin with
+  pub accepted : (configRefusalBy controller twoTasks ≡ 0) × (configRefusalBy brakeModule twoTasks ≡ 0)
   -- task 1 waits at the empty queue; task 2 puts, and task 1, which runs again, has the entry after one reissue
   pub settled : session twoTasks (takes ∷ puts ∷ []) ≡ (0 ∷ 1 ∷ 0 ∷ 1 ∷ []) ∷ (0 ∷ 2 ∷ 0 ∷ 1 ∷ []) ∷ (0 ∷ 1 ∷ 1 ∷ 3 ∷ 65 ∷ []) ∷ []
   -- task 1 takes what it put, and runs on
@@ -85,7 +93,7 @@ pub record ShamAnswers : Type 0 where
   -- task 2 waits at the empty queue; task 1 puts, and wakes it
   pub wakingPut : session twoTasks (waits ∷ takes ∷ exits ∷ puts ∷ [])
       ≡ (0 ∷ 1 ∷ 0 ∷ 1 ∷ []) ∷ (0 ∷ 2 ∷ 0 ∷ 1 ∷ []) ∷ (0 ∷ 0 ∷ 0 ∷ 0 ∷ []) ∷ (0 ∷ 1 ∷ 0 ∷ 5 ∷ 1 ∷ []) ∷ (0 ∷ 1 ∷ 0 ∷ 0 ∷ []) ∷ []
-  pub acceptedThree : configRefusal threeTasks ≡ 0
+  pub acceptedThree : (configRefusalBy controller threeTasks ≡ 0) × (configRefusalBy brakeModule threeTasks ≡ 0)
   -- task 2 is idle
   pub early : session threeTasks (executes 3 ∷ []) ≡ (0 ∷ 1 ∷ 0 ∷ 1 ∷ []) ∷ (26 ∷ 1 ∷ 0 ∷ 1 ∷ []) ∷ []
   -- task 2 is suspended, and no longer idle
@@ -96,9 +104,11 @@ pub record ShamAnswers : Type 0 where
   pub nobody : session threeTasks (waits ∷ executes 3 ∷ []) ≡ (0 ∷ 1 ∷ 0 ∷ 1 ∷ []) ∷ (0 ∷ 0 ∷ 0 ∷ 0 ∷ []) ∷ (20 ∷ 0 ∷ 0 ∷ 0 ∷ []) ∷ []
   pub equal : configRefusal itself ≡ 3
   pub many : configRefusal tooMany ≡ 2
+  pub seventeenTasks : configRefusalBy brakeModule seventeen ≡ 27
+  pub seventeenLong : configRefusalBy brakeModule seventeenAndMore ≡ 2
   -- nobody waits on semaphore 1
   pub done : getD (run (configIn twoTasks) (signals ∷ []) .0 .semaphores) 0 PENDING ≡ DONE
 
 pub the-answers : ShamAnswers
 unfolding everything pairTimes
-the-answers = record { accepted = refl; settled = refl; filled = refl; started = refl; ticked = refl; told = refl; wakingTick = refl; wakingPut = refl; acceptedThree = refl; early = refl; suspended = refl; ownNumber = refl; nobody = refl; equal = refl; many = refl; done = refl }
+the-answers = record { accepted = (refl, refl); settled = refl; filled = refl; started = refl; ticked = refl; told = refl; wakingTick = refl; wakingPut = refl; acceptedThree = (refl, refl); early = refl; suspended = refl; ownNumber = refl; nobody = refl; equal = refl; many = refl; seventeenTasks = refl; seventeenLong = refl; done = refl }

@@ -15,6 +15,7 @@ pub mod Sizes
 pub mod Refused
 -- what an accepted configuration and an accepted frame say
 pub mod Configured
+pub mod Within
 pub mod Accepted
 pub mod Shown
 -- each step as a chain of changes, and what every change keeps

@@ -1,11 +1,12 @@
--- What a call of the executive promises: of the configuration, and of a frame.
+-- What a call of an executive with the limits k promises: of the configuration, and of a frame. The ride controller's is one, the brake
+-- module's the other.
 use Prim.Native.Nat.{ℕ, _+_, _*_}
 use mathlib.Core.Path.{_≡_}
 use mathlib.Core.Bool.{Bool, true, false, _&&_, _||_}
 use mathlib.Core.List.{List}
 use lib.Dec.{ltb, leb}
 use lib.ListN.{length}
-use Rattle.ledger.specs.Config.{Config, Limits, controller, configIn, configRefusal, longest}
+use Rattle.ledger.specs.Config.{Config, Limits, configIn, configRefusalBy, longest}
 use Rattle.ledger.specs.Ledger.{Ledger, fresh}
 use Rattle.ledger.specs.Refusals.{refusal}
 use Rattle.ledger.specs.Session as session
@@ -54,8 +55,8 @@ hasSizes n m =
     leb (n .config) (length (m .config)) && leb (n .tables) (length (m .tables)) && leb (n .slots) (length (m .slots)) && leb (n .timers) (length (m .timers))
     && leb (n .answer) (length (m .answer))
 
-unfoldable pub fullSize : Memory → Bool
-fullSize m = hasSizes (sizesOf controller) m
+unfoldable pub fullSize : Limits → Memory → Bool
+fullSize k m = hasSizes (sizesOf k) m
 
 -- ---- the parts of the blocks
 
@@ -97,13 +98,10 @@ timersPart c m = part (timersBytes (shapeOf c)) (m .timers)
 unfoldable pub messagesSound : Config → List ℕ → Bool
 messagesSound c d = let s = shapeOf c in ltb (counted s d) (s .messages) || wholeIn s d
 
--- the sizes, the marks, the frame of a configuration, and the messages, by the limits of the executive that the memory is lent to
-unfoldable pub lentWellFor : Limits → Memory → Bool
-lentWellFor k m =
-    hasSizes (sizesOf k) m && isMarked (sizesOf k) m && frameRule k (keptFrame (m .config)) && messagesSound (configOf m) (tablesPart (configOf m) m)
-
-unfoldable pub lentWell : Memory → Bool
-lentWell m = lentWellFor controller m
+-- the sizes, the marks, the frame of a configuration, and the messages
+unfoldable pub lentWell : Limits → Memory → Bool
+lentWell k m =
+    fullSize k m && isMarked (sizesOf k) m && frameRule k (keptFrame (m .config)) && messagesSound (configOf m) (tablesPart (configOf m) m)
 
 -- ---- what a call leaves
 
@@ -130,11 +128,11 @@ pub record OutsideStays (c : Config) (m m' : Memory) : Type 0 where
   pub timers : Stays (timersBytes (shapeOf c)) (m .timers) (m' .timers)
 
 -- and of a configuration, which writes its frame with the two bytes of its length, and the marks
-pub record OutsideSpared (f : List ℕ) (m m' : Memory) : Type 0 where
-  pub config : Spares (2 + length f) (sizesOf controller .config) (m .config) (m' .config)
-  pub tables : Spares (shapeOf (configIn f) .end) (sizesOf controller .tables) (m .tables) (m' .tables)
-  pub slots : Spares (16 * shapeOf (configIn f) .tasks) (sizesOf controller .slots) (m .slots) (m' .slots)
-  pub timers : Spares (timersBytes (shapeOf (configIn f))) (sizesOf controller .timers) (m .timers) (m' .timers)
+pub record OutsideSpared (k : Limits) (f : List ℕ) (m m' : Memory) : Type 0 where
+  pub config : Spares (2 + length f) (sizesOf k .config) (m .config) (m' .config)
+  pub tables : Spares (shapeOf (configIn f) .end) (sizesOf k .tables) (m .tables) (m' .tables)
+  pub slots : Spares (16 * shapeOf (configIn f) .tasks) (sizesOf k .slots) (m .slots) (m' .slots)
+  pub timers : Spares (timersBytes (shapeOf (configIn f))) (sizesOf k .timers) (m .timers) (m' .timers)
 
 -- the memory with another answer
 unfoldable pub answering : List ℕ → Memory → Memory
@@ -142,20 +140,20 @@ answering a m = record { config = m .config; tables = m .tables; slots = m .slot
 
 -- ---- a configuration: 11 writes nothing; refused, it writes the answer alone; accepted, the memory holds its frame and shows the fresh ledger
 
-pub record Begins (f : List ℕ) (m m' : Memory) (r : ℕ) : Type 0 where
+pub record Begins (k : Limits) (f : List ℕ) (m m' : Memory) (r : ℕ) : Type 0 where
   pub number : r ≡ 0
   pub frame : keptFrame (m' .config) ≡ f
-  pub well : lentWell m' ≡ true
+  pub well : lentWell k m' ≡ true
   pub shown : Displays (configIn f) (fresh (configIn f)) m'
   pub tidy : Tidily (configIn f) (fresh (configIn f)) m'
   pub answered : m' .answer ≡ written (session.answer 0 0 (fresh (configIn f))) (m .answer)
-  pub outside : OutsideSpared f m m'
+  pub outside : OutsideSpared k f m m'
 
-pub record Configures (f : List ℕ) (m m' : Memory) (r : ℕ) : Type 0 where
+pub record Configures (k : Limits) (f : List ℕ) (m m' : Memory) (r : ℕ) : Type 0 where
   pub sizes : SameSizes m m'
-  pub short : fullSize m ≡ false → (r ≡ 11) × (m' ≡ m)
-  pub refused : fullSize m ≡ true → (configRefusal f ≡ 0 → ⊥) → (r ≡ configRefusal f) × (m' ≡ answering (session.refusedConfiguration (configRefusal f)) m)
-  pub accepted : fullSize m ≡ true → configRefusal f ≡ 0 → Begins f m m' r
+  pub short : fullSize k m ≡ false → (r ≡ 11) × (m' ≡ m)
+  pub refused : fullSize k m ≡ true → (configRefusalBy k f ≡ 0 → ⊥) → (r ≡ configRefusalBy k f) × (m' ≡ answering (session.refusedConfiguration (configRefusalBy k f)) m)
+  pub accepted : fullSize k m ≡ true → configRefusalBy k f ≡ 0 → Begins k f m m' r
 
 -- ---- a frame: 11 writes nothing; else the number, the answer and the ledger shown are the ledger's, and a refused one changes the answer alone
 
@@ -165,10 +163,10 @@ pub record Goes (c : Config) (l : Ledger) (f : List ℕ) (m m' : Memory) (r : �
   pub tidy : Tidily c l m → Tidily c (session.step c f l .ledger) m'
   pub answered : m' .answer ≡ written (session.step c f l .answered) (m .answer)
 
-pub record Frames (f : List ℕ) (m m' : Memory) (r : ℕ) : Type 0 where
+pub record Frames (k : Limits) (f : List ℕ) (m m' : Memory) (r : ℕ) : Type 0 where
   pub sizes : SameSizes m m'
   pub config : m' .config ≡ m .config
-  pub bad : lentWell m ≡ false → (r ≡ 11) × (m' ≡ m)
-  pub good : lentWell m ≡ true → (l : Ledger) → Displays (configOf m) l m → Goes (configOf m) l f m m' r
-  pub outside : lentWell m ≡ true → OutsideStays (configOf m) m m'
-  pub unchanged : lentWell m ≡ true → (r ≡ 0 → ⊥) → (m' .tables ≡ m .tables) × (m' .slots ≡ m .slots) × (m' .timers ≡ m .timers)
+  pub bad : lentWell k m ≡ false → (r ≡ 11) × (m' ≡ m)
+  pub good : lentWell k m ≡ true → (l : Ledger) → Displays (configOf m) l m → Goes (configOf m) l f m m' r
+  pub outside : lentWell k m ≡ true → OutsideStays (configOf m) m m'
+  pub unchanged : lentWell k m ≡ true → (r ≡ 0 → ⊥) → (m' .tables ≡ m .tables) × (m' .slots ≡ m .slots) × (m' .timers ≡ m .timers)

@@ -7,7 +7,7 @@ use mathlib.Core.List.{List}
 use native.Mathlib.Omega.{arith}
 use lib.Dec.{eqb}
 use lib.ListN.{length}
-use Rattle.ledger.specs.Config.{Config, controller}
+use Rattle.ledger.specs.Config.{Config, Limits}
 use Rattle.ledger.specs.Ledger.{Ledger, running}
 use Rattle.ledger.specs.Refusals.{refusal}
 use Rattle.ledger.specs.Session.{answer, settle, accept, Stepped, step, Items, items}
@@ -22,7 +22,7 @@ use Rattle.configuration.specs.Block.{frameRule}
 use Rattle.parts.specs.Parts.{keptFrame}
 use Rattle.configuration.specs.Layout.{shapeOf}
 use Rattle.answer.specs.Read as read
-use Rattle.mcx11.specs.Contract.{Memory, sizesOf, fullSize, isMarked, configOf, tablesPart, slotsPart, timersPart, messagesSound, lentWellFor, lentWell, Displays}
+use Rattle.mcx11.specs.Contract.{Memory, sizesOf, fullSize, isMarked, configOf, tablesPart, slotsPart, timersPart, messagesSound, lentWell, Displays}
 
 -- the items that the memory's bytes are
 unfoldable pub itemsIn : Config → Memory → Items
@@ -53,10 +53,10 @@ items-shown c l m h =
 -- ---- lent well
 
 -- the messages' rule is kept where the ledger has none twice
-pub displays-well : (m : Memory) (l : Ledger) → fullSize m ≡ true → isMarked (sizesOf controller) m ≡ true → frameRule controller (keptFrame (m .config)) ≡ true → Displays (configOf m) l m
-    → Once (configOf m) (l .mailboxes) → lentWell m ≡ true
-unfolding lentWell lentWellFor fullSize messagesSound soundIn Displays
-displays-well m l f k r h o = let c = configOf m in rw (f, k, r) (sound-shown c (shapeOf c) l (tablesPart c m) (slotsPart c m) (timersPart c m) h o)
+pub displays-well : (k : Limits) (m : Memory) (l : Ledger) → fullSize k m ≡ true → isMarked (sizesOf k) m ≡ true → frameRule k (keptFrame (m .config)) ≡ true → Displays (configOf m) l m
+    → Once (configOf m) (l .mailboxes) → lentWell k m ≡ true
+unfolding lentWell messagesSound soundIn Displays
+displays-well k m l f marked r h o = let c = configOf m in rw (f, marked, r) (sound-shown c (shapeOf c) l (tablesPart c m) (slotsPart c m) (timersPart c m) h o)
 
 -- ---- an answer has 4 to 20 bytes
 

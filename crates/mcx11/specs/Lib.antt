@@ -1,8 +1,10 @@
 pub mod Results
 pub mod Contract
 pub mod Sizes
+pub mod Framed
 pub mod Tested
-pub mod Entries
-pub mod Answer
+pub mod Inside
 pub mod Displayed
+pub mod Begun
+pub mod Answer
 pub mod Kept

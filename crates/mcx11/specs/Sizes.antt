@@ -1,17 +1,19 @@
--- The fixed sizes, one by one; a call leaves every block as large as it was.
+-- The sizes, one by one; a call leaves every block as large as it was.
 use Prim.Native.Nat.{ℕ, _≤_}
-use mathlib.Core.Path.{_≡_, sym, ap, _∙_}
+use mathlib.Core.Path.{_≡_, refl, sym, ap, _∙_, subst}
 use mathlib.Core.List.{List}
 use mathlib.Core.Bool.{Bool, true, _&&_}
+use native.Mathlib.Omega.{arith}
 use borrow.Author.Tests.{leb-true, le-leb}
 use lib.Dec.{leb}
 use lib.ListN.{length}
 use Rattle.ledger.specs.Theorems.Checks.{and-left, and-right}
-use Rattle.ledger.specs.Config.{Limits, controller}
+use Rattle.ledger.specs.Config.{Limits, controller, brakeModule}
 use Rattle.configuration.specs.Block.{frameRule}
 use Rattle.parts.specs.Parts.{keptFrame}
+use Rattle.answer.specs.Written.{answerBytes}
 use Rattle.mcx11.specs.declared.lent.Sizes as code
-use Rattle.mcx11.specs.Contract.{Memory, memory, Sizes, sizesOf, hasSizes, fullSize, isMarked, configOf, tablesPart, messagesSound, lentWellFor, lentWell, SameSizes}
+use Rattle.mcx11.specs.Contract.{Memory, memory, Sizes, sizesOf, hasSizes, fullSize, isMarked, configOf, tablesPart, messagesSound, lentWell, SameSizes}
 
 -- the sizes as the program has them
 abbrev pub sizesIn : code.Sizes → Sizes
@@ -34,60 +36,73 @@ module _ {n : Sizes} {g d z w : ℕ} where
   pub timers-sized : RoomForMarks n g d z w → (8 ≤ n .timers) × (n .timers ≤ w)
   timers-sized (room-for-marks a b c e) = e
 
-pub record Full (m : Memory) : Type 0 where
-  pub config : 336 ≤ length (m .config)
-  pub tables : 7517 ≤ length (m .tables)
-  pub slots : 2024 ≤ length (m .slots)
-  pub timers : 659 ≤ length (m .timers)
-  pub answer : 21 ≤ length (m .answer)
+-- every block has its size
+pub record Full (k : Limits) (m : Memory) : Type 0 where
+  pub config : sizesOf k .config ≤ length (m .config)
+  pub tables : sizesOf k .tables ≤ length (m .tables)
+  pub slots : sizesOf k .slots ≤ length (m .slots)
+  pub timers : sizesOf k .timers ≤ length (m .timers)
+  pub answer : answerBytes ≤ length (m .answer)
 
-pub full-sizes : (m : Memory) → fullSize m ≡ true → Full m
-unfolding fullSize hasSizes sizesOf
-full-sizes m h =
-    record {
-      config = leb-true 336 _ (search (and-left, and-right) depth 9);
-      tables = leb-true 7517 _ (search (and-left, and-right) depth 9);
-      slots = leb-true 2024 _ (search (and-left, and-right) depth 9);
-      timers = leb-true 659 _ (search (and-left, and-right) depth 9);
-      answer = leb-true 21 _ (search (and-left, and-right) depth 9);
-    }
+-- in figures
+pub controller-sizes : sizesOf controller ≡ record { config = 336; tables = 7517; slots = 2024; timers = 659; answer = 21 }
+unfolding sizesOf
+controller-sizes = refl
 
--- the sizes as the code tests them, by limits that are the controller's
-pub full-told : (k : Limits) → k ≡ controller → (n : Sizes) → n ≡ sizesOf k → (g d z w a : List ℕ) (x y : Bool)
-    → x ≡ (leb (n .config) (length g) && leb (n .tables) (length d) && leb (n .slots) (length z) && leb (n .timers) (length w) && leb (n .answer) (length a))
-    → x ≡ y → fullSize (memory g d z w a) ≡ y
-unfolding fullSize hasSizes
-full-told k e n q g d z w a x y t r =
-    ap (λ (j : Limits). hasSizes (sizesOf j) (memory g d z w a)) (sym e) ∙ ap (λ (j : Sizes). hasSizes j (memory g d z w a)) (sym q) ∙ sym t ∙ r
+pub module-sizes : sizesOf brakeModule ≡ record { config = 178; tables = 985; slots = 264; timers = 99; answer = 21 }
+unfolding sizesOf
+module-sizes = refl
 
-pub sizes-full : (m : Memory) → Full m → fullSize m ≡ true
-unfolding fullSize hasSizes sizesOf
-sizes-full m h = rw (le-leb _ _ (h .config), le-leb _ _ (h .tables), le-leb _ _ (h .slots), le-leb _ _ (h .timers), le-leb _ _ (h .answer))
+module _ (k : Limits) where
+  pub full-sizes : (m : Memory) → fullSize k m ≡ true → Full k m
+  unfolding fullSize hasSizes sizesOf
+  full-sizes m h =
+      record {
+        config = leb-true (sizesOf k .config) _ (search (and-left, and-right) depth 9);
+        tables = leb-true (sizesOf k .tables) _ (search (and-left, and-right) depth 9);
+        slots = leb-true (sizesOf k .slots) _ (search (and-left, and-right) depth 9);
+        timers = leb-true (sizesOf k .timers) _ (search (and-left, and-right) depth 9);
+        answer = leb-true answerBytes _ (search (and-left, and-right) depth 9);
+      }
 
-pub full-kept : {m m' : Memory} → SameSizes m m' → fullSize m' ≡ fullSize m
-unfolding fullSize hasSizes
-full-kept s = rw (s .config, s .tables, s .slots, s .timers, s .answer)
+  pub sizes-full : (m : Memory) → Full k m → fullSize k m ≡ true
+  unfolding fullSize hasSizes sizesOf
+  sizes-full m h = rw (le-leb _ _ (h .config), le-leb _ _ (h .tables), le-leb _ _ (h .slots), le-leb _ _ (h .timers), le-leb _ _ (h .answer))
+
+  pub full-kept : {m m' : Memory} → SameSizes m m' → fullSize k m' ≡ fullSize k m
+  unfolding fullSize hasSizes
+  full-kept s = rw (s .config, s .tables, s .slots, s .timers, s .answer)
+
+  -- as the code tests them
+  pub full-told : (n : Sizes) → n ≡ sizesOf k → (g d z w a : List ℕ) (x y : Bool)
+      → x ≡ (leb (n .config) (length g) && leb (n .tables) (length d) && leb (n .slots) (length z) && leb (n .timers) (length w) && leb (n .answer) (length a))
+      → x ≡ y → fullSize k (memory g d z w a) ≡ y
+  unfolding fullSize hasSizes
+  full-told n q g d z w a x y t r = ap (λ (j : Sizes). hasSizes j (memory g d z w a)) (sym q) ∙ sym t ∙ r
+
+  -- and with room for the marks
+  pub full-marked : (n : Sizes) → n ≡ sizesOf k → (m : Memory) → Full k m → RoomForMarks n (length (m .config)) (length (m .tables)) (length (m .slots)) (length (m .timers))
+  unfolding sizesOf
+  full-marked n e m h =
+      subst (λ (x : Sizes). RoomForMarks x (length (m .config)) (length (m .tables)) (length (m .slots)) (length (m .timers))) (sym e)
+      (room-for-marks (omega arith, h .config) (omega arith, h .tables) (omega arith, h .slots) (omega arith, h .timers))
 
 -- what the test for 11 found
-module _ (m : Memory) (h : lentWell m ≡ true) where
+module _ (k : Limits) (m : Memory) (h : lentWell k m ≡ true) where
   abbrev sound : Bool
   sound = messagesSound (configOf m) (tablesPart (configOf m) m)
 
   abbrev framed : Bool
-  framed = frameRule controller (keptFrame (m .config))
+  framed = frameRule k (keptFrame (m .config))
 
-  pub well-full : fullSize m ≡ true
-  unfolding lentWell lentWellFor fullSize
-  well-full = and-left _ (isMarked (sizesOf controller) m) (and-left _ framed (and-left _ sound h))
+  pub well-full : fullSize k m ≡ true
+  unfolding lentWell
+  well-full = and-left _ (isMarked (sizesOf k) m) (and-left _ framed (and-left _ sound h))
 
-  pub well-marked : isMarked (sizesOf controller) m ≡ true
-  unfolding lentWell lentWellFor
-  well-marked = and-right (hasSizes (sizesOf controller) m) _ (and-left _ framed (and-left _ sound h))
+  pub well-marked : isMarked (sizesOf k) m ≡ true
+  unfolding lentWell
+  well-marked = and-right (fullSize k m) _ (and-left _ framed (and-left _ sound h))
 
-  pub well-frame : frameRule controller (keptFrame (m .config)) ≡ true
-  unfolding lentWell lentWellFor
-  well-frame = and-right (hasSizes (sizesOf controller) m && isMarked (sizesOf controller) m) _ (and-left _ sound h)
-
-  pub well-messages : messagesSound (configOf m) (tablesPart (configOf m) m) ≡ true
-  unfolding lentWell lentWellFor
-  well-messages = and-right (hasSizes (sizesOf controller) m && isMarked (sizesOf controller) m && framed) _ h
+  pub well-frame : frameRule k (keptFrame (m .config)) ≡ true
+  unfolding lentWell
+  well-frame = and-right (fullSize k m && isMarked (sizesOf k) m) _ (and-left _ sound h)

@@ -1,153 +1,13 @@
-// The executive: a configuration, and a frame. Each lends on the parts of the blocks that the configuration needs.
-use crate::lent::CONFIG_MARK;
-use crate::lent::SLOTS_MARK;
-use crate::lent::Sizes;
-use crate::lent::TABLES_MARK;
-use crate::lent::TIMERS_MARK;
-use configuration::Lent;
+// The exported C functions of the executive: the ride controller's, and those of the brake module, which has less memory.
+// Each gives the number: 0 accepted, 11 where the lent memory is short or, for a frame, broken; then nothing is written.
+// A frame's limits are tested in the entry itself, with numbers that the compiler knows; the rest is one function for both.
+use configuration::limits::brake_module;
 use configuration::limits::controller;
-use executive::frames::step;
 use parts::FRAME_AT;
-use parts::PART_AT;
-use tables::shape::Shape;
-ghost use mathlib.Core.Path.{_≡_};
-ghost use mathlib.Core.Bool.{true};
-ghost use Prim.Native.Nat.{_+_, _*_, _≤_};
-ghost use lib.ListN.{length};
-ghost use Rattle.answer.specs.Written.{answerBytes};
 ghost use Rattle.ledger.specs.Config as limits;
-ghost use Rattle.ledger.specs.Config.{configIn, configRefusal};
-ghost use Rattle.tables.specs.Layout.{Fits};
-ghost use Rattle.tables.specs.Shows.{Of};
-ghost use Rattle.configuration.specs.Started.{timersBytes};
-ghost use Rattle.parts.specs.Parts.{partAt, ends};
-ghost use Rattle.mcx11.specs.Contract as contract;
-ghost use Rattle.mcx11.specs.Contract.{memory, Begins, Configures, Frames};
-ghost use Rattle.mcx11.specs.Sizes.{sizesIn, RoomForMarks};
-ghost use Rattle.mcx11.specs.Entries.{Room, StepsInside, TellsNow, Places};
+ghost use Rattle.mcx11.specs.Contract.{memory, Configures, Frames};
 
-// StepsInside a frame to the parts of blocks that are lent well.
-fn feed(
-    frame: &[u8],
-    config: &[u8],
-    tables: &mut [u8],
-    slots: &mut [u8],
-    timers: &mut [u8],
-    shape: Shape,
-    answer: &mut [u8],
-) -> u8
-    requires { ⌜ Room shape (now config) (now tables) (now slots) (now timers) × (answerBytes ≤ length (now answer)) ⌝ }
-    ensures { λ r. ⌜ StepsInside shape (now (frame .entry)) (now (config .entry)) (now (tables .entry)) (now (slots .entry)) (now (timers .entry)) (now (answer .entry))
-        (now (tables .exit)) (now (slots .exit)) (now (timers .exit)) (now (answer .exit)) r ⌝ }
-{
-    let frame_end = FRAME_AT + parts::frame_length(config);
-    let tables_end = PART_AT + shape.end;
-    let slots_end = PART_AT + 16 * shape.tasks;
-    let timers_end = PART_AT + (11 + 10 * shape.timers);
-    step(
-        frame,
-        &config[FRAME_AT..frame_end],
-        &mut tables[PART_AT..tables_end],
-        &mut slots[PART_AT..slots_end],
-        &mut timers[PART_AT..timers_end],
-        shape,
-        answer,
-    )
-}
-
-// StepsInside a frame. Gives its number: 0 accepted, 11 where the lent memory is short or broken (then nothing is written).
-#[no_mangle]
-pub extern "C" fn mcx11_frame_blocks(
-    frame: &[u8],
-    config: &[u8],
-    tables: &mut [u8],
-    slots: &mut [u8],
-    timers: &mut [u8],
-    answer: &mut [u8],
-) -> u8
-    ensures { λ r. ⌜ Frames (now (frame .entry)) (memory (now (config .entry)) (now (tables .entry)) (now (slots .entry)) (now (timers .entry)) (now (answer .entry)))
-        (memory (now (config .entry)) (now (tables .exit)) (now (slots .exit)) (now (timers .exit)) (now (answer .exit))) r ⌝ }
-{
-    let limits = controller();
-    let l = crate::lent::test(limits, config, tables, slots, timers, answer.len());
-    match l {
-        Lent::Bad => 11,
-        Lent::Good(shape) => feed(frame, config, tables, slots, timers, shape, answer),
-    }
-}
-
-// Sets the marks of all blocks.
-fn mark_blocks(n: Sizes, config: &mut [u8], tables: &mut [u8], slots: &mut [u8], timers: &mut [u8])
-    requires { ⌜ RoomForMarks (sizesIn n) (length (now config)) (length (now tables)) (length (now slots)) (length (now timers)) ⌝ }
-    ensures { λ _. ⌜ (now (config .exit) ≡ ends contract.configMark (n .config) (now (config .entry))) × (now (tables .exit) ≡ ends contract.tablesMark (n .tables) (now (tables .entry)))
-        × (now (slots .exit) ≡ ends contract.slotsMark (n .slots) (now (slots .entry))) × (now (timers .exit) ≡ ends contract.timersMark (n .timers) (now (timers .entry))) ⌝ }
-{
-    parts::mark_ends(config, n.config, CONFIG_MARK);
-    parts::mark_ends(tables, n.tables, TABLES_MARK);
-    parts::mark_ends(slots, n.slots, SLOTS_MARK);
-    parts::mark_ends(timers, n.timers, TIMERS_MARK);
-}
-
-// The fresh tables, slots and timers of an accepted frame, in their parts.
-fn place(frame: &[u8], tables: &mut [u8], slots: &mut [u8], timers: &mut [u8], shape: Shape)
-    requires { ⌜ (configRefusal (now frame) ≡ 0) × Of (configIn (now frame)) shape × (partAt + shape .end ≤ length (now tables)) × (partAt + 16 * shape .tasks ≤ length (now slots))
-        × (partAt + timersBytes shape ≤ length (now timers)) ⌝ }
-    ensures { λ _. ⌜ Places shape (now (frame .entry)) (now (tables .entry)) (now (slots .entry)) (now (timers .entry)) (now (tables .exit)) (now (slots .exit)) (now (timers .exit)) ⌝ }
-{
-    let tables_end = PART_AT + shape.end;
-    let slots_end = PART_AT + 16 * shape.tasks;
-    let timers_end = PART_AT + (11 + 10 * shape.timers);
-    configuration::fresh::start(
-        frame,
-        &mut tables[PART_AT..tables_end],
-        &mut slots[PART_AT..slots_end],
-        &mut timers[PART_AT..timers_end],
-        shape,
-    );
-}
-
-// The answer that shows the running task, with a number and no reissues.
-pub fn tell(tables: &[u8], slots: &[u8], shape: Shape, number: u8, answer: &mut [u8])
-    requires { ⌜ Fits shape (shape .end) × (partAt + shape .end ≤ length (now tables)) × (partAt + 16 * shape .tasks ≤ length (now slots)) × (answerBytes ≤ length (now answer)) ⌝ }
-    ensures { λ _. ⌜ TellsNow shape (now (tables .entry)) (now (slots .entry)) number (now (answer .entry)) (now (answer .exit)) ⌝ }
-{
-    let tables_end = PART_AT + shape.end;
-    let slots_end = PART_AT + 16 * shape.tasks;
-    let running = tables::tasks::running(&tables[PART_AT..tables_end], shape);
-    answer::write(
-        &tables[PART_AT..tables_end],
-        &slots[PART_AT..slots_end],
-        shape,
-        running,
-        number,
-        0,
-        answer,
-    );
-}
-
-// The memory of an accepted configuration, and its answer.
-fn begin(
-    frame: &[u8],
-    n: Sizes,
-    config: &mut [u8],
-    tables: &mut [u8],
-    slots: &mut [u8],
-    timers: &mut [u8],
-    answer: &mut [u8],
-)
-    requires { ⌜ (configRefusal (now frame) ≡ 0) × (sizesIn n ≡ contract.sizesOf limits.controller)
-        × (contract.fullSize (memory (now config) (now tables) (now slots) (now timers) (now answer)) ≡ true) ⌝ }
-    ensures { λ _. ⌜ Begins (now (frame .entry)) (memory (now (config .entry)) (now (tables .entry)) (now (slots .entry)) (now (timers .entry)) (now (answer .entry)))
-        (memory (now (config .exit)) (now (tables .exit)) (now (slots .exit)) (now (timers .exit)) (now (answer .exit))) 0 ⌝ }
-{
-    let shape = configuration::block::shape_of(frame);
-    mark_blocks(n, config, tables, slots, timers);
-    parts::keep_frame(frame, config);
-    place(frame, tables, slots, timers, shape);
-    tell(tables, slots, shape, 0, answer);
-}
-
-// Configures. Gives the configuration's number: 0 accepted, 11 where a lent block is short (then nothing is written).
+// Configures the ride controller.
 #[no_mangle]
 pub extern "C" fn mcx11_configure_blocks(
     frame: &[u8],
@@ -157,26 +17,84 @@ pub extern "C" fn mcx11_configure_blocks(
     timers: &mut [u8],
     answer: &mut [u8],
 ) -> u8
-    ensures { λ r. ⌜ Configures (now (frame .entry)) (memory (now (config .entry)) (now (tables .entry)) (now (slots .entry)) (now (timers .entry)) (now (answer .entry)))
+    ensures { λ r. ⌜ Configures limits.controller (now (frame .entry)) (memory (now (config .entry)) (now (tables .entry)) (now (slots .entry)) (now (timers .entry)) (now (answer .entry)))
         (memory (now (config .exit)) (now (tables .exit)) (now (slots .exit)) (now (timers .exit)) (now (answer .exit))) r ⌝ }
+{
+    crate::by_limits::configure(controller(), frame, config, tables, slots, timers, answer)
+}
+
+// Carries out a frame on the ride controller.
+#[no_mangle]
+pub extern "C" fn mcx11_frame_blocks(
+    frame: &[u8],
+    config: &[u8],
+    tables: &mut [u8],
+    slots: &mut [u8],
+    timers: &mut [u8],
+    answer: &mut [u8],
+) -> u8
+    ensures { λ r. ⌜ Frames limits.controller (now (frame .entry)) (memory (now (config .entry)) (now (tables .entry)) (now (slots .entry)) (now (timers .entry)) (now (answer .entry)))
+        (memory (now (config .entry)) (now (tables .exit)) (now (slots .exit)) (now (timers .exit)) (now (answer .exit))) r ⌝ }
 {
     let limits = controller();
     let n = crate::lent::sizes_of(limits);
-    if !crate::lent::has_sizes(
-        n,
-        config.len(),
-        tables.len(),
-        slots.len(),
-        timers.len(),
-        answer.len(),
-    ) {
+    if !crate::lent::meets_limits(limits, n, config, tables, slots, timers, answer.len()) {
         return 11;
     }
-    let number = configuration::frame::refusal(frame);
-    if number != 0 {
-        answer::refuse_configuration(number, answer);
-        return number;
+    let end = FRAME_AT + parts::frame_length(config);
+    crate::by_limits::frame(
+        limits,
+        frame,
+        &config[FRAME_AT..end],
+        tables,
+        slots,
+        timers,
+        answer,
+    )
+}
+
+// Configures the brake module.
+#[no_mangle]
+pub extern "C" fn mcx11_module_configure_blocks(
+    frame: &[u8],
+    config: &mut [u8],
+    tables: &mut [u8],
+    slots: &mut [u8],
+    timers: &mut [u8],
+    answer: &mut [u8],
+) -> u8
+    ensures { λ r. ⌜ Configures limits.brakeModule (now (frame .entry)) (memory (now (config .entry)) (now (tables .entry)) (now (slots .entry)) (now (timers .entry)) (now (answer .entry)))
+        (memory (now (config .exit)) (now (tables .exit)) (now (slots .exit)) (now (timers .exit)) (now (answer .exit))) r ⌝ }
+{
+    crate::by_limits::configure(brake_module(), frame, config, tables, slots, timers, answer)
+}
+
+// Carries out a frame on the brake module.
+#[no_mangle]
+pub extern "C" fn mcx11_module_frame_blocks(
+    frame: &[u8],
+    config: &[u8],
+    tables: &mut [u8],
+    slots: &mut [u8],
+    timers: &mut [u8],
+    answer: &mut [u8],
+) -> u8
+    ensures { λ r. ⌜ Frames limits.brakeModule (now (frame .entry)) (memory (now (config .entry)) (now (tables .entry)) (now (slots .entry)) (now (timers .entry)) (now (answer .entry)))
+        (memory (now (config .entry)) (now (tables .exit)) (now (slots .exit)) (now (timers .exit)) (now (answer .exit))) r ⌝ }
+{
+    let limits = brake_module();
+    let n = crate::lent::sizes_of(limits);
+    if !crate::lent::meets_limits(limits, n, config, tables, slots, timers, answer.len()) {
+        return 11;
     }
-    begin(frame, n, config, tables, slots, timers, answer);
-    0
+    let end = FRAME_AT + parts::frame_length(config);
+    crate::by_limits::frame(
+        limits,
+        frame,
+        &config[FRAME_AT..end],
+        tables,
+        slots,
+        timers,
+        answer,
+    )
 }

@@ -1,13 +1,13 @@
-// The whole test for number 11: the sizes of the lent blocks, their marks, the configuration that they hold, and the messages.
+// The test for number 11: the sizes of the lent blocks, their marks, the configuration that they hold, and the messages.
 use configuration::Lent;
+use configuration::frame::wide;
 use configuration::limits::Limits;
-use configuration::pairs::MOST_PAIRS;
 use parts::FRAME_AT;
 use parts::PART_AT;
 use tables::shape::RECORDS_AT;
 use tables::shape::Shape;
 ghost use mathlib.Core.Path.{_≡_};
-ghost use mathlib.Core.Bool.{cond, _&&_};
+ghost use mathlib.Core.Bool.{true, cond, _&&_};
 ghost use Prim.Native.Nat.{_+_, _≤_};
 ghost use lib.Dec.{leb};
 ghost use lib.ListN.{length};
@@ -15,12 +15,12 @@ ghost use Rattle.tables.specs.Layout.{Fits};
 ghost use Rattle.mailboxes.specs.Room.{soundIn};
 ghost use Rattle.ledger.specs.Config as limit;
 ghost use Rattle.configuration.specs.Limits.{limitsOf, Made};
-ghost use Rattle.configuration.specs.Layout.{Lends};
+ghost use Rattle.configuration.specs.Block.{countsRule};
 ghost use Rattle.configuration.specs.declared.Lent.the-variants as variants;
 ghost use Rattle.parts.specs.Parts.{partAt, frameAt, markedBy, part, keptFrame};
 ghost use Rattle.mcx11.specs.Contract.{sizesOf, configMark, tablesMark, slotsMark, timersMark};
 ghost use Rattle.mcx11.specs.Sizes.{sizesIn, RoomForMarks};
-ghost use Rattle.mcx11.specs.Tested.{Tested};
+ghost use Rattle.mcx11.specs.Tested.{MeetsLimits, Tested};
 
 // The fixed sizes of the lent blocks.
 pub struct Sizes {
@@ -40,24 +40,11 @@ pub const SLOTS_MARK: u32 = 0x5358434D;
 
 pub const TIMERS_MARK: u32 = 0x5258434D;
 
-fn wide(x: u8) -> usize
-    ensures { λ r. ⌜ r ≡ x ⌝ }
-{
-    x as usize
-}
-
-// The longest frame of a configuration within the limits.
-fn longest(limits: Limits) -> usize
-    ensures { λ r. ⌜ (r ≡ limit.longest (limitsOf limits)) × (r ≤ 901) ⌝ }
-{
-    8 + wide(limits.tasks) + 2 * wide(limits.queues) + 2 * MOST_PAIRS
-}
-
 // The most that a configuration within the limits needs, with the marks.
 pub fn sizes_of(limits: Limits) -> Sizes
     ensures { λ r. ⌜ sizesIn r ≡ sizesOf (limitsOf limits) ⌝ }
 {
-    let frame = longest(limits);
+    let frame = configuration::limits::longest(limits);
     let tasks = wide(limits.tasks);
     let queues = wide(limits.queues);
     let messages = wide(limits.messages);
@@ -119,18 +106,43 @@ fn is_marked(n: Sizes, config: &[u8], tables: &[u8], slots: &[u8], timers: &[u8]
     parts::is_marked(timers, n.timers, TIMERS_MARK)
 }
 
-// The frame that the block keeps.
-pub fn by_frame(limits: Limits, config: &[u8]) -> Lent
-    requires { ⌜ Made (limitsOf limits) × (frameAt + limit.longest (limitsOf limits) + 4 ≤ length (now config)) ⌝ }
-    ensures { λ r. ⌜ Lends (limitsOf limits) (keptFrame (now (config .entry))) r ⌝ }
+// How long the frame is that the block keeps, and how much there is of each.
+pub fn counts(limits: Limits, config: &[u8]) -> bool
+    requires { ⌜ frameAt + limit.longest (limitsOf limits) + 4 ≤ length (now config) ⌝ }
+    ensures { λ r. ⌜ r ≡ countsRule (limitsOf limits) (keptFrame (now (config .entry))) ⌝ }
 {
     let n = parts::frame_length(config);
-    let most = longest(limits);
-    if n > most {
-        return Lent::Bad;
+    configuration::block::counts(limits, &config[FRAME_AT..], n)
+}
+
+// What the limits are asked for: the sizes, the marks, and how much there is of each. The sizes are handed in, so that the compiler
+// finds this short enough to put it into each entry, with the entry's own numbers.
+pub fn meets_limits(
+    limits: Limits,
+    n: Sizes,
+    config: &[u8],
+    tables: &[u8],
+    slots: &[u8],
+    timers: &[u8],
+    answer: usize,
+) -> bool
+    requires { ⌜ sizesIn n ≡ sizesOf (limitsOf limits) ⌝ }
+    ensures { λ r. ⌜ MeetsLimits (limitsOf limits) (now (config .entry)) (now (tables .entry)) (now (slots .entry)) (now (timers .entry)) answer r ⌝ }
+{
+    if !has_sizes(
+        n,
+        config.len(),
+        tables.len(),
+        slots.len(),
+        timers.len(),
+        answer,
+    ) {
+        return false;
     }
-    let end = FRAME_AT + most;
-    configuration::block::lent(limits, &config[FRAME_AT..end], n)
+    if !is_marked(n, config, tables, slots, timers) {
+        return false;
+    }
+    counts(limits, config)
 }
 
 // The messages of tables with this shape.
@@ -145,33 +157,12 @@ fn by_messages(tables: &[u8], shape: Shape) -> Lent
     Lent::Bad
 }
 
-// The shape of memory that keeps the rules. Of the answer the length is told.
-pub fn test(
-    limits: Limits,
-    config: &[u8],
-    tables: &[u8],
-    slots: &[u8],
-    timers: &[u8],
-    answer: usize,
-) -> Lent
-    requires { ⌜ Made (limitsOf limits) ⌝ }
-    ensures { λ r. ⌜ Tested (limitsOf limits) (now (config .entry)) (now (tables .entry)) (now (slots .entry)) (now (timers .entry)) answer r ⌝ }
+// The rest: the shape of the frame that is kept, where it and the messages keep the rules.
+pub fn test(limits: Limits, kept: &[u8], tables: &[u8]) -> Lent
+    requires { ⌜ Made (limitsOf limits) × (countsRule (limitsOf limits) (now kept) ≡ true) × (sizesOf (limitsOf limits) .tables ≤ length (now tables)) ⌝ }
+    ensures { λ r. ⌜ Tested (limitsOf limits) (now (kept .entry)) (now (tables .entry)) r ⌝ }
 {
-    let n = sizes_of(limits);
-    if !has_sizes(
-        n,
-        config.len(),
-        tables.len(),
-        slots.len(),
-        timers.len(),
-        answer,
-    ) {
-        return Lent::Bad;
-    }
-    if !is_marked(n, config, tables, slots, timers) {
-        return Lent::Bad;
-    }
-    let block = by_frame(limits, config);
+    let block = configuration::block::lent(limits, kept);
     match block {
         Lent::Bad => Lent::Bad,
         Lent::Good(shape) => by_messages(tables, shape),

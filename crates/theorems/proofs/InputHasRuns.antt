@@ -17,6 +17,7 @@ use Rattle.running.specs.Machine.{Pr, Cells, _∗_, _⊨_}
 use Rattle.running.specs.Buffer.{Buffer, overwritten, as-long, Rest, stored, lent-again}
 use Rattle.ledger.specs.Theorems.Parts.{Every, nil, cons}
 use Rattle.mcx11.specs.Contract.{Memory, memory}
+use Rattle.ledger.specs.Config.{controller}
 use Rattle.mcx11.specs.Sizes.{Full}
 use Rattle.feeding.specs.declared.Reached.{Reached}
 use Rattle.feeding.specs.Line.{most}
@@ -26,7 +27,7 @@ use Rattle.feeding.proofs.Session as calls
 use Rattle.feeding.proofs.Session.{FeedCall, FinishCall, Calls}
 use Rattle.feeding.proofs.feed.Symbol as feed-symbol
 use Rattle.feeding.proofs.finish.Symbol as finish-symbol
-use Rattle.theorems.proofs.Runs.{sizesOf, FitsBuffer}
+use Rattle.theorems.proofs.Runs.{lengthsOf, FitsBuffer}
 use Rattle.theorems.proofs.OneFeed.{lowered, is-lowered, lowered-is, ProgramPlaces, lentSlices, FeedAsks, leftByFeed, feed-runs, FinishAsks, finish-runs}
 use Rattle.theorems.proofs.InputRuns.{LentSizes, lentSizes, feedArguments, finishArguments, FeedRuns, InputRuns, none, call, FinishRuns}
 use Rattle.theorems.proofs.InputCalls.{feed-call, finish-call}
@@ -40,7 +41,7 @@ pub record Roomy (z : LentSizes) (n : ℕ) : Type 0 where
   pub line : most ≤ z .line
   pub out : 41 * n ≤ z .out
   pub least : 41 ≤ z .out
-  pub full : (m : Memory) → sizesOf m ≡ z .blocks → Full m
+  pub full : (m : Memory) → lengthsOf m ≡ z .blocks → Full controller m
 
 abbrev pub Input : ProgramPlaces → List ℕ → Pr
 Input p d = Buffer (p .blocks .buffer) d
@@ -74,7 +75,7 @@ again-is : (r : Reached) → r .held ≤ most → Is reached.the-row (again r) (
 again-is r h = is-lowered (again r) (omega arith) (omega (arith, h)) (omega arith)
 
 module _ (p : ProgramPlaces) (z : LentSizes) (n : ℕ) (roomy : Roomy z n) where
-  lent-asked : (x : Lent) → lentSizes x ≡ z → (most ≤ length (x .line)) × (41 * n ≤ length (x .out)) × (41 ≤ length (x .out)) × Full (x .memory)
+  lent-asked : (x : Lent) → lentSizes x ≡ z → (most ≤ length (x .line)) × (41 * n ≤ length (x .out)) × (41 ≤ length (x .out)) × Full controller (x .memory)
   lent-asked x e =
       let l : length (x .line) ≡ z .line = ap (λ (k : LentSizes). k .line) e in
       let o : length (x .out) ≡ z .out = ap (λ (k : LentSizes). k .out) e in

@@ -17,7 +17,8 @@ use Rattle.feeding.specs.declared.Reached.{Reached}
 use Rattle.feeding.specs.Feeds.{again, Lent}
 use Rattle.feeding.proofs.feed.Symbol as feed-symbol
 use Rattle.feeding.proofs.finish.Symbol as finish-symbol
-use Rattle.theorems.proofs.Runs.{Sizes, sizesOf}
+use Rattle.mcx11.specs.Contract.{Sizes}
+use Rattle.theorems.proofs.Runs.{lengthsOf}
 use Rattle.theorems.proofs.OneFeed.{lowered, ProgramPlaces, lentSlices}
 
 pub record LentSizes : Type 0 where
@@ -26,7 +27,7 @@ pub record LentSizes : Type 0 where
   pub out : ℕ
 
 abbrev pub lentSizes : Lent → LentSizes
-lentSizes x = record { blocks = sizesOf (x .memory); line = length (x .line); out = length (x .out) }
+lentSizes x = record { blocks = lengthsOf (x .memory); line = length (x .line); out = length (x .out) }
 
 -- the machine values that both functions are given behind a `Reached`
 abbrev lentArguments : ProgramPlaces → LentSizes → List Val

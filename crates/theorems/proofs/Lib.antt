@@ -5,6 +5,7 @@ pub mod Runs
 pub mod SessionStart
 pub mod SessionOneRun
 pub mod EveryRun
+pub mod BothRun
 -- of lines and milliseconds
 pub mod LineRuns
 -- of the session program's functions

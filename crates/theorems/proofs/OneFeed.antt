@@ -23,6 +23,7 @@ use denote.Triple.End.{Fins, lastsOf}
 use Rattle.running.specs.Slices.{shr, mut, Slice, Ids, LastValues, valsOf, valOf, refOf, lifetimesOf, sharesOf, referencesOf, passedOf, Rooms, ownAs, ownsOf, leftsOf, toksOf}
 use Rattle.running.specs.Machine.{Pr, A₀, 𝓡₀, W₀, Cells, _∗_, _⊨_, Enters, Leaves, asks, leaves-by, Ran, runs, bytesAt}
 use Rattle.mcx11.specs.Contract.{Memory, memory}
+use Rattle.ledger.specs.Config.{controller}
 use Rattle.mcx11.specs.Sizes.{Full}
 use Rattle.feeding.specs.declared.Stage.{Stage}
 use Rattle.feeding.specs.declared.Stage.the-variants.{First, Running, Ended}
@@ -75,7 +76,7 @@ lentSlices p x = bytesAt mut (p .line) (x .line) ∷ memorySlices p x
 
 -- ---- `feed`, with the block b
 abbrev pub FeedAsks : List ℕ → Reached → Lent → Type 0
-FeedAsks b r x = (r .next ≤ length b) × (r .held ≤ most) × (r .printed ≤ 41 * r .next) × (41 * length b ≤ length (x .out)) × (most ≤ length (x .line)) × Full (x .memory)
+FeedAsks b r x = (r .next ≤ length b) × (r .held ≤ most) × (r .printed ≤ 41 * r .next) × (41 * length b ≤ length (x .out)) × (most ≤ length (x .line)) × Full controller (x .memory)
 
 abbrev pub FeedGives : List ℕ → Reached → Lent → Reached → Lent → Type 0
 FeedGives b r x r' x' = (r' .next ≡ length b) × (r' .held ≤ most) × (r' .printed ≤ length (x .out)) × Feeds (drop (r .next) b) r x r' x'
@@ -122,7 +123,7 @@ module _ (p : ProgramPlaces) (b : List ℕ) (r : Reached) (x : Lent) where
 
 -- ---- `finish`
 abbrev pub FinishAsks : Reached → Lent → Type 0
-FinishAsks r x = (r .held ≤ most) × (r .printed + 41 ≤ length (x .out)) × (most ≤ length (x .line)) × Full (x .memory)
+FinishAsks r x = (r .held ≤ most) × (r .printed + 41 ≤ length (x .out)) × (most ≤ length (x .line)) × Full controller (x .memory)
 
 abbrev pub FinishGives : Reached → Lent → (out' : List ℕ) → ℕ → Type 0
 FinishGives r x out' n = (n ≤ r .printed + 41) × Ends r x out' n

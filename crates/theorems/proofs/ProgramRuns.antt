@@ -17,7 +17,8 @@ use Rattle.running.specs.Memories.{inARow}
 use Rattle.running.specs.Machine.{Pr, Cells, _∗_, weaken, begins, cells-append, bytesAt}
 use Rattle.ledger.specs.Lines.{output}
 use Rattle.ledger.specs.Theorems.Parts.{Every}
-use Rattle.mcx11.specs.Contract.{Memory}
+use Rattle.mcx11.specs.Contract.{Memory, Sizes}
+use Rattle.ledger.specs.Config.{controller}
 use Rattle.mcx11.specs.Sizes.{Full, full-sizes, sizes-full, full-kept}
 use Rattle.feeding.specs.declared.Reached.{Reached}
 use Rattle.feeding.specs.Line.{most}
@@ -25,7 +26,7 @@ use Rattle.feeding.specs.Feeds as feeding
 use Rattle.feeding.specs.Feeds.{Lent}
 use Rattle.feeding.proofs.Session as calls
 use Rattle.feeding.proofs.Session.{session}
-use Rattle.theorems.proofs.Runs.{Sizes, sizesOf, FitsBuffer}
+use Rattle.theorems.proofs.Runs.{lengthsOf, FitsBuffer}
 use Rattle.theorems.proofs.SessionStart.{Lendable, room}
 use Rattle.theorems.proofs.EveryRun.{bytes-set}
 use Rattle.theorems.proofs.OneFeed.{ProgramPlaces, lentSlices}
@@ -46,7 +47,7 @@ pub record ProgramStarts (x : Lent) (d : List ℕ) : Type 0 where
   pub longest : most ≤ length (x .line)
   pub room : 41 * length d ≤ length (x .out)
   pub least : 41 ≤ length (x .out)
-  pub full : Full (x .memory)
+  pub full : Full controller (x .memory)
 
 abbrev laid : Lent → List ℕ → List (Kind × List ℕ)
 laid x d = (mut, x .line) ∷ (mut, x .memory .config) ∷ (mut, x .memory .tables) ∷ (mut, x .memory .slots) ∷ (mut, x .memory .timers) ∷ (mut, x .memory .answer) ∷ (mut, x .out) ∷ (mut, d) ∷ []
@@ -64,9 +65,9 @@ programPlaces x =
     let o : ℕ = a + length (x .memory .answer) in
     record { blocks = record { buffer = (0, o + length (x .out)); config = (0, c); tables = (0, t); slots = (0, s); timers = (0, w); answer = (0, a) }; line = (0, 0); out = (0, o) }
 
-full-as : (m₀ m : Memory) → Full m₀ → sizesOf m ≡ sizesOf m₀ → Full m
+full-as : (m₀ m : Memory) → Full controller m₀ → lengthsOf m ≡ lengthsOf m₀ → Full controller m
 full-as m₀ m f e =
-    full-sizes m (full-kept (record { config = ap (λ (k : Sizes). k .config) e; tables = ap (λ (k : Sizes). k .tables) e; slots = ap (λ (k : Sizes). k .slots) e; timers = ap (λ (k : Sizes). k .timers) e; answer = ap (λ (k : Sizes). k .answer) e }) ∙ sizes-full m₀ f)
+    full-sizes controller m (full-kept controller (record { config = ap (λ (k : Sizes). k .config) e; tables = ap (λ (k : Sizes). k .tables) e; slots = ap (λ (k : Sizes). k .slots) e; timers = ap (λ (k : Sizes). k .timers) e; answer = ap (λ (k : Sizes). k .answer) e }) ∙ sizes-full controller m₀ f)
 
 pub prints : (x : Lent) (d : List ℕ) → ProgramStarts x d → {blocks : List (List ℕ)} → Every (FitsBuffer (length d)) blocks
     → ∥ Printed (programPlaces x) (lentSizes x) (programStart x d) feeding.begun x blocks ∥₁

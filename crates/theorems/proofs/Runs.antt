@@ -1,5 +1,5 @@
--- Runs of `mcx11_configure_blocks` and `mcx11_frame_blocks` on the machine, one after the other in one memory. Before each call the
--- host stores the call's bytes into its one buffer.
+-- Runs of an executive's two functions on the machine, one after the other in one memory. Before each call the host stores the call's
+-- bytes into its one buffer.
 --     CallRuns       one call: the stores, the run of the function's routine, and the bytes that the machine then loads
 --     SessionRuns    a configuration and a list of frames, each call from the memory in which the one before it ended
 --     feeds          from every memory that holds the blocks and the buffer, there are such runs of frames, and each call is as
@@ -27,23 +27,14 @@ use Rattle.running.specs.Stores.{Stores}
 use Rattle.running.specs.Machine.{Pr, Cells, _∗_, _⊨_, weaken, held-loads, bytesAt}
 use Rattle.running.specs.Buffer.{Buffer, overwritten, as-long, Front, Rest, stored, lent-again}
 use Rattle.ledger.specs.Theorems.Parts.{Every, nil, cons}
-use Rattle.mcx11.specs.Contract.{Memory, Configures, Frames}
+use Rattle.mcx11.specs.Contract.{Memory, Sizes, Configures, Frames}
 use Rattle.mcx11.specs.Answer.{answerOf}
 use Rattle.theorems.specs.Calls as contracts
-use Rattle.theorems.proofs.OneCall.{Places, leftByConfigure, configure-runs, leftByFrame, frame-runs}
-use Rattle.mcx11.proofs.entries.mcx11_configure_blocks.Symbol as configure-symbol
-use Rattle.mcx11.proofs.entries.mcx11_frame_blocks.Symbol as frame-symbol
+use Rattle.theorems.proofs.OneCall.{Places, leftByConfigure, leftByFrame, Executive}
 
 -- how many bytes each block has
-pub record Sizes : Type 0 where
-  pub config : ℕ
-  pub tables : ℕ
-  pub slots : ℕ
-  pub timers : ℕ
-  pub answer : ℕ
-
-abbrev pub sizesOf : Memory → Sizes
-sizesOf m = record { config = length (m .config); tables = length (m .tables); slots = length (m .slots); timers = length (m .timers); answer = length (m .answer) }
+abbrev pub lengthsOf : Memory → Sizes
+lengthsOf m = record { config = length (m .config); tables = length (m .tables); slots = length (m .slots); timers = length (m .timers); answer = length (m .answer) }
 
 -- the machine values that a call of either function is given: the first n bytes of the buffer, and the five blocks
 abbrev pub arguments : Places → Sizes → ℕ → List Val
@@ -54,7 +45,7 @@ blocksOf q m = bytesAt mut (q .config) (m .config) ∷ bytesAt mut (q .tables) (
 
 -- the machine's memory σ holds the bytes m at the places q, as many as s says: each is what the machine loads there
 pub record Lies (q : Places) (s : Sizes) (σ : machine.Memory) (m : Memory) : Type 0 where
-  pub sizes : sizesOf m ≡ s
+  pub sizes : lengthsOf m ≡ s
   pub loads : LoadsAll σ (blocksOf q m)
   pub bytes : AreBytes (blocksOf q m)
 
@@ -66,22 +57,23 @@ pub record CallRuns (ρ : Routine) (q : Places) (s : Sizes) (f : List ℕ) (σ �
   pub run : ρ .step fuel (arguments q s (length f)) between ≡ ended (vint w8 r, σ')
   pub lies : Lies q s σ' m'
 
-abbrev pub ConfigureRuns : Places → Sizes → List ℕ → machine.Memory → machine.Memory → Memory → ℕ → Type 0
-ConfigureRuns = CallRuns configure-symbol.routine
+module _ (e : Executive) where
+  abbrev pub ConfigureRuns : Places → Sizes → List ℕ → machine.Memory → machine.Memory → Memory → ℕ → Type 0
+  ConfigureRuns = CallRuns (e .configure)
 
-abbrev pub FrameRuns : Places → Sizes → List ℕ → machine.Memory → machine.Memory → Memory → ℕ → Type 0
-FrameRuns = CallRuns frame-symbol.routine
+  abbrev pub FrameRuns : Places → Sizes → List ℕ → machine.Memory → machine.Memory → Memory → ℕ → Type 0
+  FrameRuns = CallRuns (e .frame)
 
 -- frames, one after the other: from σ, where the blocks hold m, to σ' and m', with these answers and numbers
-pub data FramesRun (q : Places) (s : Sizes) : (σ : machine.Memory) (m : Memory) (frames answers : List (List ℕ)) (numbers : List ℕ) (σ' : machine.Memory) (m' : Memory) → Type 0 where
-  none : {σ : machine.Memory} {m : Memory} → FramesRun q s σ m [] [] [] σ m
+pub data FramesRun (e : Executive) (q : Places) (s : Sizes) : (σ : machine.Memory) (m : Memory) (frames answers : List (List ℕ)) (numbers : List ℕ) (σ' : machine.Memory) (m' : Memory) → Type 0 where
+  none : {σ : machine.Memory} {m : Memory} → FramesRun e q s σ m [] [] [] σ m
   call : {f : List ℕ} {σ σ₁ σ' : machine.Memory} {m m₁ m' : Memory} {r : ℕ} {fs answers : List (List ℕ)} {numbers : List ℕ}
-      → FrameRuns q s f σ σ₁ m₁ r → FramesRun q s σ₁ m₁ fs answers numbers σ' m' → FramesRun q s σ m (f ∷ fs) (answerOf m₁ ∷ answers) (r ∷ numbers) σ' m'
+      → FrameRuns e q s f σ σ₁ m₁ r → FramesRun e q s σ₁ m₁ fs answers numbers σ' m' → FramesRun e q s σ m (f ∷ fs) (answerOf m₁ ∷ answers) (r ∷ numbers) σ' m'
 
 -- a configuration, and then frames
-pub data SessionRuns (q : Places) (s : Sizes) (σ : machine.Memory) (g : List ℕ) (frames : List (List ℕ)) : (answers : List (List ℕ)) (numbers : List ℕ) (σ' : machine.Memory) (m' : Memory) → Type 0 where
+pub data SessionRuns (e : Executive) (q : Places) (s : Sizes) (σ : machine.Memory) (g : List ℕ) (frames : List (List ℕ)) : (answers : List (List ℕ)) (numbers : List ℕ) (σ' : machine.Memory) (m' : Memory) → Type 0 where
   session : {σ₁ σ' : machine.Memory} {m₁ m' : Memory} {r : ℕ} {answers : List (List ℕ)} {numbers : List ℕ}
-      → ConfigureRuns q s g σ σ₁ m₁ r → FramesRun q s σ₁ m₁ frames answers numbers σ' m' → SessionRuns q s σ g frames (answerOf m₁ ∷ answers) (r ∷ numbers) σ' m'
+      → ConfigureRuns e q s g σ σ₁ m₁ r → FramesRun e q s σ₁ m₁ frames answers numbers σ' m' → SessionRuns e q s σ g frames (answerOf m₁ ∷ answers) (r ∷ numbers) σ' m'
 
 -- ---- one call, from a memory that holds the blocks and a buffer of n bytes
 
@@ -115,7 +107,7 @@ pub record Called (ρ : Routine) (q : Places) (s : Sizes) (f : List ℕ) (Φ : M
   pub holds : last ⊨ Cells (blocksOf q memory) ∗ (Buffer (q .buffer) buffer ∗ F)
 
 module _ (q : Places) (s : Sizes) (rooms : RoomsAt s) (n : ℕ) (small : n < 2 ^ 63) (f : List ℕ) (fits : FitsBuffer n f)
-    (m : Memory) (sized : sizesOf m ≡ s) (d : List ℕ) (whole : length d ≡ n) (σ : machine.Memory) (F : Pr)
+    (m : Memory) (sized : lengthsOf m ≡ s) (d : List ℕ) (whole : length d ≡ n) (σ : machine.Memory) (F : Pr)
     (held : σ ⊨ Cells (blocksOf q m) ∗ (Buffer (q .buffer) d ∗ F)) where
   room : Room u8 (length f)
   room = (omega (arith, fits .size), omega (arith, fits .size))
@@ -152,47 +144,48 @@ module _ (q : Places) (s : Sizes) (rooms : RoomsAt s) (n : ℕ) (small : n < 2 ^
       }
 
   -- the same sizes as before
-  sizes : (ρ : Routine) {σ₀ σ' : machine.Memory} {v : Val} {k : ℕ} → ρ .step k (arguments q (sizesOf m) (length f)) σ₀ ≡ ended (v, σ') → ρ .step k (arguments q s (length f)) σ₀ ≡ ended (v, σ')
+  sizes : (ρ : Routine) {σ₀ σ' : machine.Memory} {v : Val} {k : ℕ} → ρ .step k (arguments q (lengthsOf m) (length f)) σ₀ ≡ ended (v, σ') → ρ .step k (arguments q s (length f)) σ₀ ≡ ended (v, σ')
   sizes ρ {σ₀} {σ'} {v} {k} e = subst (λ (z : Sizes). ρ .step k (arguments q z (length f)) σ₀ ≡ ended (v, σ')) sized e
 
-  pub configure-called : ∥ Called configure-symbol.routine q s f (λ m' r. Configures f m m' r) n σ F ∥₁
-  configure-called =
-      ∥∥₁-elim kept ∥∥₁-prop (λ t.
-      ∥∥₁-map (configure-runs q f m (room, subst RoomsAt (sym sized) rooms) (t .0) (rest ∗ F) (t .2)) (λ k.
-      let m' : Memory = leftByConfigure q f m (k .last) in
-      let e : sizesOf m' ≡ s = (λ i. record { config = k .same .1 .0 i; tables = k .same .1 .1 .0 i; slots = k .same .1 .1 .1 .0 i; timers = k .same .1 .1 .1 .1 .0 i; answer = k .same .1 .1 .1 .1 .1 .0 i }) ∙ sized in
-      let stop : Stopped configure-symbol.routine q s f σ = record { between = t .0; stores = t .1; fuel = k .fuel; value = k .value; last = k .memory; run = sizes configure-symbol.routine (k .run) } in
-      called configure-symbol.routine (λ m' r. Configures f m m' r) stop m' (k .result) (ap only (k .is .0)) (record { sizes = e; loads = k .loads .1; bytes = k .bytes .1 }) (k .says) (k .is .1) (k .holds)))
+  module _ (x : Executive) where
+    pub configure-called : ∥ Called (x .configure) q s f (λ m' r. Configures (x .limits) f m m' r) n σ F ∥₁
+    configure-called =
+        ∥∥₁-elim kept ∥∥₁-prop (λ t.
+        ∥∥₁-map (x .configures q f m (room, subst RoomsAt (sym sized) rooms) (t .0) (rest ∗ F) (t .2)) (λ k.
+        let m' : Memory = leftByConfigure q f m (k .last) in
+        let e : lengthsOf m' ≡ s = (λ i. record { config = k .same .1 .0 i; tables = k .same .1 .1 .0 i; slots = k .same .1 .1 .1 .0 i; timers = k .same .1 .1 .1 .1 .0 i; answer = k .same .1 .1 .1 .1 .1 .0 i }) ∙ sized in
+        let stop : Stopped (x .configure) q s f σ = record { between = t .0; stores = t .1; fuel = k .fuel; value = k .value; last = k .memory; run = sizes (x .configure) (k .run) } in
+        called (x .configure) (λ m' r. Configures (x .limits) f m m' r) stop m' (k .result) (ap only (k .is .0)) (record { sizes = e; loads = k .loads .1; bytes = k .bytes .1 }) (k .says) (k .is .1) (k .holds)))
 
-  pub frame-called : ∥ Called frame-symbol.routine q s f (λ m' r. Frames f m m' r) n σ F ∥₁
-  frame-called =
-      ∥∥₁-elim kept ∥∥₁-prop (λ t.
-      ∥∥₁-map (frame-runs q f m (room, subst RoomsAt (sym sized) rooms) (t .0) (rest ∗ F) (t .2)) (λ k.
-      let m' : Memory = leftByFrame q f m (k .last) in
-      let e : sizesOf m' ≡ s = (λ i. record { config = length (m .config); tables = k .same .1 .1 .0 i; slots = k .same .1 .1 .1 .0 i; timers = k .same .1 .1 .1 .1 .0 i; answer = k .same .1 .1 .1 .1 .1 .0 i }) ∙ sized in
-      let stop : Stopped frame-symbol.routine q s f σ = record { between = t .0; stores = t .1; fuel = k .fuel; value = k .value; last = k .memory; run = sizes frame-symbol.routine (k .run) } in
-      called frame-symbol.routine (λ m' r. Frames f m m' r) stop m' (k .result) (ap only (k .is .0)) (record { sizes = e; loads = k .loads .1; bytes = k .bytes .1 }) (k .says) (k .is .1) (k .holds)))
+    pub frame-called : ∥ Called (x .frame) q s f (λ m' r. Frames (x .limits) f m m' r) n σ F ∥₁
+    frame-called =
+        ∥∥₁-elim kept ∥∥₁-prop (λ t.
+        ∥∥₁-map (x .frames q f m (room, subst RoomsAt (sym sized) rooms) (t .0) (rest ∗ F) (t .2)) (λ k.
+        let m' : Memory = leftByFrame q f m (k .last) in
+        let e : lengthsOf m' ≡ s = (λ i. record { config = length (m .config); tables = k .same .1 .1 .0 i; slots = k .same .1 .1 .1 .0 i; timers = k .same .1 .1 .1 .1 .0 i; answer = k .same .1 .1 .1 .1 .1 .0 i }) ∙ sized in
+        let stop : Stopped (x .frame) q s f σ = record { between = t .0; stores = t .1; fuel = k .fuel; value = k .value; last = k .memory; run = sizes (x .frame) (k .run) } in
+        called (x .frame) (λ m' r. Frames (x .limits) f m m' r) stop m' (k .result) (ap only (k .is .0)) (record { sizes = e; loads = k .loads .1; bytes = k .bytes .1 }) (k .says) (k .is .1) (k .holds)))
 
 -- ---- a list of frames
-pub record FramesRan (q : Places) (s : Sizes) (O : List Slice) (σ : machine.Memory) (m : Memory) (fs : List (List ℕ)) : Type 0 where
+pub record FramesRan (x : Executive) (q : Places) (s : Sizes) (O : List Slice) (σ : machine.Memory) (m : Memory) (fs : List (List ℕ)) : Type 0 where
   pub answers : List (List ℕ)
   pub numbers : List ℕ
   pub last : machine.Memory
   pub memory : Memory
-  pub runs : FramesRun q s σ m fs answers numbers last memory
-  pub calls : contracts.FrameCalls m fs answers numbers memory
+  pub runs : FramesRun x q s σ m fs answers numbers last memory
+  pub calls : contracts.FrameCalls (x .limits) m fs answers numbers memory
   pub others : LoadsAll last O
 
 -- O is what else lies in the memory
-pub feeds : (q : Places) (s : Sizes) → RoomsAt s → (n : ℕ) → n < 2 ^ 63 → {fs : List (List ℕ)} → Every (FitsBuffer n) fs → (O : List Slice) (m : Memory) → sizesOf m ≡ s
-    → (d : List ℕ) → length d ≡ n → (σ : machine.Memory) (F : Pr) → σ ⊨ Cells (blocksOf q m) ∗ (Buffer (q .buffer) d ∗ (Cells O ∗ F)) → ∥ FramesRan q s O σ m fs ∥₁
-feeds q s rooms n small nil O m e d w σ F h =
+pub feeds : (x : Executive) (q : Places) (s : Sizes) → RoomsAt s → (n : ℕ) → n < 2 ^ 63 → {fs : List (List ℕ)} → Every (FitsBuffer n) fs → (O : List Slice) (m : Memory) → lengthsOf m ≡ s
+    → (d : List ℕ) → length d ≡ n → (σ : machine.Memory) (F : Pr) → σ ⊨ Cells (blocksOf q m) ∗ (Buffer (q .buffer) d ∗ (Cells O ∗ F)) → ∥ FramesRan x q s O σ m fs ∥₁
+feeds x q s rooms n small nil O m e d w σ F h =
     let B : Pr = Cells (blocksOf q m) in
     ∥∥₁-map (held-loads σ O F (weaken σ (via closed.𝓤 (Buffer (q .buffer) d ∗ (Cells O ∗ F)) (snd∗ closed.𝓤 B (Buffer (q .buffer) d ∗ (Cells O ∗ F))) (snd∗ closed.𝓤 (Buffer (q .buffer) d) (Cells O ∗ F))) h)) (λ o.
     record { answers = []; numbers = []; last = σ; memory = m; runs = none; calls = contracts.none; others = o })
-feeds q s rooms n small (cons {x = f} l ls) O m e d w σ F h =
-    ∥∥₁-elim (frame-called q s rooms n small f l m e d w σ (Cells O ∗ F) h) ∥∥₁-prop (λ k.
-    ∥∥₁-map (feeds q s rooms n small ls O (k .memory) (k .runs .lies .sizes) (k .buffer) (k .size) (k .last) F (k .holds)) (λ t.
+feeds x q s rooms n small (cons {x = f} l ls) O m e d w σ F h =
+    ∥∥₁-elim (frame-called q s rooms n small f l m e d w σ (Cells O ∗ F) h x) ∥∥₁-prop (λ k.
+    ∥∥₁-map (feeds x q s rooms n small ls O (k .memory) (k .runs .lies .sizes) (k .buffer) (k .size) (k .last) F (k .holds)) (λ t.
     record {
       answers = answerOf (k .memory) ∷ t .answers;
       numbers = k .result ∷ t .numbers;

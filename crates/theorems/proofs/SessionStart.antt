@@ -1,5 +1,5 @@
 -- The memory with which a run begins: the five blocks, the host's buffer and any other bytes, side by side, whatever they are. From
--- there one call of either function has a run, as its contract says.
+-- there one call of either function of an executive has a run, as its contract says.
 use Prim.Native.Nat.{ℕ, _+_, _<_, _^_}
 use mathlib.Core.Path.{refl}
 use mathlib.Core.List.{List, [], _∷_}
@@ -17,10 +17,8 @@ use Rattle.running.specs.Slices.{Kind, shr, mut, Slice}
 use Rattle.running.specs.Memories.{inARow}
 use Rattle.running.specs.Machine.{Pr, Cell, Cells, _∗_, _⊨_, weaken, begins, cells-append, bytesAt}
 use Rattle.mcx11.specs.Contract.{Memory, Configures, Frames}
-use Rattle.theorems.proofs.OneCall.{Places}
-use Rattle.theorems.proofs.Runs.{sizesOf, blocksOf, FitsBuffer, RoomsAt, Called, configure-called, frame-called}
-use Rattle.mcx11.proofs.entries.mcx11_configure_blocks.Symbol as configure-symbol
-use Rattle.mcx11.proofs.entries.mcx11_frame_blocks.Symbol as frame-symbol
+use Rattle.theorems.proofs.OneCall.{Places, Executive}
+use Rattle.theorems.proofs.Runs.{lengthsOf, blocksOf, FitsBuffer, RoomsAt, Called, configure-called, frame-called}
 
 -- bytes that a slice can lend
 pub record Lendable (d : List ℕ) : Type 0 where
@@ -67,7 +65,7 @@ module _ (m : Memory) (d o : List ℕ) (b : SessionStarts m d o) where
   abbrev pub others : List Slice
   others = bytesAt shr (0, othersAt m d) o ∷ []
 
-  pub rooms : RoomsAt (sizesOf m)
+  pub rooms : RoomsAt (lengthsOf m)
   rooms = (room (b .config), (room (b .tables), (room (b .slots), (room (b .timers), (room (b .answer), tt)))))
 
   held : sessionStart m d o ⊨ Cells (blocksOf q m) ∗ (Cell (bytesAt mut (q .buffer) d) ∗ (Cells others ∗ emp closed.𝓤))
@@ -80,10 +78,11 @@ module _ (m : Memory) (d o : List ℕ) (b : SessionStarts m d o) where
       (via closed.𝓤 (B ∗ ((D ∗ O) ∗ emp closed.𝓤)) (assoc∗ closed.𝓤 B (D ∗ O) (emp closed.𝓤)) (monoR closed.𝓤 B (assoc∗ closed.𝓤 D O (emp closed.𝓤)))))
       (begins (laid m d o) (b .config .bytes, (b .tables .bytes, (b .slots .bytes, (b .timers .bytes, (b .answer .bytes, (b .buffer .bytes, (b .others, tt))))))))
 
-  pub frame-runs-from : {f : List ℕ} → FitsBuffer (length d) f
-      → ∥ Called frame-symbol.routine q (sizesOf m) f (λ m' r. Frames f m m' r) (length d) (sessionStart m d o) (Cells others ∗ emp closed.𝓤) ∥₁
-  frame-runs-from {f} l = frame-called q (sizesOf m) rooms (length d) (b .buffer .size) f l m refl d refl (sessionStart m d o) (Cells others ∗ emp closed.𝓤) held
+  module _ (x : Executive) where
+    pub frame-runs-from : {f : List ℕ} → FitsBuffer (length d) f
+        → ∥ Called (x .frame) q (lengthsOf m) f (λ m' r. Frames (x .limits) f m m' r) (length d) (sessionStart m d o) (Cells others ∗ emp closed.𝓤) ∥₁
+    frame-runs-from {f} l = frame-called q (lengthsOf m) rooms (length d) (b .buffer .size) f l m refl d refl (sessionStart m d o) (Cells others ∗ emp closed.𝓤) held x
 
-  pub configure-runs-from : {g : List ℕ} → FitsBuffer (length d) g
-      → ∥ Called configure-symbol.routine q (sizesOf m) g (λ m' r. Configures g m m' r) (length d) (sessionStart m d o) (Cells others ∗ emp closed.𝓤) ∥₁
-  configure-runs-from {g} l = configure-called q (sizesOf m) rooms (length d) (b .buffer .size) g l m refl d refl (sessionStart m d o) (Cells others ∗ emp closed.𝓤) held
+    pub configure-runs-from : {g : List ℕ} → FitsBuffer (length d) g
+        → ∥ Called (x .configure) q (lengthsOf m) g (λ m' r. Configures (x .limits) g m m' r) (length d) (sessionStart m d o) (Cells others ∗ emp closed.𝓤) ∥₁
+    configure-runs-from {g} l = configure-called q (lengthsOf m) rooms (length d) (b .buffer .size) g l m refl d refl (sessionStart m d o) (Cells others ∗ emp closed.𝓤) held x

@@ -1,4 +1,4 @@
--- Two executives that meet the contract don't differ: what each call leaves is the same function of a ledger that the memory shows, every
+-- Two executives with the same limits that meet the contract don't differ: what each call leaves is the same function of a ledger that the memory shows, every
 -- memory that is lent well shows one, and whether a memory is lent well is told by what it shows.
 use Prim.Native.Nat.{ℕ, _+_}
 use mathlib.Core.Path.{_≡_, refl, ap, ap₂, sym, _∙_, subst}
@@ -7,17 +7,18 @@ use mathlib.Core.List.{List, _∷_}
 use native.Mathlib.Decide.{ℕ-discrete}
 use lib.ListN.{getD}
 use Rattle.rows.specs.Splice.{cut}
-use Rattle.ledger.specs.Config.{Config, controller, configIn, configRefusal}
+use Rattle.ledger.specs.Config.{Config, Limits, configIn, configRefusalBy}
 use Rattle.ledger.specs.Ledger.{Ledger, fresh}
 use Rattle.ledger.specs.Session.{Items, items, step}
 use Rattle.tables.specs.Shows.{no-tidy}
 use Rattle.mailboxes.specs.Room.{soundIn}
 use Rattle.mailboxes.specs.Whole.{sound-same}
+use Rattle.configuration.specs.Limits.{Made}
 use Rattle.configuration.specs.Block.{frameRule}
 use Rattle.parts.specs.Parts.{keptFrame}
 use Rattle.configuration.specs.Layout.{shapeOf}
 use Rattle.answer.specs.Written.{written}
-use Rattle.mcx11.specs.Contract.{Memory, sizesOf, fullSize, isMarked, configOf, tablesPart, slotsPart, timersPart, messagesSound, lentWellFor, lentWell, Displays, Configures, Goes, Frames}
+use Rattle.mcx11.specs.Contract.{Memory, sizesOf, fullSize, isMarked, configOf, tablesPart, slotsPart, timersPart, messagesSound, lentWell, Displays, Configures, Goes, Frames}
 use Rattle.mcx11.specs.Sizes.{full-kept, well-full, well-frame}
 use Rattle.mcx11.specs.Kept.{marks-stay, config-stays, begins-config}
 use Rattle.mcx11.specs.Answer.{answerOf}
@@ -39,15 +40,15 @@ shown-both c l m₁ m₂ e₁ e₂ h₁ h₂ =
 -- ---- from memories that are alike
 
 -- what the executive can tell of a memory: whether it has the sizes and the marks, its configuration's frame, its answer and its items
-pub record Indistinct (m₁ m₂ : Memory) : Type 0 where
-  pub sizes : fullSize m₁ ≡ fullSize m₂
-  pub marks : isMarked (sizesOf controller) m₁ ≡ isMarked (sizesOf controller) m₂
+pub record Indistinct (k : Limits) (m₁ m₂ : Memory) : Type 0 where
+  pub sizes : fullSize k m₁ ≡ fullSize k m₂
+  pub marks : isMarked (sizesOf k) m₁ ≡ isMarked (sizesOf k) m₂
   pub frames : keptFrame (m₁ .config) ≡ keptFrame (m₂ .config)
   pub answers : m₁ .answer ≡ m₂ .answer
   pub items : itemsOf m₁ ≡ itemsOf m₂
 
-alike-self : (m : Memory) → Indistinct m m
-alike-self m = record { sizes = refl; marks = refl; frames = refl; answers = refl; items = refl }
+alike-self : (k : Limits) (m : Memory) → Indistinct k m m
+alike-self k m = record { sizes = refl; marks = refl; frames = refl; answers = refl; items = refl }
 
 -- what the one shows, the other shows
 displays-both : (c : Config) (l k : Ledger) (m₁ m₂ : Memory) → itemsIn c m₁ ≡ itemsIn c m₂ → Displays c l m₁ → Displays c k m₂ → Displays c l m₂
@@ -71,7 +72,7 @@ displays-both c l k m₁ m₂ e h g =
       };
     }
 
-module _ {m m' : Memory} (a : Indistinct m m') where
+module _ (k : Limits) (made : Made k) {m m' : Memory} (a : Indistinct k m m') where
   abbrev c : Config
   c = configOf m
 
@@ -81,55 +82,55 @@ module _ {m m' : Memory} (a : Indistinct m m') where
 
   items-alike : itemsIn c m ≡ itemsIn c m'
   unfolding itemsOf
-  items-alike = a .items ∙ ap (λ (k : Config). itemsIn k m') (sym configs)
+  items-alike = a .items ∙ ap (λ (x : Config). itemsIn x m') (sym configs)
 
   abbrev keeps : Bool
-  keeps = frameRule controller (keptFrame (m .config))
+  keeps = frameRule k (keptFrame (m .config))
 
-  module _ (full : fullSize m ≡ true) (kept : keeps ≡ true) where
+  module _ (full : fullSize k m ≡ true) (kept : keeps ≡ true) where
     ledger-alike : Displays c (ledgerIn m) m'
     ledger-alike =
-        let k : Displays (configOf m') (ledgerIn m') m' = displays-ledger m' (sym (a .sizes) ∙ full) (ap (frameRule controller) (sym (a .frames)) ∙ kept) in
-        displays-both c (ledgerIn m) (ledgerIn m') m m' items-alike (displays-ledger m full kept) (subst (λ (x : Config). Displays x (ledgerIn m') m') (sym configs) k)
+        let v : Displays (configOf m') (ledgerIn m') m' = displays-ledger k made m' (sym (a .sizes) ∙ full) (ap (frameRule k) (sym (a .frames)) ∙ kept) in
+        displays-both c (ledgerIn m) (ledgerIn m') m m' items-alike (displays-ledger k made m full kept) (subst (λ (x : Config). Displays x (ledgerIn m') m') (sym configs) v)
 
     messages-alike : messagesSound c (tablesPart c m) ≡ messagesSound c (tablesPart c m')
     unfolding messagesSound soundIn Displays
     messages-alike =
-        sound-same c (shapeOf c) (ledgerIn m) (tablesPart c m) (slotsPart c m) (timersPart c m) (tablesPart c m') (slotsPart c m') (timersPart c m') (displays-ledger m full kept) ledger-alike
+        sound-same c (shapeOf c) (ledgerIn m) (tablesPart c m) (slotsPart c m) (timersPart c m) (tablesPart c m') (slotsPart c m') (timersPart c m') (displays-ledger k made m full kept) ledger-alike
 
   -- both are lent well, or neither is
-  well-alike : lentWell m ≡ lentWell m'
-  unfolding lentWell lentWellFor fullSize
+  well-alike : lentWell k m ≡ lentWell k m'
+  unfolding lentWell
   well-alike =
-      go (fullSize m) refl (isMarked (sizesOf controller) m) keeps refl
-      ∙ (λ i. a .sizes i && a .marks i && frameRule controller (a .frames i) && messagesSound (configs i) (tablesPart (configs i) m'))
+      go (fullSize k m) refl (isMarked (sizesOf k) m) keeps refl
+      ∙ (λ i. a .sizes i && a .marks i && frameRule k (a .frames i) && messagesSound (configs i) (tablesPart (configs i) m'))
     where
-      go : (x : Bool) → fullSize m ≡ x → (k : Bool) (y : Bool) → keeps ≡ y → (x && k && y && messagesSound c (tablesPart c m)) ≡ (x && k && y && messagesSound c (tablesPart c m'))
-      go false e k y q = refl
+      go : (x : Bool) → fullSize k m ≡ x → (b : Bool) (y : Bool) → keeps ≡ y → (x && b && y && messagesSound c (tablesPart c m)) ≡ (x && b && y && messagesSound c (tablesPart c m'))
+      go false e b y q = refl
       go true e false y q = refl
       go true e true false q = refl
       go true e true true q = messages-alike e q
 
-  pub frames-alike : {f : List ℕ} {m₁ m₂ : Memory} {r₁ r₂ : ℕ} → Frames f m m₁ r₁ → Frames f m' m₂ r₂ → (r₁ ≡ r₂) × Indistinct m₁ m₂
-  frames-alike {f} {m₁} {m₂} {r₁} {r₂} s₁ s₂ = go (lentWell m) refl
+  pub frames-alike : {f : List ℕ} {m₁ m₂ : Memory} {r₁ r₂ : ℕ} → Frames k f m m₁ r₁ → Frames k f m' m₂ r₂ → (r₁ ≡ r₂) × Indistinct k m₁ m₂
+  frames-alike {f} {m₁} {m₂} {r₁} {r₂} s₁ s₂ = go (lentWell k m) refl
     where
-      go : (b : Bool) → lentWell m ≡ b → (r₁ ≡ r₂) × Indistinct m₁ m₂
+      go : (b : Bool) → lentWell k m ≡ b → (r₁ ≡ r₂) × Indistinct k m₁ m₂
       go false w =
           let x = s₁ .bad w in
           let y = s₂ .bad (sym well-alike ∙ w) in
-          (x .0 ∙ sym (y .0), subst (λ (n : Memory). Indistinct m₁ n) (sym (y .1)) (subst (λ (n : Memory). Indistinct n m') (sym (x .1)) a))
+          (x .0 ∙ sym (y .0), subst (λ (n : Memory). Indistinct k m₁ n) (sym (y .1)) (subst (λ (n : Memory). Indistinct k n m') (sym (x .1)) a))
       go true w =
           let l = ledgerIn m in
-          let w' : lentWell m' ≡ true = sym well-alike ∙ w in
-          let h : Displays c l m' = ledger-alike (well-full m w) (well-frame m w) in
-          let g₁ = s₁ .good w l (displays-some m w) in
-          let g₂ : Goes c l f m' m₂ r₂ = subst (λ (k : Config). Displays k l m' → Goes k l f m' m₂ r₂) (sym configs) (s₂ .good w' l) h in
+          let w' : lentWell k m' ≡ true = sym well-alike ∙ w in
+          let h : Displays c l m' = ledger-alike (well-full k m w) (well-frame k m w) in
+          let g₁ = s₁ .good w l (displays-some k made m w) in
+          let g₂ : Goes c l f m' m₂ r₂ = subst (λ (x : Config). Displays x l m' → Goes x l f m' m₂ r₂) (sym configs) (s₂ .good w' l) h in
           let e₁ : configOf m₁ ≡ c = config-stays s₁ in
           let e₂ : configOf m₂ ≡ c = config-stays s₂ ∙ sym configs in (
             g₁ .number ∙ sym (g₂ .number),
             record {
-              sizes = full-kept (s₁ .sizes) ∙ a .sizes ∙ sym (full-kept (s₂ .sizes));
-              marks = marks-stay m m₁ (well-full m w) (well-frame m w) (s₁ .config) (s₁ .outside w) ∙ a .marks ∙ sym (marks-stay m' m₂ (well-full m' w') (well-frame m' w') (s₂ .config) (s₂ .outside w'));
+              sizes = full-kept k (s₁ .sizes) ∙ a .sizes ∙ sym (full-kept k (s₂ .sizes));
+              marks = marks-stay k made m (well-full k m w) (well-frame k m w) m₁ (s₁ .config) (s₁ .outside w) ∙ a .marks ∙ sym (marks-stay k made m' (well-full k m' w') (well-frame k m' w') m₂ (s₂ .config) (s₂ .outside w'));
               frames = ap keptFrame (s₁ .config) ∙ a .frames ∙ sym (ap keptFrame (s₂ .config));
               answers = g₁ .answered ∙ ap (written (step c f l .answered)) (a .answers) ∙ sym (g₂ .answered);
               items = shown-both c (step c f l .ledger) m₁ m₂ e₁ e₂ (g₁ .shown) (g₂ .shown);
@@ -151,16 +152,16 @@ same-memory m m₁ m₂ r r₁ r₂ a b =
     record { numbers = a .0 ∙ sym (b .0); frames = ap (λ (x : Memory). keptFrame (x .config)) e; answers = ap (λ (x : Memory). x .answer) e; items = ap itemsOf e }
 
 -- for every frame and every memory, well lent or not
-pub frames-agree : {f : List ℕ} {m m₁ m₂ : Memory} {r₁ r₂ : ℕ} → Frames f m m₁ r₁ → Frames f m m₂ r₂ → Agree m₁ m₂ r₁ r₂
-frames-agree {m = m} s₁ s₂ =
-    let a = frames-alike (alike-self m) s₁ s₂ in
+pub frames-agree : {k : Limits} → Made k → {f : List ℕ} {m m₁ m₂ : Memory} {r₁ r₂ : ℕ} → Frames k f m m₁ r₁ → Frames k f m m₂ r₂ → Agree m₁ m₂ r₁ r₂
+frames-agree {k} made {m = m} s₁ s₂ =
+    let a = frames-alike k made (alike-self k m) s₁ s₂ in
     record { numbers = a .0; frames = a .1 .frames; answers = a .1 .answers; items = a .1 .items }
 
 -- for every configuration, accepted or not, and every memory
-pub configurations-agree : {g : List ℕ} {m m₁ m₂ : Memory} {r₁ r₂ : ℕ} → Configures g m m₁ r₁ → Configures g m m₂ r₂ → Agree m₁ m₂ r₁ r₂
-configurations-agree {g} {m} {m₁} {m₂} {r₁} {r₂} s₁ s₂ = go (fullSize m) refl
+pub configurations-agree : {k : Limits} {g : List ℕ} {m m₁ m₂ : Memory} {r₁ r₂ : ℕ} → Configures k g m m₁ r₁ → Configures k g m m₂ r₂ → Agree m₁ m₂ r₁ r₂
+configurations-agree {k} {g} {m} {m₁} {m₂} {r₁} {r₂} s₁ s₂ = go (fullSize k m) refl
   where
-    fits : fullSize m ≡ true → configRefusal g ≡ 0 → Agree m₁ m₂ r₁ r₂
+    fits : fullSize k m ≡ true → configRefusalBy k g ≡ 0 → Agree m₁ m₂ r₁ r₂
     fits f h =
         let c = configIn g in
         let a₁ = s₁ .accepted f h in
@@ -172,9 +173,9 @@ configurations-agree {g} {m} {m₁} {m₂} {r₁} {r₂} s₁ s₂ = go (fullSiz
           items = shown-both c (fresh c) m₁ m₂ (begins-config a₁) (begins-config a₂) (a₁ .shown) (a₂ .shown);
         }
 
-    go : (b : Bool) → fullSize m ≡ b → Agree m₁ m₂ r₁ r₂
+    go : (b : Bool) → fullSize k m ≡ b → Agree m₁ m₂ r₁ r₂
     go false f = same-memory m m₁ m₂ 11 r₁ r₂ (s₁ .short f) (s₂ .short f)
-    go true f = elim (ℕ-discrete (configRefusal g) 0) [ yes h ↦ fits f h | no h ↦ same-memory _ m₁ m₂ _ r₁ r₂ (s₁ .refused f h) (s₂ .refused f h) ]
+    go true f = elim (ℕ-discrete (configRefusalBy k g) 0) [ yes h ↦ fits f h | no h ↦ same-memory _ m₁ m₂ _ r₁ r₂ (s₁ .refused f h) (s₂ .refused f h) ]
 
 -- ---- a list of calls, from any memory
 
@@ -183,19 +184,19 @@ pub record AgreeOnLists (answered₁ answered₂ : List (List ℕ)) (returned₁
   pub answers : answered₁ ≡ answered₂
   pub items : itemsOf m₁ ≡ itemsOf m₂
 
-lists-alike : {m m' m₁ m₂ : Memory} {fs answered₁ answered₂ : List (List ℕ)} {returned₁ returned₂ : List ℕ} → Indistinct m m'
-    → FrameCalls m fs answered₁ returned₁ m₁ → FrameCalls m' fs answered₂ returned₂ m₂ → AgreeOnLists answered₁ answered₂ returned₁ returned₂ m₁ m₂
+lists-alike : {k : Limits} → Made k → {m m' m₁ m₂ : Memory} {fs answered₁ answered₂ : List (List ℕ)} {returned₁ returned₂ : List ℕ} → Indistinct k m m'
+    → FrameCalls k m fs answered₁ returned₁ m₁ → FrameCalls k m' fs answered₂ returned₂ m₂ → AgreeOnLists answered₁ answered₂ returned₁ returned₂ m₁ m₂
 unfolding answerOf
-lists-alike a none none = record { numbers = refl; answers = refl; items = a .items }
-lists-alike a (call s₁ more₁) (call s₂ more₂) =
-    let x = frames-alike a s₁ s₂ in
-    let rest = lists-alike (x .1) more₁ more₂ in
+lists-alike made a none none = record { numbers = refl; answers = refl; items = a .items }
+lists-alike {k} made a (call s₁ more₁) (call s₂ more₂) =
+    let x = frames-alike k made a s₁ s₂ in
+    let rest = lists-alike made (x .1) more₁ more₂ in
     record {
       numbers = ap₂ _∷_ (x .0) (rest .numbers);
       answers = ap₂ _∷_ (ap (λ (d : List ℕ). cut d 1 (1 + getD d 0 0)) (x .1 .answers)) (rest .answers);
       items = rest .items;
     }
 
-pub lists-agree : {m m₁ m₂ : Memory} {fs answered₁ answered₂ : List (List ℕ)} {returned₁ returned₂ : List ℕ}
-    → FrameCalls m fs answered₁ returned₁ m₁ → FrameCalls m fs answered₂ returned₂ m₂ → AgreeOnLists answered₁ answered₂ returned₁ returned₂ m₁ m₂
-lists-agree {m = m} s₁ s₂ = lists-alike (alike-self m) s₁ s₂
+pub lists-agree : {k : Limits} → Made k → {m m₁ m₂ : Memory} {fs answered₁ answered₂ : List (List ℕ)} {returned₁ returned₂ : List ℕ}
+    → FrameCalls k m fs answered₁ returned₁ m₁ → FrameCalls k m fs answered₂ returned₂ m₂ → AgreeOnLists answered₁ answered₂ returned₁ returned₂ m₁ m₂
+lists-agree {k} made {m = m} s₁ s₂ = lists-alike made (alike-self k m) s₁ s₂

@@ -4,38 +4,39 @@ use Prim.Native.Nat.{ℕ}
 use mathlib.Core.Path.{_≡_, refl, ap₂, sym, _∙_, subst}
 use mathlib.Core.Bool.{true}
 use mathlib.Core.List.{List, _∷_}
-use Rattle.ledger.specs.Config.{Config}
+use Rattle.ledger.specs.Config.{Config, Limits}
 use Rattle.ledger.specs.Ledger.{Ledger}
 use Rattle.ledger.specs.Session.{step, runFrom}
 use Rattle.ledger.specs.Theorems.Once.{Once, once-step}
+use Rattle.configuration.specs.Limits.{Made}
 use Rattle.mcx11.specs.Contract.{Memory, configOf, lentWell, Displays, Tidily, OutsideStays}
 use Rattle.theorems.specs.Calls.{FrameCalls, none, call}
 use Rattle.mcx11.specs.Answer.{answer-is}
 use Rattle.theorems.specs.Numbers.{numbersFrom}
 use Rattle.mcx11.specs.Kept.{config-stays, well-again}
 
-pub record FollowsLedger (c : Config) (l : Ledger) (m : Memory) (fs answered : List (List ℕ)) (returned : List ℕ) (m' : Memory) : Type 0 where
+pub record FollowsLedger (k : Limits) (c : Config) (l : Ledger) (m : Memory) (fs answered : List (List ℕ)) (returned : List ℕ) (m' : Memory) : Type 0 where
   pub config : m' .config ≡ m .config
   pub answers : answered ≡ runFrom c l fs .1
   pub numbers : returned ≡ numbersFrom c l fs
   pub shown : Displays c (runFrom c l fs .0) m'
   pub tidy : Tidily c l m → Tidily c (runFrom c l fs .0) m'
-  pub well : lentWell m' ≡ true
+  pub well : lentWell k m' ≡ true
   pub outside : OutsideStays c m m'
 
-pub follows : {m m' : Memory} {fs answered : List (List ℕ)} {returned : List ℕ} (l : Ledger)
-    → lentWell m ≡ true → Displays (configOf m) l m → Once (configOf m) (l .mailboxes) → FrameCalls m fs answered returned m' → FollowsLedger (configOf m) l m fs answered returned m'
+pub follows : {k : Limits} → Made k → {m m' : Memory} {fs answered : List (List ℕ)} {returned : List ℕ} (l : Ledger)
+    → lentWell k m ≡ true → Displays (configOf m) l m → Once (configOf m) (l .mailboxes) → FrameCalls k m fs answered returned m' → FollowsLedger k (configOf m) l m fs answered returned m'
 unfolding runFrom numbersFrom
-follows l w h o none = record { config = refl; answers = refl; numbers = refl; shown = h; tidy = λ t. t; well = w; outside = record { tables = λ i k. refl; slots = λ i k. refl; timers = λ i k. refl } }
-follows l w h o (call {f} {m} {m₁} {m'} {r} {fs} {answers} {numbers} s more) =
+follows made l w h o none = record { config = refl; answers = refl; numbers = refl; shown = h; tidy = λ t. t; well = w; outside = record { tables = λ i k. refl; slots = λ i k. refl; timers = λ i k. refl } }
+follows {k} made l w h o (call {f} {m} {m₁} {m'} {r} {fs} {answers} {numbers} s more) =
     let c = configOf m in
     let next = step c f l in
     let g = s .good w l h in
     let e : configOf m₁ ≡ c = config-stays s in
-    let h₁ : Displays (configOf m₁) (next .ledger) m₁ = subst (λ (k : Config). Displays k (next .ledger) m₁) (sym e) (g .shown) in
-    let o₁ : Once (configOf m₁) (next .ledger .mailboxes) = subst (λ (k : Config). Once k (next .ledger .mailboxes)) (sym e) (once-step c f l o) in
-    let rest : FollowsLedger c (next .ledger) m₁ fs answers numbers m' =
-    subst (λ (k : Config). FollowsLedger k (next .ledger) m₁ fs answers numbers m') e (follows (next .ledger) (well-again s l w h o) h₁ o₁ more) in
+    let h₁ : Displays (configOf m₁) (next .ledger) m₁ = subst (λ (x : Config). Displays x (next .ledger) m₁) (sym e) (g .shown) in
+    let o₁ : Once (configOf m₁) (next .ledger .mailboxes) = subst (λ (x : Config). Once x (next .ledger .mailboxes)) (sym e) (once-step c f l o) in
+    let rest : FollowsLedger k c (next .ledger) m₁ fs answers numbers m' =
+    subst (λ (x : Config). FollowsLedger k x (next .ledger) m₁ fs answers numbers m') e (follows made (next .ledger) (well-again s made l w h o) h₁ o₁ more) in
     let now = s .outside w in
     let later = rest .outside in
     record {

@@ -5,4 +5,5 @@ pub mod Same
 pub mod SomeLedger
 pub mod Agree
 pub mod OneValue
+pub mod Alike
 pub mod Shams

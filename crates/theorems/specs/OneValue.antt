@@ -1,6 +1,6 @@
 -- One value for one item: where a memory shows a ledger tidily, each byte that is no free one is a function of that ledger; the times in the timers'
--- rows are one of the ledger and of their clock's time, which is free. So two lists of calls for the same frames, from one configuration on the same
--- memory, leave the same bytes but for the free ones, and the same times but for the clock's.
+-- rows are one of the ledger and of their clock's time, which is free. So two lists of calls for the same frames, from one configuration, leave
+-- the same bytes but for the free ones, and the same times but for the clock's.
 use Prim.Native.Nat.{ℕ, zero, suc, _+_, _-_, _*_, _%_, _<_, _≤_}
 use mathlib.Core.Path.{_≡_, refl, sym, ap, _∙_}
 use mathlib.Core.Bool.{Bool, true, false}
@@ -16,7 +16,7 @@ use Rattle.rows.specs.Four.{le4}
 use Rattle.rows.specs.Tab.{tab-get, tab-length}
 use Rattle.rings.specs.Ring.{wrapOf, gather}
 use Rattle.rings.specs.Laws.{holds-length}
-use Rattle.ledger.specs.Config.{Config, configIn, configRefusal}
+use Rattle.ledger.specs.Config.{Config, Limits, configIn, configRefusal}
 use Rattle.ledger.specs.Ledger as ledger
 use Rattle.ledger.specs.Ledger.{Ledger, mailbox, queue, held}
 use Rattle.ledger.specs.Lists.{within, all, keep}
@@ -44,9 +44,8 @@ use Rattle.tables.specs.Items.{queue-is, mailbox-is}
 use Rattle.mailboxes.specs.Mail.{counter}
 use Rattle.mailboxes.specs.Whole.{counted-shown}
 use Rattle.configuration.specs.Layout.{shapeOf}
-use Rattle.mcx11.specs.Contract.{Memory, fullSize, tablesPart, slotsPart, timersPart, Tidily, Configures}
-use Rattle.theorems.specs.Calls.{FrameCalls}
-use Rattle.theorems.specs.Same.{every-list}
+use Rattle.mcx11.specs.Contract.{Memory, tablesPart, slotsPart, timersPart, Tidily}
+use Rattle.theorems.specs.Same.{Same}
 
 -- whether a task of the ledger has a block
 abbrev hasBlock : Block → ledger.Task → Bool
@@ -344,25 +343,24 @@ same-values {c} {L} a b =
           (x .0 ∙ sym (y .0), x .1 ∙ sym (y .1), x .2 ∙ sym (y .2));
     }
 
--- two executives that meet the contracts: after the same configuration, on the same memory, and the same frames they leave the same bytes in the parts,
--- but for the free ones. (Outside the parts both leave what was there: Same.outside)
-pub both-same : {g : List ℕ} {m₀ m₁ m₂ m m' : Memory} {r₁ r₂ : ℕ} {fs answered₁ answered₂ : List (List ℕ)} {returned₁ returned₂ : List ℕ}
-    → configRefusal g ≡ 0 → fullSize m₀ ≡ true → Configures g m₀ m₁ r₁ → FrameCalls m₁ fs answered₁ returned₁ m → Configures g m₀ m₂ r₂ → FrameCalls m₂ fs answered₂ returned₂ m'
+-- two executives that meet the contracts, whatever their limits are and whatever memory each is lent: after a configuration that both accept and the
+-- same frames they leave the same bytes in the parts, but for the free ones. (Outside the parts each leaves what was there: Same.outside)
+pub both-same : {k j : Limits} {g : List ℕ} {m₀ n₀ m n : Memory} {fs answered₁ answered₂ : List (List ℕ)} {returned₁ returned₂ : List ℕ}
+    → Same k g m₀ fs answered₁ returned₁ m → Same j g n₀ fs answered₂ returned₂ n
     → let c = configIn g in
     let s = shapeOf c in
-    SameBytes c (run c fs .0) (regions s (tablesPart c m)) (regions s (tablesPart c m')) (slotsPart c m) (slotsPart c m') (timersPart c m) (timersPart c m')
+    SameBytes c (run c fs .0) (regions s (tablesPart c m)) (regions s (tablesPart c n)) (slotsPart c m) (slotsPart c n) (timersPart c m) (timersPart c n)
 unfolding Valued
-both-same {g} {m = m} {m' = m'} {fs = fs} h full s₁ more₁ s₂ more₂ =
+both-same {g = g} {m = m} {n = n} {fs = fs} a b =
     let c = configIn g in
-    same-values (one-value c (run c fs .0) m (every-list h full s₁ more₁ .tidy)) (one-value c (run c fs .0) m' (every-list h full s₂ more₂ .tidy))
+    same-values (one-value c (run c fs .0) m (a .tidy)) (one-value c (run c fs .0) n (b .tidy))
 
 -- ---- frames of bytes: each timer is due after N, so some tocks are left
 
-pub due-valued : {g : List ℕ} {m₀ m₁ m : Memory} {r : ℕ} {fs answered : List (List ℕ)} {returned : List ℕ}
-    → configRefusal g ≡ 0 → fullSize m₀ ≡ true → Configures g m₀ m₁ r → FrameCalls m₁ fs answered returned m → Every Bytes fs
-    → let c = configIn g in let l = run c fs .0 in let w = timersPart c m in (k : ℕ) → k < length (l .timers) → timerAt w k .due ≡ timeIn w + (timerOf l k .due - l .N)
+pub due-valued : {k : Limits} {g : List ℕ} {m₀ m : Memory} {fs answered : List (List ℕ)} {returned : List ℕ} → configRefusal g ≡ 0 → Same k g m₀ fs answered returned m → Every Bytes fs
+    → let c = configIn g in let l = run c fs .0 in let w = timersPart c m in (i : ℕ) → i < length (l .timers) → timerAt w i .due ≡ timeIn w + (timerOf l i .due - l .N)
 unfolding Valued
-due-valued {g} {m = m} {fs = fs} h full s more bytes k i =
+due-valued {g = g} {m = m} {fs = fs} h same bytes i j =
     let c = configIn g in
     let l = run c fs .0 in
-    one-value c l m (every-list h full s more .tidy) .due k i (every-at (sound g h bytes .timers .each) k noEntry i .later)
+    one-value c l m (same .tidy) .due i j (every-at (sound g h bytes .timers .each) i noEntry j .later)

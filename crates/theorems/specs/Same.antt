@@ -1,5 +1,5 @@
--- Demand 3, of every list of calls by their contracts: the answers, the numbers and the items are the ledger's, and what is
--- proved of the ledger holds of them.
+-- Demand 3, of every list of calls to an executive with the limits k, by their contracts: the answers, the numbers and the items are the
+-- ledger's, whatever the limits are, and what is proved of the ledger holds of them.
 use Prim.Native.Nat.{ℕ, _*_, _≤_}
 use mathlib.Core.Path.{_≡_, ap, ap₂, sym, _∙_, subst}
 use mathlib.Core.Logic.{_⊎_, inr}
@@ -8,7 +8,7 @@ use mathlib.Core.List.{List, [], _∷_, _++_}
 use borrow.Author.Tests.{ne-eqb}
 use lib.ListN.{length, getD, take}
 use Rattle.ledger.specs.Lists.{byte}
-use Rattle.ledger.specs.Config.{Config, configIn, configRefusal}
+use Rattle.ledger.specs.Config.{Config, Limits, configIn, configRefusal, configRefusalBy}
 use Rattle.ledger.specs.Ledger.{Task, running, fresh, queue, held}
 use Rattle.ledger.specs.Session.{accept, answer, run, session, refusedConfiguration, Items, items}
 use Rattle.ledger.specs.Theorems.Parts.{Every}
@@ -18,6 +18,8 @@ use Rattle.ledger.specs.Theorems.HandedOut.{handed-out}
 use Rattle.ledger.specs.Theorems.HandsOver.{Copy, Asked, HandsOver}
 use Rattle.ledger.specs.Theorems.HandedOver.{handed-over}
 use Rattle.ledger.specs.Theorems.Once.{Once, once-fresh}
+use Rattle.ledger.specs.Theorems.Within.{by-accepted, other-number}
+use Rattle.configuration.specs.Limits.{Made}
 use Rattle.parts.specs.Parts.{keptFrame}
 use Rattle.mcx11.specs.Contract.{Memory, fullSize, configOf, lentWell, Displays, Tidily, OutsideStays, OutsideSpared, answering, Configures}
 use Rattle.mcx11.specs.Kept.{begins-config}
@@ -29,7 +31,7 @@ use Rattle.theorems.specs.Follows.{FollowsLedger, follows}
 
 -- the calls for the configuration g, lent the memory m₀, and for the frames fs, with these answers and numbers, those of the configuration
 -- first, left the memory m
-pub record Same (g : List ℕ) (m₀ : Memory) (fs answered : List (List ℕ)) (returned : List ℕ) (m : Memory) : Type 0 where
+pub record Same (k : Limits) (g : List ℕ) (m₀ : Memory) (fs answered : List (List ℕ)) (returned : List ℕ) (m : Memory) : Type 0 where
   -- byte by byte, the answers are the ledger's
   pub answers : answered ≡ session g fs
   -- each number is the ledger's, and none is 11
@@ -41,11 +43,11 @@ pub record Same (g : List ℕ) (m₀ : Memory) (fs answered : List (List ℕ)) (
   -- and tidily: each item has the one value that the executive writes (OneValue)
   pub tidy : Tidily (configIn g) (run (configIn g) fs .0) m
   -- it is lent well, so that the next frame doesn't meet 11 either
-  pub well : lentWell m ≡ true
+  pub well : lentWell k m ≡ true
   -- it still holds the accepted frame
   pub frame : keptFrame (m .config) ≡ g
   -- every byte outside that frame, the marks and the parts that the configuration needs is as it was before the configuration
-  pub outside : OutsideSpared g m₀ m
+  pub outside : OutsideSpared k g m₀ m
   -- the second byte of answer i, that after i frames, is the runnable task with the lowest number, or 0 if none is runnable
   pub lowest : (i : ℕ) → i ≤ length fs
       → let T = configIn g .T in let l = run (configIn g) (take i fs) .0 in let n = byte 1 (getD answered i []) in TaskRuns T l n ⊎ NullRuns T l n
@@ -80,10 +82,10 @@ last-handed g m fs h d before f e =
       k .2,
     )
 
-whole : (g : List ℕ) (m₀ : Memory) (fs answered : List (List ℕ)) (returned : List ℕ) (m : Memory) → configRefusal g ≡ 0
-    → answered ≡ run (configIn g) fs .1 → returned ≡ numbers (configIn g) fs → Displays (configIn g) (run (configIn g) fs .0) m → Tidily (configIn g) (run (configIn g) fs .0) m → lentWell m ≡ true
-    → keptFrame (m .config) ≡ g → OutsideSpared g m₀ m → Same g m₀ fs answered returned m
-whole g m₀ fs answered returned m h a n d t w k o =
+whole : (k : Limits) (g : List ℕ) (m₀ : Memory) (fs answered : List (List ℕ)) (returned : List ℕ) (m : Memory) → configRefusal g ≡ 0
+    → answered ≡ run (configIn g) fs .1 → returned ≡ numbers (configIn g) fs → Displays (configIn g) (run (configIn g) fs .0) m → Tidily (configIn g) (run (configIn g) fs .0) m → lentWell k m ≡ true
+    → keptFrame (m .config) ≡ g → OutsideSpared k g m₀ m → Same k g m₀ fs answered returned m
+whole k g m₀ fs answered returned m h a n d t w e o =
     record {
       answers = a ∙ session-is g fs h;
       numbers = n;
@@ -92,7 +94,7 @@ whole g m₀ fs answered returned m h a n d t w k o =
       items = items-shown (configIn g) (run (configIn g) fs .0) m d;
       tidy = t;
       well = w;
-      frame = k;
+      frame = e;
       outside = o;
       lowest = rw a (lowest-shown g h fs);
       bound = rw a (reissues-shown (configIn g) fs);
@@ -101,7 +103,7 @@ whole g m₀ fs answered returned m h a n d t w k o =
     }
 
 -- what a configuration spares, and then every frame
-spares : {g : List ℕ} {m₀ m₁ m : Memory} → OutsideSpared g m₀ m₁ → m .config ≡ m₁ .config → OutsideStays (configIn g) m₁ m → OutsideSpared g m₀ m
+spares : {k : Limits} {g : List ℕ} {m₀ m₁ m : Memory} → OutsideSpared k g m₀ m₁ → m .config ≡ m₁ .config → OutsideStays (configIn g) m₁ m → OutsideSpared k g m₀ m
 spares a e o =
     record {
       config = λ i h l. ap (λ (x : List ℕ). getD x i 0) e ∙ a .config i h l;
@@ -111,18 +113,18 @@ spares a e o =
     }
 
 -- for every accepted configuration, every memory of full size, whatever it held, and every list of frames, refused ones among them
-pub every-list : {g : List ℕ} {m₀ m₁ m : Memory} {r₀ : ℕ} {fs answered : List (List ℕ)} {returned : List ℕ}
-    → configRefusal g ≡ 0 → fullSize m₀ ≡ true → Configures g m₀ m₁ r₀ → FrameCalls m₁ fs answered returned m
-    → Same g m₀ fs (answerOf m₁ ∷ answered) (r₀ ∷ returned) m
+pub every-list : {k : Limits} → Made k → {g : List ℕ} {m₀ m₁ m : Memory} {r₀ : ℕ} {fs answered : List (List ℕ)} {returned : List ℕ}
+    → configRefusalBy k g ≡ 0 → fullSize k m₀ ≡ true → Configures k g m₀ m₁ r₀ → FrameCalls k m₁ fs answered returned m
+    → Same k g m₀ fs (answerOf m₁ ∷ answered) (r₀ ∷ returned) m
 unfolding run numbers
-every-list {g} {m₀} {m₁} {m} {r₀} {fs} {answered} {returned} h full s more =
+every-list {k} made {g} {m₀} {m₁} {m} {r₀} {fs} {answered} {returned} h full s more =
     let c = configIn g in
     let a = s .accepted full h in
     let e : configOf m₁ ≡ c = begins-config a in
-    let d : Displays (configOf m₁) (fresh c) m₁ = subst (λ (k : Config). Displays k (fresh c) m₁) (sym e) (a .shown) in
-    let o : Once (configOf m₁) (fresh c .mailboxes) = subst (λ (k : Config). Once k (fresh c .mailboxes)) (sym e) (once-fresh c) in
-    let rest : FollowsLedger c (fresh c) m₁ fs answered returned m = subst (λ (k : Config). FollowsLedger k (fresh c) m₁ fs answered returned m) e (follows (fresh c) (a .well) d o more) in
-    whole g m₀ fs (answerOf m₁ ∷ answered) (r₀ ∷ returned) m h
+    let d : Displays (configOf m₁) (fresh c) m₁ = subst (λ (x : Config). Displays x (fresh c) m₁) (sym e) (a .shown) in
+    let o : Once (configOf m₁) (fresh c .mailboxes) = subst (λ (x : Config). Once x (fresh c .mailboxes)) (sym e) (once-fresh c) in
+    let rest : FollowsLedger k c (fresh c) m₁ fs answered returned m = subst (λ (x : Config). FollowsLedger k x (fresh c) m₁ fs answered returned m) e (follows made (fresh c) (a .well) d o more) in
+    whole k g m₀ fs (answerOf m₁ ∷ answered) (r₀ ∷ returned) m (by-accepted k g h .0)
     (ap₂ _∷_ (answer-is m₁ (answer 0 0 (fresh c)) (m₀ .answer) (a .answered)) (rest .answers))
     (ap₂ _∷_ (a .number) (rest .numbers))
     (rest .shown)
@@ -131,15 +133,27 @@ every-list {g} {m₀} {m₁} {m} {r₀} {fs} {answered} {returned} h full s more
     (ap keptFrame (rest .config) ∙ a .frame)
     (spares (a .outside) (rest .config) (rest .outside))
 
--- a configuration that is refused gives its number, which isn't 11, and the one answer of the session
-pub record Refused (g answered : List ℕ) (r : ℕ) : Type 0 where
-  pub number : r ≡ configRefusal g
+-- a configuration that is refused gives its number, which isn't 11, and is answered with it; what document 01 refuses is answered as the
+-- session is
+pub record Refused (k : Limits) (g answered : List ℕ) (r : ℕ) : Type 0 where
+  pub number : r ≡ configRefusalBy k g
   pub not-11 : Not11 r
-  pub answers : (fs : List (List ℕ)) → answered ∷ [] ≡ session g fs
+  pub answer : answered ≡ refusedConfiguration (configRefusalBy k g)
+  pub session : (configRefusal g ≡ 0 → ⊥) → (fs : List (List ℕ)) → answered ∷ [] ≡ session g fs
 
-pub refused-configuration : {g : List ℕ} {m₀ m₁ : Memory} {r : ℕ} → (configRefusal g ≡ 0 → ⊥) → fullSize m₀ ≡ true → Configures g m₀ m₁ r → Refused g (answerOf m₁) r
-unfolding session answering
-refused-configuration {g} {m₀} {m₁} {r} h full s =
+refused-session : (g : List ℕ) → (configRefusal g ≡ 0 → ⊥) → (fs : List (List ℕ)) → refusedConfiguration (configRefusal g) ∷ [] ≡ session g fs
+unfolding session
+refused-session g h fs = rw (ne-eqb (configRefusal g) 0 h)
+
+pub refused-configuration : {k : Limits} {g : List ℕ} {m₀ m₁ : Memory} {r : ℕ} → (configRefusalBy k g ≡ 0 → ⊥) → fullSize k m₀ ≡ true → Configures k g m₀ m₁ r → Refused k g (answerOf m₁) r
+unfolding answering
+refused-configuration {k} {g} {m₀} {m₁} {r} h full s =
     let a = s .refused full h in
-    let e : answerOf m₁ ≡ refusedConfiguration (configRefusal g) = answer-is m₁ (refusedConfiguration (configRefusal g)) (m₀ .answer) (ap (λ (m : Memory). m .answer) (a .1)) in
-    record { number = a .0; not-11 = rw (a .0) (configuration-never-11 g); answers = λ fs. rw (e, ne-eqb (configRefusal g) 0 h) }
+    let n = configRefusalBy k g in
+    let e : answerOf m₁ ≡ refusedConfiguration n = answer-is m₁ (refusedConfiguration n) (m₀ .answer) (ap (λ (m : Memory). m .answer) (a .1)) in
+    record {
+      number = a .0;
+      not-11 = rw (a .0) (configuration-never-11 k g);
+      answer = e;
+      session = λ z fs. ap (λ (x : List ℕ). x ∷ []) (e ∙ ap refusedConfiguration (other-number k g z)) ∙ refused-session g z fs;
+    }

@@ -1,39 +1,49 @@
--- The shams that document 01 names, those of a signal that tells whom it woke and of a start only after, and one in the memory, refuted: no executive that meets the contracts behaves so, whatever memory it is lent.
+-- The shams that document 01 names, those of a signal that tells whom it woke, of a start only after and of the brake module, and one in the memory, refuted: no executive that meets the contracts behaves so, whatever memory it is lent.
 use Prim.Native.Nat.{ℕ}
 use mathlib.Core.Path.{_≡_, sym, ap, _∙_}
 use mathlib.Core.Bool.{true}
 use mathlib.Core.List.{List, [], _∷_}
+use native.Mathlib.Decide.{ℕ-discrete}
 use native.Mathlib.Omega.{arith}
 use lib.ListN.{getD}
 use Rattle.ledger.specs.Lists.{byte}
-use Rattle.ledger.specs.Config.{Config, configIn, configRefusal}
+use Rattle.ledger.specs.Config.{Config, Limits, brakeModule, configIn, configRefusal, isWithin, configRefusalBy}
 use Rattle.ledger.specs.Session.{run, session}
-use Rattle.ledger.specs.Shams.{twoTasks, takes, puts, delays, starts, ticks, waits, waitsOwn, signals, exits, startsOther, threeTasks, executes, suspends, terminates, itself, tooMany, the-answers}
+use Rattle.ledger.specs.Shams.{twoTasks, takes, puts, delays, starts, ticks, waits, waitsOwn, signals, exits, startsOther, threeTasks, executes, suspends, terminates, itself, tooMany, seventeen, seventeenAndMore, the-answers}
 use Rattle.tables.specs.Layout.{regions}
 use Rattle.tables.specs.Decode.{stateAs}
 use Rattle.tables.specs.Shows.{semaphoreCount}
+use Rattle.ledger.specs.Theorems.Checks.{never}
+use Rattle.ledger.specs.Theorems.Parts.{Every}
+use Rattle.ledger.specs.Theorems.Within.{other-number, says-27}
+use Rattle.configuration.specs.Limits.{Made, brake-module-made}
 use Rattle.configuration.specs.Layout.{shapeOf}
 use Rattle.mcx11.specs.Contract.{Memory, fullSize, tablesPart, Configures}
 use Rattle.mcx11.specs.Answer.{answerOf}
 use Rattle.theorems.specs.Calls.{FrameCalls}
+use Rattle.theorems.specs.Numbers.{Not11, configuration-never-11}
 use Rattle.theorems.specs.Same.{every-list}
 use Rattle.theorems.specs.OneValue.{Valued, one-value}
 
--- some executive's answers to a configuration and frames: a call for each that meets the contract, on memory of full size
+-- answers of some executive, whatever its limits are, to a configuration that it accepts and to frames: a call for each that meets the contract, on memory of
+-- full size
 pub record Played (g : List ℕ) (fs answers : List (List ℕ)) : Type 0 where
+  pub limits : Limits
+  pub made : Made limits
   pub before : Memory
   pub begun : Memory
   pub after : Memory
   pub number : ℕ
   pub numbers : List ℕ
   pub rest : List (List ℕ)
-  pub full : fullSize before ≡ true
-  pub configured : Configures g before begun number
-  pub fed : FrameCalls begun fs rest numbers after
+  pub takes : configRefusalBy limits g ≡ 0
+  pub full : fullSize limits before ≡ true
+  pub configured : Configures limits g before begun number
+  pub fed : FrameCalls limits begun fs rest numbers after
   pub are : answers ≡ answerOf begun ∷ rest
 
-ledgers : {g : List ℕ} {fs answers : List (List ℕ)} → configRefusal g ≡ 0 → Played g fs answers → answers ≡ session g fs
-ledgers h x = x .are ∙ every-list h (x .full) (x .configured) (x .fed) .answers
+ledgers : {g : List ℕ} {fs answers : List (List ℕ)} → Played g fs answers → answers ≡ session g fs
+ledgers x = x .are ∙ every-list (x .made) (x .takes) (x .full) (x .configured) (x .fed) .answers
 
 module _ (a : List (List ℕ)) where
   -- byte i of answer k, that to the configuration being answer 0
@@ -41,7 +51,7 @@ module _ (a : List (List ℕ)) where
   shows k i = byte i (getD a k [])
 
   of-session : {fs : List (List ℕ)} → Played twoTasks fs a → {l : List (List ℕ)} → session twoTasks fs ≡ l → (k i : ℕ) → shows k i ≡ byte i (getD l k [])
-  of-session x e k i = ap (λ (l : List (List ℕ)). byte i (getD l k [])) (ledgers (the-answers .accepted) x ∙ e)
+  of-session x e k i = ap (λ (l : List (List ℕ)). byte i (getD l k [])) (ledgers x ∙ e)
 
   -- it settles after the first frame, and later reports the old task
   pub no-old-task : Played twoTasks (takes ∷ puts ∷ []) a → shows 2 1 ≡ shows 1 1 → ⊥
@@ -109,7 +119,7 @@ module _ (a : List (List ℕ)) where
   -- ---- start only after
 
   of-three : {fs : List (List ℕ)} → Played threeTasks fs a → {l : List (List ℕ)} → session threeTasks fs ≡ l → (k i : ℕ) → shows k i ≡ byte i (getD l k [])
-  of-three x e k i = ap (λ (l : List (List ℕ)). byte i (getD l k [])) (ledgers (the-answers .acceptedThree) x ∙ e)
+  of-three x e k i = ap (λ (l : List (List ℕ)). byte i (getD l k [])) (ledgers x ∙ e)
 
   -- it starts a task while a first is idle; one that looks at the last pair alone does
   pub no-start-before-a-first : Played threeTasks (executes 3 ∷ []) a → shows 1 0 ≡ 0 → ⊥
@@ -142,16 +152,56 @@ module _ (a : List (List ℕ)) where
   unfolding Valued stateAs semaphoreCount configIn
   no-other-DONE x h =
       let c : Config = configIn twoTasks in
-      let v : Valued c (run c (signals ∷ []) .0) (x .after) = one-value c (run c (signals ∷ []) .0) (x .after) (every-list (the-answers .accepted) (x .full) (x .configured) (x .fed) .tidy) in
+      let v : Valued c (run c (signals ∷ []) .0) (x .after) = one-value c (run c (signals ∷ []) .0) (x .after) (every-list (x .made) (x .takes) (x .full) (x .configured) (x .fed) .tidy) in
       h (v .semaphores 0 (omega arith) ∙ ap stateAs (the-answers .done))
 
 -- it accepts a task as its own first, or 65 pairs
-module _ {m m' : Memory} {r : ℕ} (full : fullSize m ≡ true) where
-  of-refused : (g : List ℕ) (n : ℕ) → configRefusal g ≡ n → (n ≡ 0 → ⊥) → Configures g m m' r → r ≡ n
-  of-refused g n e some x = x .refused full (λ z. some (sym e ∙ z)) .0 ∙ e
+module _ {k : Limits} {m m' : Memory} {r : ℕ} (full : fullSize k m ≡ true) where
+  of-refused : (g : List ℕ) (n : ℕ) → configRefusal g ≡ n → (n ≡ 0 → ⊥) → Configures k g m m' r → r ≡ n
+  of-refused g n e some x =
+      let z : configRefusal g ≡ 0 → ⊥ = λ z. some (sym e ∙ z) in
+      let o : configRefusalBy k g ≡ configRefusal g = other-number k g z in
+      x .refused full (λ y. z (sym o ∙ y)) .0 ∙ o ∙ e
 
-  pub no-task-as-its-first : Configures itself m m' r → r ≡ 0 → ⊥
+  pub no-task-as-its-first : Configures k itself m m' r → r ≡ 0 → ⊥
   no-task-as-its-first x h = omega (arith, h, of-refused itself 3 (the-answers .equal) (λ z. omega arith) x)
 
-  pub no-65-pairs : Configures tooMany m m' r → r ≡ 0 → ⊥
+  pub no-65-pairs : Configures k tooMany m m' r → r ≡ 0 → ⊥
   no-65-pairs x h = omega (arith, h, of-refused tooMany 2 (the-answers .many) (λ z. omega arith) x)
+
+-- ---- the brake module
+
+module _ {m m' : Memory} {r : ℕ} (full : fullSize brakeModule m ≡ true) where
+  -- it takes 17 tasks
+  pub no-17-tasks : Configures brakeModule seventeen m m' r → r ≡ 0 → ⊥
+  no-17-tasks x h =
+      let n : configRefusalBy brakeModule seventeen ≡ 27 = the-answers .seventeenTasks in
+      omega (arith, h, x .refused full (λ z. omega (arith, n, z)) .0 ∙ n)
+
+  -- it gives 27 before a length check
+  pub no-27-before-the-length : Configures brakeModule seventeenAndMore m m' r → r ≡ 27 → ⊥
+  no-27-before-the-length x h =
+      let n : configRefusalBy brakeModule seventeenAndMore ≡ 2 = the-answers .seventeenLong in
+      omega (arith, h, x .refused full (λ z. omega (arith, n, z)) .0 ∙ n)
+
+  -- it gives 27 within its limits
+  pub no-27-within : {g : List ℕ} → isWithin brakeModule (configIn g) ≡ true → Configures brakeModule g m m' r → r ≡ 27 → ⊥
+  no-27-within {g} w x h = elim (ℕ-discrete (configRefusalBy brakeModule g) 0) [
+    | yes z ↦ omega (arith, h, x .accepted full z .number)
+    | no z ↦ never (sym (says-27 brakeModule g (sym (x .refused full z .0) ∙ h) .1) ∙ w)
+  ]
+
+  -- it tests a block by the controller's size: blocks of the module's own sizes are lent, and it gives 11, to a configuration or to a frame behind it
+  pub no-controllers-size : {g : List ℕ} → Configures brakeModule g m m' r → r ≡ 11 → ⊥
+  no-controllers-size {g} x h = elim (ℕ-discrete (configRefusalBy brakeModule g) 0) [
+    | yes z ↦ omega (arith, h, x .accepted full z .number)
+    | no z ↦ configuration-never-11 brakeModule g (sym (x .refused full z .0) ∙ h)
+  ]
+
+  pub no-controllers-size-later : {g : List ℕ} {last : Memory} {fs answered : List (List ℕ)} {returned : List ℕ} → configRefusalBy brakeModule g ≡ 0 → Configures brakeModule g m m' r
+      → FrameCalls brakeModule m' fs answered returned last → Every Not11 (r ∷ returned)
+  no-controllers-size-later z x more = every-list brake-module-made z full x more .none-11
+
+-- two executives, the controller and the module or others, answer differently a configuration that both accept and the same frames
+pub no-two-answers : {g : List ℕ} {fs a b : List (List ℕ)} → Played g fs a → Played g fs b → (a ≡ b → ⊥) → ⊥
+no-two-answers x y h = h (ledgers x ∙ sym (ledgers y))

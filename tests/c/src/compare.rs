@@ -7,7 +7,8 @@ use plain_executive::line::MOST_BYTES;
 use plain_executive::numbers::Number;
 use plain_executive::random::Random;
 
-use crate::lent::{Lent, SIZES};
+use crate::caller::Caller;
+use crate::lent::Lent;
 use crate::strange::strange;
 use crate::tidy::untidy;
 
@@ -27,11 +28,11 @@ pub struct Difference {
 /// Compared are, after the configuration and after every frame: the number, the answer, all items, the config block, that the
 /// bytes are such as the program writes, and that each is the one that is promised; of a refused frame, that it wrote its answer
 /// alone.
-pub fn difference(script: &Script, feed: Feed) -> Option<Difference> {
+pub fn difference(caller: Caller, script: &Script, feed: Feed) -> Option<Difference> {
     let mut random = Random::new(script.configuration.len() as u64);
     let more = random.below(3);
-    let mut memory = Lent::new(SIZES.map(|size| size + more), || random.byte());
-    let mut other = Executive::configure(&script.configuration).expect("accepted");
+    let mut memory = Lent::of(caller, caller.sizes().map(|size| size + more), || random.byte());
+    let mut other = Executive::configure_within(caller.limits(), &script.configuration).expect("accepted");
     other.keep_history();
     let number = memory.configure(&script.configuration);
     let found = unequal(number, &memory, &other, 0, other.answer(0, 0).bytes(), &script.configuration);
@@ -113,9 +114,9 @@ fn unequal_list<Item: PartialEq + std::fmt::Debug>(name: &str, ours: &[Item], th
 }
 
 /// A session that has a difference as well and, as far as some tries go, no frame that it needs not.
-pub fn shortened(script: &Script, feed: Feed) -> Script {
+pub fn shortened(caller: Caller, script: &Script, feed: Feed) -> Script {
     let upto = |script: Script| {
-        let end = difference(&script, feed)?.frames;
+        let end = difference(caller, &script, feed)?.frames;
         Some(Script { frames: script.frames[..end].to_vec(), ..script })
     };
     let mut short = upto(script.clone()).expect("a difference");
@@ -137,10 +138,10 @@ pub fn shortened(script: &Script, feed: Feed) -> Script {
 }
 
 /// Ends the test at the first difference, with a session that `replay` takes.
-pub fn compare(script: &Script, feed: Feed, name: &str) {
-    if difference(script, feed).is_some() {
-        let short = shortened(script, feed);
-        let Difference { frames, what } = difference(&short, feed).expect("a difference");
+pub fn compare(caller: Caller, script: &Script, feed: Feed, name: &str) {
+    if difference(caller, script, feed).is_some() {
+        let short = shortened(caller, script, feed);
+        let Difference { frames, what } = difference(caller, &short, feed).expect("a difference");
         let long = short.frames.iter().filter(|frame| frame.len() > MOST_BYTES).count();
         let lines = String::from_utf8_lossy(&short.lines()).into_owned();
         panic!("{name}, with the last of these {frames} frames ({long} too long for a line): {what}\n{lines}");

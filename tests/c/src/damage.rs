@@ -12,10 +12,9 @@ use plain_executive::tasks::Block;
 
 use crate::decided::decided;
 use crate::lent::{
-    ends, kept_length, pairs_at, parts, timer_row, Lent, Regions, COUNT, FRAME, MARKS, PART, PLANE, PLANES, SIZES,
-    TICKS,
+    ends, kept_length, pairs_at, parts, timer_row, Lent, Regions, COUNT, FRAME, MARKS, PART, PLANE, PLANES, TICKS,
 };
-use crate::rules::{self, Rule, LONGEST};
+use crate::rules::{self, Rule};
 use crate::strange::strange;
 
 type Frame = Vec<u8>;
@@ -60,7 +59,7 @@ impl<Call: FnMut(&mut Lent, &[u8]) -> Number> Watch<Call> {
                 return self.refused(rule, &mut memory, frame, &told);
             }
             let other = other.get_or_insert_with(|| {
-                let configuration = rules::configuration(&memory.config).expect("a configuration");
+                let configuration = rules::configuration_of(&memory).expect("a configuration");
                 let items = memory.items(&configuration);
                 Executive::restored(configuration, &items)
             });
@@ -152,13 +151,14 @@ fn pairs(random: &mut Random, memory: &mut Lent, configuration: &Configuration) 
     let Configuration { tasks, .. } = *configuration;
     let (from, kept) = (pairs_at(configuration), kept_length(&memory.config));
     let least = from - FRAME;
-    let any = least + random.below(LONGEST + 1 - least);
+    let longest = memory.caller.longest();
+    let any = least + random.below(longest + 1 - least);
     let length = match random.below(4) {
         0 if !configuration.pairs.is_empty() => {
             memory.config[from + random.below(2 * configuration.pairs.len())] = a_value(random, configuration);
             return;
         }
-        1 => random.pick(&[least - 1, least, kept - 1, kept + 1, LONGEST, LONGEST + 1, LONGEST + 4]),
+        1 => random.pick(&[least - 1, least, kept - 1, kept + 1, longest, longest + 1, longest + 4]),
         _ => {
             memory.config[from..FRAME + any].iter_mut().for_each(|byte| *byte = random.between(0, tasks + 1));
             any
@@ -189,7 +189,7 @@ fn in_part(random: &mut Random, configuration: &Configuration, block: usize) -> 
 /// Bytes of a mark: one, or all up to an end of the block.
 fn mark(random: &mut Random, memory: &mut Lent) {
     let block = random.below(4);
-    let [first, last] = ends(SIZES[block]);
+    let [first, last] = ends(memory.caller.sizes()[block]);
     let reach = random.below(4);
     let bytes = match random.below(4) {
         0 => first.start + reach..first.start + reach + 1,
@@ -264,7 +264,7 @@ fn timer_field(random: &mut Random, memory: &mut Lent, configuration: &Configura
 
 fn length(random: &mut Random, memory: &mut Lent) {
     let block = random.below(5);
-    let size = SIZES[block];
+    let size = memory.caller.sizes()[block];
     let length = random.pick(&[0, 1, size / 2, size - 2, size - 1, size, size + 1, size + 2]);
     memory.blocks_mut()[block].resize(length, 0xA5);
 }
@@ -288,7 +288,7 @@ fn tables_alone(random: &mut Random, memory: &mut Lent) {
 }
 
 fn marked(memory: &mut Lent, block: usize) {
-    for end in ends(SIZES[block]) {
+    for end in ends(memory.caller.sizes()[block]) {
         memory.blocks_mut()[block][end].copy_from_slice(&MARKS[block]);
     }
 }
@@ -309,13 +309,13 @@ fn nearly_full(random: &mut Random, memory: &mut Lent, configuration: &Configura
 
 fn exchanged(random: &mut Random, memory: &mut Lent, another: &Lent) {
     let block = random.below(4);
-    let bytes = another.blocks()[block];
-    memory.blocks_mut()[block][..SIZES[block]].copy_from_slice(&bytes[..SIZES[block]]);
+    let size = memory.caller.sizes()[block];
+    memory.blocks_mut()[block][..size].copy_from_slice(&another.blocks()[block][..size]);
 }
 
 /// Frames for damaged memory: those that would have come next, ticks, and services that its configuration gives a meaning.
 pub fn frames(random: &mut Random, memory: &Lent, next: &[Frame]) -> Vec<Frame> {
-    let configuration = rules::configuration(&memory.config);
+    let configuration = rules::configuration_of(memory);
     let mut next = next.iter();
     let count = 1 + random.below(4);
     let mut one = || match (&configuration, random.below(10)) {

@@ -5,7 +5,8 @@ use std::slice;
 
 use plain_executive::numbers::Number;
 
-use crate::lent::{self, Blocks, Lent};
+use crate::caller::Blocks;
+use crate::lent::{Lent, SIZES};
 
 extern "C" {
     fn mmap(address: *mut u8, bytes: usize, protection: i32, flags: i32, file: i32, offset: i64) -> *mut u8;
@@ -96,7 +97,7 @@ impl Drop for Fence {
     }
 }
 
-/// Fences for the five blocks and for a frame.
+/// Fences for the five blocks, with room for the larger ones of the controller, and for a frame.
 pub struct Fences {
     blocks: [Fence; 5],
     frame: Fence,
@@ -110,19 +111,27 @@ impl Default for Fences {
 
 impl Fences {
     pub fn new() -> Self {
-        Fences { blocks: lent::SIZES.map(|size| Fence::new(size + 64)), frame: Fence::new(512) }
+        Fences { blocks: SIZES.map(|size| Fence::new(size + 64)), frame: Fence::new(512) }
     }
 
     pub fn configure(&mut self, lent: &mut Lent, frame: &[u8], side: Side) -> Number {
-        self.call(lent::configure, lent, frame, side)
+        let caller = lent.caller;
+        self.call(|frame, blocks| caller.configure(frame, blocks), lent, frame, side)
     }
 
     pub fn feed(&mut self, lent: &mut Lent, frame: &[u8], side: Side) -> Number {
-        self.call(lent::feed, lent, frame, side)
+        let caller = lent.caller;
+        self.call(|frame, blocks| caller.feed(frame, blocks), lent, frame, side)
     }
 
     /// Lends a frame and the blocks to a function.
-    pub fn call(&mut self, function: fn(&[u8], Blocks) -> Number, lent: &mut Lent, frame: &[u8], side: Side) -> Number {
+    pub fn call(
+        &mut self,
+        function: impl FnOnce(&[u8], Blocks) -> Number,
+        lent: &mut Lent,
+        frame: &[u8],
+        side: Side,
+    ) -> Number {
         let [config, tables, slots, timers, answer] = self.blocks.each_mut();
         let blocks = [
             config.fill(&lent.config, side),
@@ -143,7 +152,7 @@ impl Fences {
 
     /// The byte directly outside the tables; there is none.
     pub fn read_outside(&mut self, side: Side) -> u8 {
-        let (part, _) = self.blocks[1].parts(lent::SIZES[1], side);
+        let (part, _) = self.blocks[1].parts(SIZES[1], side);
         let outside = match side {
             Side::Front => part.as_ptr().wrapping_sub(1),
             Side::Back => part.as_ptr().wrapping_add(part.len()),

@@ -1,4 +1,4 @@
-//! The executive's C functions over memory of one's own, and the items read out of that memory as docs/MEMORY.md says.
+//! Memory of one's own for the executive's C functions, and the items read out of that memory as docs/MEMORY.md says.
 
 use std::ops::Range;
 
@@ -8,38 +8,13 @@ use plain_executive::numbers::Number;
 use plain_executive::semaphore::Semaphore;
 use plain_executive::tasks::{self, Block, Letter};
 
-/// Declares functions of the header that take the frame and the five blocks, each as its address and its length.
-macro_rules! exported {
-    ($($function:ident),*) => {
-        extern "C" {
-            $(pub fn $function(
-                frame: *const u8,
-                bytes: usize,
-                config: *mut u8,
-                config_bytes: usize,
-                tables: *mut u8,
-                tables_bytes: usize,
-                slots: *mut u8,
-                slots_bytes: usize,
-                timers: *mut u8,
-                timers_bytes: usize,
-                answer: *mut u8,
-                answer_bytes: usize,
-            ) -> u8;)*
-        }
-    };
-}
+use crate::caller::{Blocks, Caller};
 
-exported!(mcx11_configure_blocks, mcx11_frame_blocks);
+/// The least sizes of the controller's blocks.
+pub const SIZES: [usize; 5] = Caller::Controller.sizes();
 
-/// Such a function.
-#[rustfmt::skip]
-pub type Exported = unsafe extern "C" fn(
-    *const u8, usize, *mut u8, usize, *mut u8, usize, *mut u8, usize, *mut u8, usize, *mut u8, usize,
-) -> u8;
-
-/// The least sizes of the five blocks.
-pub const SIZES: [usize; 5] = [336, 7517, 2024, 659, 21];
+/// The answer's size, the same for every caller.
+const ANSWER: usize = SIZES[4];
 
 /// The marks at both ends of the first four.
 pub const MARKS: [[u8; 4]; 4] = [*b"MCXC", *b"MCXT", *b"MCXS", *b"MCXR"];
@@ -54,44 +29,10 @@ pub const COUNT: usize = PART + 1;
 pub const PLANES: usize = PART + 2;
 pub const PLANE: usize = 16;
 
-/// Five blocks of bytes: config, tables, slots, timers, answer.
-pub type Blocks<'a> = [&'a mut [u8]; 5];
-
-/// Calls such a function with a frame and these blocks.
-///
-/// # Safety
-///
-/// The function keeps to the lengths.
-pub unsafe fn call(function: Exported, frame: &[u8], [config, tables, slots, timers, answer]: Blocks) -> Number {
-    function(
-        frame.as_ptr(),
-        frame.len(),
-        config.as_mut_ptr(),
-        config.len(),
-        tables.as_mut_ptr(),
-        tables.len(),
-        slots.as_mut_ptr(),
-        slots.len(),
-        timers.as_mut_ptr(),
-        timers.len(),
-        answer.as_mut_ptr(),
-        answer.len(),
-    )
-}
-
-/// Configures over these blocks.
-pub fn configure(frame: &[u8], blocks: Blocks) -> Number {
-    unsafe { call(mcx11_configure_blocks, frame, blocks) }
-}
-
-/// Feeds a frame to these blocks.
-pub fn feed(frame: &[u8], blocks: Blocks) -> Number {
-    unsafe { call(mcx11_frame_blocks, frame, blocks) }
-}
-
-/// The five blocks that a host lends.
+/// The five blocks that a caller lends.
 #[derive(Clone, Debug, PartialEq, Eq)]
 pub struct Lent {
+    pub caller: Caller,
     pub config: Vec<u8>,
     pub tables: Vec<u8>,
     pub slots: Vec<u8>,
@@ -100,10 +41,10 @@ pub struct Lent {
 }
 
 impl Lent {
-    /// Blocks of these sizes, each byte as told.
-    pub fn new(sizes: [usize; 5], mut byte: impl FnMut() -> u8) -> Self {
+    /// A caller's, of these sizes, each byte as told.
+    pub fn of(caller: Caller, sizes: [usize; 5], mut byte: impl FnMut() -> u8) -> Self {
         let [config, tables, slots, timers, answer] = sizes.map(|size| (0..size).map(|_| byte()).collect());
-        Lent { config, tables, slots, timers, answer }
+        Lent { caller, config, tables, slots, timers, answer }
     }
 
     pub fn blocks(&self) -> [&[u8]; 5] {
@@ -120,11 +61,11 @@ impl Lent {
     }
 
     pub fn configure(&mut self, frame: &[u8]) -> Number {
-        configure(frame, self.lend())
+        self.caller.configure(frame, self.lend())
     }
 
     pub fn frame(&mut self, frame: &[u8]) -> Number {
-        feed(frame, self.lend())
+        self.caller.feed(frame, self.lend())
     }
 
     /// The answer to the last call.
@@ -195,7 +136,7 @@ pub fn parts(configuration: &Configuration) -> [Range<usize>; 5] {
         timer_row(1 + usize::from(configuration.timers)),
     ];
     let [config, tables, slots, timers] = ends.map(|end| PART..end);
-    [config, tables, slots, timers, 0..SIZES[4]]
+    [config, tables, slots, timers, 0..ANSWER]
 }
 
 /// Where the regions of the tables begin in their block, and where the last of them ends.
@@ -219,8 +160,7 @@ impl Regions {
         let rings = waiting + 16 * tasks;
         let messages = rings + 2 * configuration.queues.len();
         let entries = messages + 4 * usize::from(configuration.messages);
-        let bytes = |size: &QueueSize| usize::from(size.width) * usize::from(size.depth);
-        let end = entries + configuration.queues.iter().map(bytes).sum::<usize>();
+        let end = entries + configuration.queues.iter().map(QueueSize::bytes).sum::<usize>();
         Regions { records, semaphores, waiting, rings, messages, entries, end }
     }
 }

@@ -1,12 +1,14 @@
 //! The exported C functions, wrapped. A result from 0 up is what was computed; a negative one is a number of the paper with a
 //! minus sign.
 
+pub mod caller;
 pub mod compare;
 pub mod damage;
 pub mod decided;
 pub mod fence;
 pub mod lent;
 pub mod rules;
+pub mod stack;
 pub mod strange;
 pub mod tidy;
 

@@ -2,10 +2,7 @@
 
 use plain_executive::configuration::{Configuration, Pair, QueueSize};
 
-use crate::lent::{ends, kept_frame, kept_length, Lent, Regions, COUNT, MARKS, SIZES};
-
-/// The longest frame that is kept.
-pub const LONGEST: usize = 326;
+use crate::lent::{ends, kept_frame, kept_length, Lent, Regions, COUNT, MARKS};
 
 #[derive(Clone, Copy, Debug, PartialEq, Eq, PartialOrd, Ord)]
 pub enum Rule {
@@ -17,13 +14,13 @@ pub enum Rule {
 
 /// The first rule that a frame finds broken.
 pub fn broken(lent: &Lent) -> Option<Rule> {
-    if lent.blocks().iter().zip(SIZES).any(|(block, size)| block.len() < size) {
+    if lent.blocks().iter().zip(lent.caller.sizes()).any(|(block, size)| block.len() < size) {
         return Some(Rule::Sizes);
     }
     if !has_marks(lent) {
         return Some(Rule::Marks);
     }
-    let Some(configuration) = configuration(&lent.config) else {
+    let Some(configuration) = configuration_of(lent) else {
         return Some(Rule::Configuration);
     };
     (!good_messages(&lent.tables, &configuration)).then_some(Rule::Messages)
@@ -31,33 +28,34 @@ pub fn broken(lent: &Lent) -> Option<Rule> {
 
 /// Each block has its own at both ends of its size.
 fn has_marks(lent: &Lent) -> bool {
-    let mut marked = lent.blocks().into_iter().zip(SIZES).zip(MARKS);
+    let mut marked = lent.blocks().into_iter().zip(lent.caller.sizes()).zip(MARKS);
     marked.all(|((block, size), mark)| ends(size).into_iter().all(|end| block[end] == mark))
 }
 
 /// What the frame in the block says, if it keeps its rule. The initial states are not read. Behind the queues every two bytes are a
 /// pair; one whose first is no task refuses nothing, and is left out.
-pub fn configuration(config: &[u8]) -> Option<Configuration> {
+pub fn configuration_of(lent: &Lent) -> Option<Configuration> {
+    let (most, config) = (lent.caller.limits(), &lent.config);
     let frame = kept_frame(config);
     let [tasks, named, queues, timers, messages, ticks, high, low] = *frame.first_chunk()?;
     let milliseconds = u16::from_be_bytes([high, low]);
     let semaphores = u32::from(named) + u32::from(tasks) + 2 * u32::from(queues);
-    let good = (1..=126).contains(&tasks)
-        && queues <= 32
-        && timers <= 64
-        && messages <= 64
+    let good = (1..=most.tasks).contains(&tasks)
+        && queues <= most.queues
+        && timers <= most.timers
+        && messages <= most.messages
         && ticks >= 1
         && milliseconds >= 1
         && semaphores <= 255;
-    if !good || kept_length(config) > LONGEST {
+    if !good || kept_length(config) > lent.caller.longest() {
         return None;
     }
     let (_, behind) = frame.split_at_checked(8 + usize::from(tasks))?;
     let (sizes, pairs) = behind.split_at_checked(2 * usize::from(queues))?;
     let sizes: Vec<QueueSize> = sizes.chunks(2).map(|size| QueueSize { width: size[0], depth: size[1] }).collect();
     let possible = |size: &QueueSize| (1..=16).contains(&size.width) && size.depth >= 1;
-    let bytes: u32 = sizes.iter().map(|size| u32::from(size.width) * u32::from(size.depth)).sum();
-    (sizes.iter().all(possible) && bytes <= 4096).then(|| Configuration {
+    let bytes: usize = sizes.iter().map(QueueSize::bytes).sum();
+    (sizes.iter().all(possible) && bytes <= most.queue_bytes).then(|| Configuration {
         tasks,
         named_semaphores: named,
         timers,

@@ -5,9 +5,7 @@ use plain_executive::items::Items;
 use plain_executive::tasks::Letter;
 use plain_executive::written::PLANES as BLOCKS;
 
-use crate::lent::{
-    ends, parts, slot, timer_row, Lent, Regions, COUNT, FRAME, MARKS, PART, PLANE, PLANES, SIZES, TICKS,
-};
+use crate::lent::{ends, parts, slot, timer_row, Lent, Regions, COUNT, FRAME, MARKS, PART, PLANE, PLANES, TICKS};
 
 /// What the page says of a byte.
 #[derive(Clone, Copy, Debug, PartialEq, Eq)]
@@ -33,7 +31,8 @@ pub fn left(frame: &[u8], other: &Executive, memory: &Lent) -> [Vec<Left>; 4] {
     let records = memory.tables[regions.messages..regions.entries].chunks_exact(4);
     let own = Own { receivers: records.map(|record| record[0]).collect(), time: memory.of_timers(0, 2) };
 
-    let mut all = [0, 1, 2, 3].map(|block| vec![Left::Outside; SIZES[block]]);
+    let sizes = memory.caller.sizes();
+    let mut all = [0, 1, 2, 3].map(|block| vec![Left::Outside; sizes[block]]);
     for ((block, part), mark) in all.iter_mut().zip(parts(configuration)).zip(MARKS) {
         block[part].fill(Left::Free);
         ends(block.len()).into_iter().for_each(|end| put(block, end.start, &mark));
@@ -108,10 +107,11 @@ fn lying(items: &Items, receivers: &[u8]) -> Vec<(u8, Letter)> {
     lying
 }
 
+const NAMES: [&str; 4] = ["config", "tables", "slots", "timers"];
+
 /// The first byte that is not the one that is promised.
 pub fn untidy(frame: &[u8], other: &Executive, memory: &Lent) -> Option<String> {
-    let names = ["config", "tables", "slots", "timers"];
-    let blocks = names.into_iter().zip(memory.blocks()).zip(left(frame, other, memory));
+    let blocks = NAMES.into_iter().zip(memory.blocks()).zip(left(frame, other, memory));
     let mut bytes = blocks.flat_map(|((name, block), left)| {
         (0..).zip(block).zip(left).map(move |((place, byte), left)| (name, place, *byte, left))
     });
@@ -120,5 +120,17 @@ pub fn untidy(frame: &[u8], other: &Executive, memory: &Lent) -> Option<String> 
             Some(format!("byte {place} of {name}: {byte:02X}, promised is {promised:02X}"))
         }
         _ => None,
+    })
+}
+
+/// The first byte of the parts, and no free one, that two memories don't have alike after the same session.
+pub fn unlike(frame: &[u8], other: &Executive, one: &Lent, another: &Lent) -> Option<String> {
+    let lefts = [one, another].map(|memory| left(frame, other, memory));
+    let places = parts(other.configuration()).into_iter().zip(NAMES).enumerate();
+    let mut places = places.flat_map(|(block, (part, name))| part.map(move |place| (block, name, place)));
+    places.find_map(|(block, name, place)| {
+        let [ours, theirs] = [one, another].map(|memory| memory.blocks()[block][place]);
+        let free = lefts.iter().all(|left| left[block][place] == Left::Free);
+        (ours != theirs && !free).then(|| format!("byte {place} of {name}: {ours:02X} and {theirs:02X}"))
     })
 }

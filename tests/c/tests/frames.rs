@@ -137,7 +137,7 @@ fn the_numbers_are_those_that_sessions_meet_in_order() {
 
 #[test]
 fn the_calls_are_the_headers() {
-    let header = text("host/mcx11.h");
+    let header = text("host/mcx11_calls.h");
     let declared = |name: &str| {
         let (_, rest) =
             header.split_once(&format!(" {name}(mcx11_t *")).unwrap_or_else(|| panic!("{name} is not there"));

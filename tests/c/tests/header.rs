@@ -1,15 +1,18 @@
-//! host/mcx11.h: its calls by names feed the frames that they should, its trace hook gets every call, its texts are its names.
+//! host/mcx11.h: its calls by names feed the frames that they should, its trace hooks get every call, its texts are its names.
 //! host/mcx11_state.h: its readers of the state tell what the other implementation has, whatever the memory holds.
+//! All of it for the controller and for the module, whose names are in host/mcx11_as_module.h.
 
 mod tools;
 
+use c::caller::Caller;
 use c::damage::damage;
-use c::lent::{Lent, FRAME, SIZES};
-use c::rules;
+use c::lent::{kept_length, Lent, FRAME, PART};
+use c::{for_each_caller, rules};
 use plain_executive::configuration::{Configuration, MOST_PAIRS};
 use plain_executive::executive::Executive;
 use plain_executive::generator::{cascade, Generator, Script};
 use plain_executive::items::Items;
+use plain_executive::limits::Limits;
 use plain_executive::random::Random;
 use plain_executive::semaphore::Semaphore;
 use plain_executive::tasks::{Block, Blocks};
@@ -17,15 +20,51 @@ use plain_executive::{line, session};
 use std::collections::BTreeSet;
 use std::fmt::Write;
 use std::process::Command;
-use tools::{built, frames_of, languages, printed, repository, run, scratch, stories, text, two_languages};
+use tools::{
+    answers, built, frames_of, languages, of_caller, printed, repository, run, scratch, stories, text, two_languages,
+};
 
-// ---- the calls by names, and the trace hook
+for_each_caller!(
+    the_calls_by_names_feed_their_frames_and_are_traced,
+    the_readers_tell_the_other_implementations_state,
+    the_readers_stay_inside_whatever_the_memory_holds,
+);
 
-fn sessions() -> Vec<Vec<u8>> {
+// ---- the module's names
+
+/// The functions that a file of host/ has.
+fn functions(file: &str) -> Vec<String> {
+    let file = text(file);
+    let named = file.lines().filter_map(|line| line.strip_prefix("static inline ")?.split_once('('));
+    named.map(|(front, _)| front.rsplit([' ', '*']).next().expect("a name").to_string()).collect()
+}
+
+/// Every call and every reader has its name on the module, and no other name has one.
+#[test]
+fn the_module_has_every_call_and_reader() {
+    let blocks = ["mcx11_t", "mcx11_configure_blocks", "mcx11_frame_blocks"].map(str::to_string);
+    let [calls, readers] = ["host/mcx11_calls.h", "host/mcx11_readers.h"].map(functions);
+    assert!(calls.len() >= 30 && readers.len() >= 22, "{calls:?} {readers:?}");
+    let all: Vec<String> = blocks.into_iter().chain(calls).chain(readers).collect();
+    let names = text("host/mcx11_as_module.h");
+    let behind = |word: &str| -> Vec<&str> {
+        let own = names.lines().filter_map(|line| line.strip_prefix(word));
+        own.filter(|name| *name != "MCX11_AS_MODULE").collect()
+    };
+    let of_module = |name: &String| format!("{name} {}", name.replacen("mcx11_", "mcx11_module_", 1));
+    assert_eq!(behind("#define "), all.iter().map(of_module).collect::<Vec<_>>());
+    assert_eq!(behind("#undef "), all);
+}
+
+// ---- the calls by names, and the trace hooks
+
+fn sessions(caller: Caller) -> Vec<Vec<u8>> {
     let stories = stories().into_iter().map(|story| frames_of(&story));
-    let random = (0..60).map(|seed| Generator::new(seed).script(1..=20, 300).lines());
+    let random = (0..60).map(|seed| Generator::within(caller.limits(), seed).script(1..=20, 300).lines());
     let too_many = [&[1, 0, 0, 0, 0, 1, 0, 1, 0][..], &[1; 2 * (MOST_PAIRS + 1)]].concat();
-    stories.chain(random).chain([line::write(&too_many).expect("a line")]).collect()
+    let above = (0..20).map(|seed| Generator::new(seed).configuration_above_module());
+    let configurations = above.chain([too_many]).map(|frame| line::write(&frame).expect("a line"));
+    stories.chain(random).chain(configurations).collect()
 }
 
 /// What the hook writes of a session: line, answer and number of each call.
@@ -69,14 +108,15 @@ fn canonical(frame: &[u8]) -> Vec<u8> {
     frame
 }
 
-#[test]
-fn the_calls_by_names_feed_their_frames_and_are_traced() {
-    let folder = scratch("calls");
-    let programs: Vec<_> = languages().map(|language| built(&folder, "calls.c", language, &[])).collect();
+fn the_calls_by_names_feed_their_frames_and_are_traced(caller: Caller) {
+    let folder = scratch(&format!("calls {caller:?}"));
+    let told =
+        [of_caller(caller), &["-DMCX11_MODULE_TRACE=written_down"][..usize::from(caller == Caller::Module)]].concat();
+    let programs: Vec<_> = languages().map(|language| built(&folder, "calls.c", language, &told)).collect();
     let (code_names, numbers) = (names("code"), names("number"));
     let mut codes = BTreeSet::new();
-    for input in sessions() {
-        let answers = session::run(&input);
+    for input in sessions(caller) {
+        let answers = answers(caller, &input);
         let mut expected = String::new();
         for (index, (fed, answer)) in session::lines(&input).zip(session::lines(&answers)).enumerate() {
             let frame = line::read(fed).expect("a line");
@@ -99,6 +139,78 @@ fn the_calls_by_names_feed_their_frames_and_are_traced() {
     assert!((1..=0x11).all(|code| codes.contains(&Some(code))), "not every code: {codes:?}");
 }
 
+/// What a C program of one's own prints, which includes the header.
+fn told_by(name: &str, source: &str) -> String {
+    let folder = scratch(name);
+    std::fs::write(folder.join("own.c"), source).unwrap();
+    let mut compile = Command::new("gcc");
+    compile.args(["-std=c99"]).args(tools::STRICT).arg("-I").arg(repository().join("host")).arg("-o").arg("own");
+    compile.arg("own.c").arg(repository().join("target/staticlib/libmcx11.a"));
+    printed(compile.current_dir(&folder), b"");
+    printed(&mut Command::new(folder.join("own")), b"")
+}
+
+/// The module's names come behind the headers; before one of them, the compiler says so.
+#[test]
+fn the_modules_names_come_last() {
+    let folder = scratch("order");
+    let tried = |headers: &[&str]| {
+        let lines: String = headers.iter().map(|header| format!("#include \"{header}\"\n")).collect();
+        let mut compile = Command::new("gcc");
+        compile.args(["-std=c99", "-fsyntax-only", "-x", "c", "-"]).arg("-I").arg(repository().join("host"));
+        run(compile.current_dir(&folder), (lines + "mcx11_t lent;\n").as_bytes())
+    };
+    assert!(tried(&["mcx11.h", "mcx11_state.h", "mcx11_as_module.h"]).status.success());
+    for (headers, advice) in [
+        (["mcx11.h", "mcx11_as_module.h", "mcx11_state.h"], "include mcx11_as_module.h behind mcx11_state.h"),
+        (["mcx11_as_module.h", "mcx11.h", "mcx11_state.h"], "include mcx11_as_module.h behind mcx11.h"),
+    ] {
+        let output = tried(&headers);
+        assert!(!output.status.success() && String::from_utf8_lossy(&output.stderr).contains(advice), "{output:?}");
+    }
+}
+
+const HOOKS: &str = r#"
+#define MCX11_TRACE of_ride
+#define MCX11_MODULE_TRACE of_brake
+#include "mcx11.h"
+#include <stdio.h>
+static mcx11_t ride;
+static mcx11_module_t brake;
+static void told(const char *whose, enum mcx11_traced what, const uint8_t *bytes, size_t length, uint8_t number)
+{
+    const char *name = what == MCX11_TRACED_CONFIGURATION ? "configuration" : mcx11_code_name(bytes[0]);
+    printf("%s: %s of %d bytes, %s\n", whose, name, (int)length, mcx11_number_name(number));
+}
+void of_ride(const mcx11_t *m, enum mcx11_traced what, const uint8_t *bytes, size_t length, uint8_t number)
+{
+    told(m == &ride ? "ride" : "unknown", what, bytes, length, number);
+}
+void of_brake(const mcx11_module_t *m, enum mcx11_traced what, const uint8_t *bytes, size_t length, uint8_t number)
+{
+    told(m == &brake ? "brake" : "unknown", what, bytes, length, number);
+}
+int main(void)
+{
+    static mcx11_configuration_t configuration;
+    configuration.tasks = 17;
+    configuration.ticks_per_tock = 1;
+    configuration.milliseconds_per_tock = 125;
+    mcx11_configure_from(&ride, &configuration);
+    mcx11_module_configure_from(&brake, &configuration);
+    mcx11_tick(&ride);
+    mcx11_module_tick(&brake);
+    return 0;
+}
+"#;
+
+#[test]
+fn each_hook_gets_the_calls_on_its_own_memory() {
+    let due = "ride: configuration of 25 bytes, accepted\nbrake: configuration of 25 bytes, above module\n\
+               ride: tick of 5 bytes, accepted\nbrake: tick of 5 bytes, memory\n";
+    assert_eq!(told_by("hooks", HOOKS), due);
+}
+
 /// Of each value its enumerator in the header's enum, in small letters and without what all names begin with.
 fn names(of: &str) -> Vec<String> {
     let header = text("host/mcx11.h");
@@ -119,17 +231,10 @@ fn names(of: &str) -> Vec<String> {
 /// Every name that the header has as a text is the enumerator's, and what has no name is unknown.
 #[test]
 fn the_texts_are_the_enumerators_names() {
-    let folder = scratch("names");
     let source = "#include \"mcx11.h\"\n#include <stdio.h>\nint main(void)\n{\n    int i;\n    for (i = 0; i < 256; i++)\n        \
                   printf(\"%s|%s|%s\\n\", mcx11_code_name((uint8_t)i), mcx11_outcome_name((uint8_t)i), \
                   mcx11_number_name((uint8_t)i));\n    return 0;\n}\n";
-    std::fs::write(folder.join("names.c"), source).unwrap();
-    let program = folder.join("names");
-    let mut compile = Command::new("gcc");
-    compile.args(["-std=c99"]).args(tools::STRICT).arg("-I").arg(repository().join("host"));
-    compile.arg(folder.join("names.c")).arg("-o").arg(&program);
-    printed(&mut compile, b"");
-    let told = printed(&mut Command::new(&program), b"");
+    let told = told_by("names", source);
     let all = ["code", "outcome_kind", "number"].map(names);
     let due = (0..256).map(|value| format!("{}|{}|{}", all[0][value], all[1][value], all[2][value]));
     assert!(told.lines().eq(due.clone()), "{:?}", told.lines().zip(due).find(|(ours, due)| ours != due));
@@ -142,7 +247,8 @@ fn doxygen_reads_the_comments() {
     let ours = repository().join("host");
     let told = format!(
         "INPUT={}\nFILE_PATTERNS=*.h\nOUTPUT_DIRECTORY={}\nQUIET=YES\nGENERATE_LATEX=NO\nHAVE_DOT=NO\nEXTRACT_STATIC=YES\n\
-         OPTIMIZE_OUTPUT_FOR_C=YES\nJAVADOC_AUTOBRIEF=YES\nPREDEFINED=MCX11_TRACE=trace\nMACRO_EXPANSION=YES\n",
+         OPTIMIZE_OUTPUT_FOR_C=YES\nJAVADOC_AUTOBRIEF=YES\nPREDEFINED=MCX11_TRACE=trace MCX11_MODULE_TRACE=module_trace\n\
+         MACRO_EXPANSION=YES\n",
         ours.display(),
         scratch("doxygen").display()
     );
@@ -195,7 +301,7 @@ fn timers(items: &Items) -> String {
         let plain_executive::items::TimerItem { task, semaphore, tocks_left, period } = **timer;
         format!("timer {task} {semaphore} left {tocks_left} period {period}\n")
     };
-    due_or_cyclic.map(|timer| line(timer)).collect()
+    due_or_cyclic.map(line).collect()
 }
 
 fn bits(blocks: Blocks) -> u8 {
@@ -208,8 +314,8 @@ fn digits(bytes: &[u8]) -> String {
 }
 
 /// The memories after some frames of a session, and the states that the other implementation has there.
-fn of_session(script: &Script, every: usize, memories: &mut Vec<u8>, states: &mut String) {
-    let mut memory = Lent::new(SIZES, || 0xA5);
+fn of_session(caller: Caller, script: &Script, every: usize, memories: &mut Vec<u8>, states: &mut String) {
+    let mut memory = Lent::of(caller, caller.sizes(), || 0xA5);
     let mut other = Executive::configure(&script.configuration).expect("accepted");
     assert_eq!(memory.configure(&script.configuration), 0);
     for (index, frame) in script.frames.iter().enumerate() {
@@ -222,26 +328,27 @@ fn of_session(script: &Script, every: usize, memories: &mut Vec<u8>, states: &mu
     }
 }
 
-#[test]
-fn the_readers_tell_the_other_implementations_state() {
+fn the_readers_tell_the_other_implementations_state(caller: Caller) {
     let (mut memories, mut states) = (Vec::new(), String::new());
-    of_session(&cascade(), 3, &mut memories, &mut states);
+    if caller == Caller::Controller {
+        of_session(caller, &cascade(), 3, &mut memories, &mut states);
+    }
     for seed in 0..100 {
-        let tasks = [1, 2, 5, 20, 126][seed as usize % 5];
-        let script = Generator::new(seed).script(tasks..=tasks, 300);
-        of_session(&script, 20, &mut memories, &mut states);
+        let tasks = [1, 2, 5, 20, 126][seed as usize % 5].min(caller.limits().tasks);
+        let script = Generator::within(caller.limits(), seed).script(tasks..=tasks, 300);
+        of_session(caller, &script, 20, &mut memories, &mut states);
     }
     let due = "DONE|WAITING|holds 2|mailbox 2|blocks 4|blocks 8|blocks 1 |blocks 2 |timer|pairs 2:";
     for word in due.split('|') {
         assert!(states.contains(word), "never reached: {word}");
     }
-    let folder = scratch("state");
+    let folder = scratch(&format!("state {caller:?}"));
     for language in two_languages() {
-        let program = built(&folder, "state.c", language, &["-O2"]);
+        let program = built(&folder, "state.c", language, &[&["-O2"], of_caller(caller)].concat());
         same(&printed(&mut Command::new(&program), &memories), &states);
     }
     for language in languages() {
-        built(&folder, "state.c", language, &[]);
+        built(&folder, "state.c", language, of_caller(caller));
     }
 }
 
@@ -254,14 +361,13 @@ fn same(ours: &str, theirs: &str) {
 
 /// Damaged memory that a frame would go on from means a state, and the readers tell that one; of any other memory they tell
 /// something. They stay inside: the sanitizers of gcc find an index that is outside its block.
-#[test]
-fn the_readers_stay_inside_whatever_the_memory_holds() {
+fn the_readers_stay_inside_whatever_the_memory_holds(caller: Caller) {
     let mut random = Random::new(23);
     let (mut good, mut states, mut bad) = (Vec::new(), String::new(), Vec::new());
-    let mut another = Lent::new(SIZES, || 0);
+    let mut another = Lent::of(caller, caller.sizes(), || 0);
     for seed in 0..400 {
-        let script = Generator::new(9000 + seed).script(1..=12, 40);
-        let mut memory = Lent::new(SIZES, || random.byte());
+        let script = Generator::within(caller.limits(), 9000 + seed).script(1..=12, 40);
+        let mut memory = Lent::of(caller, caller.sizes(), || random.byte());
         assert_eq!(memory.configure(&script.configuration), 0);
         for frame in &script.frames {
             memory.frame(frame);
@@ -269,35 +375,45 @@ fn the_readers_stay_inside_whatever_the_memory_holds() {
         let left = memory.clone();
         damage(&mut random, &mut memory, &Configuration::read(&script.configuration).expect("accepted"), &another);
         another = left;
-        if memory.blocks().map(<[u8]>::len) != SIZES {
+        if memory.blocks().map(<[u8]>::len) != caller.sizes() {
             continue;
         }
-        match rules::configuration(&memory.config) {
+        match rules::configuration_of(&memory) {
             Some(configuration) if rules::broken(&memory).is_none() => {
                 states.push_str(&state(&memory.items(&configuration), &configuration, memory.kept_frame()));
                 good.extend(memory.blocks().concat());
             }
             _ => bad.extend(memory.blocks().concat()),
         }
-        let mut any = Lent::new(SIZES, || random.byte());
-        let counts = [140, 256, 40, 70, 70].map(|most| random.below(most) as u8);
+        let mut any = Lent::of(caller, caller.sizes(), || random.byte());
+        let Limits { tasks, queues, timers, messages, .. } = caller.limits();
+        let counts = [tasks, 254, queues, timers, messages].map(|most| random.below(usize::from(most) + 2) as u8);
         any.config[FRAME..][..counts.len()].copy_from_slice(&counts);
+        any.config[PART..FRAME].copy_from_slice(&(random.below(400) as u16).to_be_bytes());
         bad.extend(any.blocks().concat());
     }
-    let size = SIZES.iter().sum::<usize>();
+    let size = caller.sizes().iter().sum::<usize>();
     assert!(good.len() > 100 * size && bad.len() > 390 * size, "{} good, {} bad", good.len() / size, bad.len() / size);
     let sanitized = ["-g", "-O1", "-fsanitize=address,undefined", "-fno-sanitize-recover=all"];
-    let program = built(&scratch("inside"), "state.c", two_languages()[0], &sanitized);
+    let folder = scratch(&format!("inside {caller:?}"));
+    let program = built(&folder, "state.c", two_languages()[0], &[&sanitized, of_caller(caller)].concat());
     same(&printed(&mut Command::new(&program), &good), &states);
     let told = printed(&mut Command::new(&program), &bad);
-    let tasks = told.lines().filter_map(|line| line.strip_prefix("tasks ")?.split(' ').next());
-    assert!(tasks.eq(bad.chunks(size).map(|memory| tasks_of(memory).to_string())));
+    let count = |word: &str, line: &str| line.strip_prefix(word)?.split([' ', ':']).next()?.parse::<usize>().ok();
+    let [tasks, pairs] = ["tasks ", "pairs "].map(|word| told.lines().filter_map(move |line| count(word, line)));
+    assert!(tasks.zip(pairs).eq(bad.chunks(size).map(|memory| tasks_and_pairs(caller, memory))));
 }
 
-/// T, where the counts are a configuration's; else there is nothing to read.
-fn tasks_of(memory: &[u8]) -> u8 {
+/// T and the number of pairs, where the counts are a configuration's within the limits; else there is nothing to read. Pairs of a
+/// frame that is too long for the block are none.
+fn tasks_and_pairs(caller: Caller, memory: &[u8]) -> (usize, usize) {
+    let most = caller.limits();
     let [tasks, named, queues, timers, messages] = *memory[FRAME..].first_chunk().expect("a memory");
-    let semaphores = u32::from(named) + u32::from(tasks) + 2 * u32::from(queues);
-    let counts = tasks <= 126 && queues <= 32 && timers <= 64 && messages <= 64 && semaphores <= 255;
-    tasks * u8::from(counts)
+    let few = tasks <= most.tasks && queues <= most.queues && timers <= most.timers && messages <= most.messages;
+    let [tasks, named, queues] = [tasks, named, queues].map(usize::from);
+    if !few || tasks == 0 || named + tasks + 2 * queues > 255 {
+        return (0, 0);
+    }
+    let length = Some(kept_length(memory)).filter(|length| *length <= caller.longest());
+    (tasks, length.map_or(0, |length| length.saturating_sub(8 + tasks + 2 * queues) / 2))
 }

@@ -1,32 +1,41 @@
-//! host/ and docs/HOST.md: the header compiles as C and C++ and leads to the archive's functions; its sizes, codes, outcomes
-//! and numbers are the paper's, and the page's; the examples print what is stored.
+//! host/ and docs/HOST.md: the header compiles as C and C++ and leads to the archive's functions, the controller's and the module's;
+//! its sizes, limits, codes, outcomes and numbers are the paper's, and the pages'; the examples print what is stored.
 
 mod tools;
 
-use c::lent::SIZES;
+use c::caller::Caller;
+use c::for_each_caller;
+use plain_executive::configuration::MOST_PAIRS;
 use plain_executive::generator::Generator;
+use plain_executive::limits::Limits;
 use plain_executive::line::{MOST_BYTES, MOST_DIGITS};
-use plain_executive::session;
 use plain_executive::tasks::SLOT_BYTES;
 use std::fs;
 use std::process::Command;
-use tools::{built, frames_of, languages, printed, repository, run, scratch, stories, text};
+use tools::{answers, built, frames_of, languages, of_caller, printed, repository, run, scratch, stories, text};
+
+for_each_caller!(
+    every_language_replays_the_stories_and_random_sessions,
+    the_struct_has_the_blocks,
+    the_pages_have_the_sizes_and_limits,
+);
 
 // ---- the header
 
-#[test]
-fn every_language_replays_the_stories_and_random_sessions() {
-    let folder = scratch("replay");
+fn every_language_replays_the_stories_and_random_sessions(caller: Caller) {
+    let folder = scratch(&format!("replay {caller:?}"));
+    let random = |seed: u64| Generator::within(caller.limits(), seed).script(1..=20, 200).lines();
     let mut sessions: Vec<(String, Vec<u8>)> = (0..20)
-        .map(|seed| (format!("seed {seed}"), Generator::new(seed).script(1..=20, 200).lines()))
+        .map(|seed| (format!("seed {seed}"), random(seed)))
         .chain([("a refused configuration".to_string(), b"00\n".to_vec())])
+        .chain([("17 tasks".to_string(), format!("11000000000100010{}\n", "0".repeat(33)).into_bytes())])
         .collect();
     sessions.extend(stories().into_iter().map(|story| (story.clone(), frames_of(&story))));
     for language in languages() {
-        let program = built(&folder, "replay.c", language, &[]);
+        let program = built(&folder, "replay.c", language, of_caller(caller));
         for (name, input) in &sessions {
-            let answers = printed(&mut Command::new(&program), input);
-            assert_eq!(answers.as_bytes(), session::run(input), "{language:?}: {name}");
+            let told = printed(&mut Command::new(&program), input);
+            assert_eq!(told.as_bytes(), answers(caller, input), "{language:?}: {name}");
         }
     }
 }
@@ -72,32 +81,78 @@ fn numbers() -> Vec<(String, u32)> {
     constants("tests/src/numbers.rs", "Number")
 }
 
+const BLOCKS: [&str; 5] = ["config", "tables", "slots", "timers", "answer"];
+
+/// What a caller's names begin with, behind MCX11_ or mcx11_.
+fn family(caller: Caller) -> &'static str {
+    match caller {
+        Caller::Controller => "",
+        Caller::Module => "module_",
+    }
+}
+
+/// The names of a caller's constants, each with its number.
+fn constants_of(caller: Caller, before: &str, names: [&str; 5], behind: &str, numbers: [u32; 5]) -> Vec<(String, u32)> {
+    let name = |name: &str| format!("{}{before}{name}{behind}", family(caller)).to_uppercase();
+    names.into_iter().map(name).zip(numbers).collect()
+}
+
+fn limits(caller: Caller) -> [u32; 5] {
+    let Limits { tasks, queues, timers, messages, queue_bytes } = caller.limits();
+    [tasks.into(), queues.into(), timers.into(), messages.into(), queue_bytes as u32]
+}
+
 #[test]
-fn the_sizes_are_those_of_the_memory_page() {
-    let page = text("docs/MEMORY.md");
-    let rows = page.lines().skip_while(|line| !line.starts_with("| Block | Bytes | Needed")).skip(2);
-    let rows: Vec<Vec<&str>> =
-        rows.take_while(|line| line.starts_with('|')).map(|line| line.split('|').map(str::trim).collect()).collect();
-    let blocks: Vec<String> = rows.iter().map(|row| row[1].trim_matches('`').to_string()).collect();
-    let sizes: Vec<u32> = rows.iter().map(|row| row[2].parse().expect("bytes")).collect();
-    assert_eq!(sizes, SIZES.map(|size| size as u32));
+fn the_sizes_and_limits_are_the_papers() {
+    let sizes = |caller: Caller| constants_of(caller, "", BLOCKS, "_BYTES", caller.sizes().map(|size| size as u32));
+    let most = ["TASKS", "QUEUES", "TIMERS", "MESSAGES", "QUEUE_BYTES"];
+    let limits = |caller: Caller| constants_of(caller, "MOST_", most, "", limits(caller));
+    let both = [("FRAME_BYTES", MOST_BYTES), ("LINE_DIGITS", MOST_DIGITS), ("ENTRY_BYTES", SLOT_BYTES)];
+    let both = both.into_iter().chain([("MOST_PAIRS", MOST_PAIRS)]).map(|(name, size)| (name.to_string(), size as u32));
+    let due = Caller::ALL.into_iter().flat_map(sizes).chain(both).chain(Caller::ALL.into_iter().flat_map(limits));
+    let defined = named(&text("host/mcx11.h"), "#define MCX11_", " ", ' ').into_iter();
+    let defined: Vec<_> = defined.filter(|(name, _)| !name.starts_with("VERSION")).collect();
+    assert_eq!(defined, due.collect::<Vec<_>>());
+}
 
-    let header = text("host/mcx11.h");
-    let defined = named(&header, "#define MCX11_", " ", ' ').into_iter();
-    let defined: Vec<_> = defined.filter(|(name, _)| name.ends_with("_BYTES") || name.ends_with("_DIGITS")).collect();
-    let named_after = |block: &String| format!("{}_BYTES", block.to_uppercase());
-    let longest = [("FRAME_BYTES", MOST_BYTES), ("LINE_DIGITS", MOST_DIGITS), ("ENTRY_BYTES", SLOT_BYTES)];
-    let longest = longest.map(|(name, size)| (name.to_string(), size as u32));
-    assert_eq!(defined, blocks.iter().map(named_after).zip(sizes).chain(longest).collect::<Vec<_>>());
+fn the_struct_has_the_blocks(caller: Caller) {
+    let (header, family) = (text("host/mcx11.h"), family(caller));
+    let body =
+        header.split(&format!("typedef struct mcx11_{family}t {{")).nth(1).and_then(|rest| rest.split('}').next());
+    let field = |line: &str| Some(line.trim().strip_prefix("uint8_t ")?.split_once(';')?.0.to_string());
+    let fields: Vec<String> = body.expect("the struct").lines().filter_map(field).collect();
+    let size = |block: &str| format!("mcx11_{family}{block}_bytes").to_uppercase();
+    assert_eq!(fields, BLOCKS.map(|block| format!("{block}[{}]", size(block))));
+}
 
-    let fields = header.split("typedef struct mcx11_t {").nth(1).and_then(|rest| rest.split("} mcx11_t;").next());
-    let fields: Vec<String> = fields
-        .expect("the struct")
-        .lines()
-        .filter_map(|line| Some(line.trim().strip_prefix("uint8_t ")?.split_once(';')?.0.to_string()))
-        .collect();
-    let field = |block: &String| format!("{block}[MCX11_{}]", named_after(block));
-    assert_eq!(fields, blocks.iter().map(field).collect::<Vec<_>>());
+/// A column of a page's table: that of the controller, or the module's behind it.
+fn column(page: &str, heading: &str, place: usize) -> Vec<String> {
+    let page = text(page);
+    let rows = page.lines().skip_while(|line| !line.starts_with(heading)).skip(2);
+    let cell = |line: &str| line.split('|').nth(place).expect("a cell").trim().to_string();
+    rows.take_while(|line| line.starts_with('|')).map(cell).collect()
+}
+
+fn the_pages_have_the_sizes_and_limits(caller: Caller) {
+    let behind = usize::from(caller == Caller::Module);
+    let heading = "| Block | Bytes | On the module |";
+    assert_eq!(column("docs/MEMORY.md", heading, 1), BLOCKS.map(|block| format!("`{block}`")));
+    assert_eq!(column("docs/MEMORY.md", heading, 2 + behind), caller.sizes().map(|size| size.to_string()));
+    let all = limits(caller).into_iter().chain([MOST_PAIRS as u32, 255, caller.longest() as u32]);
+    let told = column("docs/MEMORY.md", "| At most | Controller | Module |", 2 + behind);
+    assert_eq!(told, all.map(|limit| limit.to_string()).collect::<Vec<_>>());
+
+    let total: usize = caller.sizes().iter().sum();
+    let total = format!("{},{:03}", total / 1000, total % 1000);
+    for page in ["README.md", "docs/HOST.md", "docs/MEMORY.md", "docs/CHANGES.md"] {
+        assert!(text(page).contains(&total), "{page} does not have {total}, all bytes that are lent");
+    }
+
+    let heading = "| Bytes | Holds | In `mcx11_configuration_t` |";
+    let told = column("docs/FRAMES.md", heading, 3).into_iter().zip(column("docs/FRAMES.md", heading, 5 + behind));
+    let counts = ["`tasks`", "`queues`", "`timers`", "`messages`"];
+    let told = told.filter(|(field, _)| counts.contains(&field.as_str())).map(|(_, most)| most);
+    assert_eq!(told.collect::<Vec<_>>(), limits(caller)[..4].iter().map(u32::to_string).collect::<Vec<_>>());
 }
 
 #[test]
@@ -125,7 +180,9 @@ fn the_archive_has_the_headers_functions_and_no_data() {
 fn the_examples_print_what_is_stored() {
     let build = || Command::new(repository().join("host/build"));
     assert_eq!(printed(&mut build(), b""), text("host/example.out"));
-    assert_eq!(printed(build().arg("switching"), b""), text("host/switching.out"));
+    for example in ["switching", "both"] {
+        assert_eq!(printed(build().arg(example), b""), text(&format!("host/{example}.out")));
+    }
 }
 
 #[test]
@@ -135,7 +192,8 @@ fn the_build_says_what_is_missing() {
     for file in ["build", "example.c"] {
         fs::copy(repository().join("host").join(file), folder.join(file)).unwrap();
     }
-    for (name, advice) in [("example", "run 'rt staticlib mcx11' first"), ("exmaple", "name 'example' or 'switching'")]
+    for (name, advice) in
+        [("example", "run 'rt staticlib mcx11' first"), ("exmaple", "name 'example', 'switching' or 'both'")]
     {
         let output = run(Command::new(folder.join("build")).arg(name), b"");
         assert_eq!(output.status.code(), Some(1));

@@ -41,7 +41,11 @@ fn what_is_installed() {
             "{below}"
         );
     };
-    for header in ["mcx11.h", "mcx11_state.h"] {
+    let headers = fs::read_dir(repository().join("host")).unwrap().map(|file| file.unwrap().file_name());
+    let headers: Vec<String> =
+        headers.map(|name| name.into_string().unwrap()).filter(|name| name.ends_with(".h")).collect();
+    assert_eq!(headers.len(), 5, "{headers:?}");
+    for header in headers {
         same(&format!("include/{header}"), &format!("host/{header}"));
     }
     same("lib/libmcx11.a", "target/staticlib/libmcx11.a");

@@ -1,6 +1,7 @@
-//! The searches for a message through the C functions, with up to 64 messages that lie: the one that a task receives at each place
+//! The searches for a message through the C functions, with up to all messages that lie: the one that a task receives at each place
 //! and at none, sent at each place a second time, and a new one that goes in at each place. Against the other implementation.
 
+use c::caller::Caller;
 use c::compare::compare;
 use plain_executive::answer;
 use plain_executive::command::{RECEIVE, RESUME, SEND, SUSPEND};
@@ -10,13 +11,17 @@ use plain_executive::numbers::MESSAGE_IN_MAILBOX;
 
 type Frame = Vec<u8>;
 
-/// How many messages lie.
-const LYING: [u8; 8] = [0, 1, 2, 3, 32, 62, 63, 64];
-const MOST: u8 = 64;
+c::for_each_caller!(
+    received_among_messages_for_others,
+    received_among_messages_from_others,
+    sent_a_second_time,
+    put_in_at_each_place,
+);
 
 /// A session of two tasks that are runnable, the first of which receives.
 #[derive(Clone, Copy, Debug)]
 struct Case {
+    caller: Caller,
     /// The task that receives, behind it the other one; those before it are idle. Records for task 1 are told by another test than
     /// those for a task above it.
     own: u8,
@@ -27,12 +32,13 @@ struct Case {
 }
 
 impl Case {
-    fn each(check: impl Fn(Case)) {
-        for lying in LYING {
-            let rooms = if lying == MOST { vec![MOST] } else { vec![lying, MOST] };
+    fn each(caller: Caller, check: impl Fn(Case)) {
+        let most = caller.limits().messages;
+        for lying in [0, 1, 2, 3, most / 2, most - 2, most - 1, most] {
+            let rooms = if lying == most { vec![most] } else { vec![lying, most] };
             for (own, messages) in [1, 2].into_iter().flat_map(|own| rooms.iter().map(move |&messages| (own, messages)))
             {
-                (0..=lying).for_each(|place| check(Case { own, messages, lying, place }));
+                (0..=lying).for_each(|place| check(Case { caller, own, messages, lying, place }));
             }
         }
     }
@@ -64,7 +70,7 @@ impl Case {
         let states = (1..=self.other()).map(|task| u8::from(task < self.own));
         let configuration = [vec![self.other(), 1, 0, 0, self.messages, 1, 0, 1], states.collect()].concat();
         let script = Script { configuration, frames };
-        compare(&script, &|memory, frame| memory.frame(frame), &format!("{self:?}"));
+        compare(self.caller, &script, &|memory, frame| memory.frame(frame), &format!("{self:?}"));
         let mut other = Executive::configure(&script.configuration).expect("accepted");
         let answers: Vec<_> = script.frames.iter().map(|frame| other.frame(frame)).collect();
         let answer = answers.last().expect("a frame");
@@ -93,21 +99,18 @@ fn is_received(case: Case, mail: Vec<Frame>, from: u8, otherwise: u8) {
     assert_eq!(received, expected, "{case:?}, from {from}");
 }
 
-#[test]
-fn received_among_messages_for_others() {
-    Case::each(|case| {
+fn received_among_messages_for_others(caller: Caller) {
+    Case::each(caller, |case| {
         [0, case.own].into_iter().for_each(|from| is_received(case, case.mail_for_both(), from, answer::BEGIN))
     });
 }
 
-#[test]
-fn received_among_messages_from_others() {
-    Case::each(|case| is_received(case, case.mail_from_both(), case.other(), answer::PLAIN));
+fn received_among_messages_from_others(caller: Caller) {
+    Case::each(caller, |case| is_received(case, case.mail_from_both(), case.other(), answer::PLAIN));
 }
 
-#[test]
-fn sent_a_second_time() {
-    Case::each(|case| {
+fn sent_a_second_time(caller: Caller) {
+    Case::each(caller, |case| {
         if case.lies() {
             let refused = case.last(with(case.mail_for_both(), send(case.own, case.place + 1)));
             assert_eq!(refused.0, MESSAGE_IN_MAILBOX, "{case:?}");
@@ -116,9 +119,8 @@ fn sent_a_second_time() {
 }
 
 /// A new message goes in before those from the higher sender: the task receives from the first on, and it comes at its place.
-#[test]
-fn put_in_at_each_place() {
-    Case::each(|case| {
+fn put_in_at_each_place(caller: Caller) {
+    Case::each(caller, |case| {
         if case.lying < case.messages {
             let sent = with(case.mail_from_both(), send(case.own, case.lying + 1));
             let receives = (0..=case.place).map(|_| service(RECEIVE, 0)).collect();

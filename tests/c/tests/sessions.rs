@@ -1,8 +1,9 @@
 //! Random sessions through the C functions, against the other implementation: every answer, every number, and after every
 //! frame every item of the lent memory. Other seeds, by the variable SEED, give other sessions.
 
+use c::caller::Caller;
 use c::compare::{compare, difference, shortened, Feed};
-use c::lent::{slot, timer_row, Lent, Regions, COUNT, FRAME, PART, PLANES, SIZES, TICKS};
+use c::lent::{slot, timer_row, Lent, Regions, COUNT, FRAME, PART, PLANES, TICKS};
 use plain_executive::configuration::Configuration;
 use plain_executive::coverage::Coverage;
 use plain_executive::executive::Executive;
@@ -13,6 +14,19 @@ use plain_executive::session;
 
 const TASKS: [u8; 5] = [1, 2, 5, 20, 126];
 
+c::for_each_caller!(
+    sessions_of_every_size,
+    long_sessions,
+    refused_configurations_write_the_answer_alone,
+    every_item_is_compared,
+    numbers_strange_and_promised_bytes_and_refused_frames_are_compared,
+    a_difference_comes_as_a_short_session,
+    a_short_block_gives_11_before_all_else,
+);
+
+/// Situations that the module has no room for.
+const TOO_LARGE: [&str; 2] = ["answers: task 126 runs", "settling: 90 reissues or more"];
+
 fn first_seed() -> u64 {
     let given = std::env::var("SEED").ok();
     given.map_or(0, |seed| seed.parse().expect("SEED is a number")) << 32
@@ -22,37 +36,42 @@ fn engine(memory: &mut Lent, frame: &[u8]) -> Number {
     memory.frame(frame)
 }
 
-#[test]
-fn sessions_of_every_size() {
-    let mut coverage = Coverage::new();
-    compare(&cascade(), &engine, "the cascade");
-    coverage.watch_script(&cascade());
-    for seed in first_seed()..first_seed() + 500 {
+/// The cascade, where the caller has room for it, and random sessions.
+fn sessions(caller: Caller) -> impl Iterator<Item = (String, Script)> {
+    let fits = |script: &Script| Configuration::read_within(caller.limits(), &script.configuration).is_ok();
+    let cascade = Some(cascade()).filter(fits).map(|script| ("the cascade".to_string(), script));
+    let random = (first_seed()..first_seed() + 750).map(move |seed| {
         let tasks = TASKS[seed as usize % TASKS.len()];
-        let script = Generator::new(seed).script(tasks..=tasks, 300);
-        compare(&script, &engine, &format!("seed {seed}"));
+        (format!("seed {seed}"), Generator::within(caller.limits(), seed).script(tasks..=tasks, 300))
+    });
+    cascade.into_iter().chain(random)
+}
+
+fn sessions_of_every_size(caller: Caller) {
+    let mut coverage = Coverage::new();
+    for (name, script) in sessions(caller) {
+        compare(caller, &script, &engine, &name);
         coverage.watch_script(&script);
     }
+    let expected: &[&str] = if caller == Caller::Module { &TOO_LARGE } else { &[] };
     let missing = coverage.missing_of_frames();
-    assert!(missing.is_empty() || first_seed() != 0, "not reached: {missing:#?}");
+    assert!(missing == expected || first_seed() != 0, "not reached: {missing:#?}");
 }
 
-#[test]
-fn long_sessions() {
+fn long_sessions(caller: Caller) {
     for seed in first_seed() + 1000..first_seed() + 1004 {
-        let script = Generator::new(seed).script(3..=12, 20_000);
-        compare(&script, &engine, &format!("seed {seed}"));
+        let script = Generator::within(caller.limits(), seed).script(3..=12, 20_000);
+        compare(caller, &script, &engine, &format!("seed {seed}"));
     }
 }
 
-#[test]
-fn refused_configurations_write_the_answer_alone() {
+fn refused_configurations_write_the_answer_alone(caller: Caller) {
     let mut random = Random::new(9);
     let mut generator = Generator::new(9);
     for turn in 0..5000 {
         let frame = generator.refused_configuration();
         let number: Number = Executive::configure(&frame).expect_err("refused");
-        let mut memory = Lent::new(SIZES, || random.byte());
+        let mut memory = Lent::of(caller, caller.sizes(), || random.byte());
         let before = memory.clone();
         assert_eq!(memory.configure(&frame), number, "turn {turn}: {frame:02X?}");
         assert_eq!(memory.answered(), [number, 0, 0, 0], "turn {turn}: {frame:02X?}");
@@ -111,11 +130,10 @@ const FAULTS: [Fault; 23] = [
     ("the answer", |memory, _| memory.answer[3] ^= 1),
 ];
 
-#[test]
-fn every_item_is_compared() {
+fn every_item_is_compared(caller: Caller) {
     let script = everything();
     let configuration = Configuration::read(&script.configuration).expect("accepted");
-    assert!(difference(&script, &engine).is_none(), "{:?}", difference(&script, &engine));
+    assert!(difference(caller, &script, &engine).is_none(), "{:?}", difference(caller, &script, &engine));
     for (name, fault) in FAULTS {
         let faulty = |memory: &mut Lent, frame: &[u8]| {
             let number = memory.frame(frame);
@@ -124,13 +142,12 @@ fn every_item_is_compared() {
             }
             number
         };
-        let found = difference(&script, &faulty).unwrap_or_else(|| panic!("{name}: no difference"));
+        let found = difference(caller, &script, &faulty).unwrap_or_else(|| panic!("{name}: no difference"));
         assert!(found.what.starts_with(name), "{name}: {found:?}");
     }
 }
 
-#[test]
-fn numbers_strange_and_promised_bytes_and_refused_frames_are_compared() {
+fn numbers_strange_and_promised_bytes_and_refused_frames_are_compared(caller: Caller) {
     let faults: [(&str, Feed); 4] = [
         ("the number", &|memory, frame| if memory.frame(frame) == 7 { 6 } else { 0 }),
         ("the memory holds what the program never writes", &|memory, frame| {
@@ -145,19 +162,18 @@ fn numbers_strange_and_promised_bytes_and_refused_frames_are_compared() {
         }),
         ("a refused frame wrote", &|memory, frame| {
             let number = memory.frame(frame);
-            memory.timers[SIZES[3] - 5] ^= u8::from(number != 0);
+            memory.timers[memory.caller.sizes()[3] - 5] ^= u8::from(number != 0);
             number
         }),
     ];
     for (name, faulty) in faults {
-        let found = difference(&everything(), faulty).unwrap_or_else(|| panic!("{name}: no difference"));
+        let found = difference(caller, &everything(), faulty).unwrap_or_else(|| panic!("{name}: no difference"));
         assert!(found.what.starts_with(name), "{name}: {found:?}");
     }
 }
 
 /// A program that loses a bit of the entries that it hands out: the session that shows it is short, and replays.
-#[test]
-fn a_difference_comes_as_a_short_session() {
+fn a_difference_comes_as_a_short_session(caller: Caller) {
     let faulty = |memory: &mut Lent, frame: &[u8]| {
         let number = memory.frame(frame);
         if memory.answer[4] == 3 {
@@ -167,22 +183,24 @@ fn a_difference_comes_as_a_short_session() {
         number
     };
     let script = Generator::new(1).script_of(everything().configuration, 2000);
-    let found = difference(&script, &faulty).expect("a difference");
-    let short = shortened(&script, &faulty);
+    let found = difference(caller, &script, &faulty).expect("a difference");
+    let short = shortened(caller, &script, &faulty);
     assert_eq!(short.frames.len(), 2, "{} frames, from {}", short.frames.len(), found.frames);
     let answers = session::run(&short.lines());
     assert_eq!(session::lines(&answers).count(), 3);
-    let told = std::panic::catch_unwind(|| compare(&script, &faulty, "faulty")).expect_err("a panic");
+    let told = std::panic::catch_unwind(|| compare(caller, &script, &faulty, "faulty")).expect_err("a panic");
     let told = told.downcast::<String>().expect("a text");
     assert!(told.ends_with(&String::from_utf8_lossy(&short.lines()).into_owned()), "{told}");
     assert!(told.starts_with("faulty, with the last of these 2 frames (0 too long for a line): the answer"), "{told}");
 }
 
-#[test]
-fn a_short_block_gives_11_before_all_else() {
-    let [config, tables, slots, timers, answer] = SIZES;
-    let mut memory = Lent::new([config, tables, slots, timers - 1, answer], || 0);
-    assert_eq!((memory.configure(&[]), memory.frame(&[])), (MEMORY, MEMORY));
-    let mut memory = Lent::new(SIZES, || 0);
+fn a_short_block_gives_11_before_all_else(caller: Caller) {
+    for short in 0..5 {
+        let mut sizes = caller.sizes();
+        sizes[short] -= 1;
+        let mut memory = Lent::of(caller, sizes, || 0);
+        assert_eq!((memory.configure(&[]), memory.frame(&[])), (MEMORY, MEMORY), "block {short}");
+    }
+    let mut memory = Lent::of(caller, caller.sizes(), || 0);
     assert_eq!((memory.configure(&[]), memory.frame(&[])), (2, MEMORY));
 }

@@ -1,7 +1,8 @@
 //! One value for one item: after a configuration and after every frame each byte of the lent memory is the one that docs/MEMORY.md
 //! promises, whatever the memory held before. Free bytes may hold anything, and bytes outside stay.
 
-use c::lent::{timer_row, Lent, SIZES};
+use c::caller::Caller;
+use c::lent::{timer_row, Lent};
 use c::tidy::{left, untidy, Left};
 use plain_executive::executive::Executive;
 use plain_executive::generator::{Generator, Script};
@@ -11,10 +12,16 @@ use plain_executive::random::Random;
 const FLOOR: usize = timer_row(0) + 6;
 const TASKS: [u8; 6] = [1, 2, 5, 12, 40, 126];
 
-fn scripts(count: u64, frames: usize) -> impl Iterator<Item = Script> {
+c::for_each_caller!(
+    two_runs_over_other_bytes_leave_the_same,
+    free_bytes_may_hold_anything,
+    every_changed_byte_is_noticed,
+);
+
+fn scripts(caller: Caller, count: u64, frames: usize) -> impl Iterator<Item = Script> {
     (0..count).map(move |seed| {
         let tasks = TASKS[seed as usize % TASKS.len()];
-        Generator::new(seed).script(tasks..=tasks, frames)
+        Generator::within(caller.limits(), seed).script(tasks..=tasks, frames)
     })
 }
 
@@ -67,13 +74,12 @@ fn compare(script: &Script, other: &Executive, runs: &[Lent; 2], compared: &mut 
 }
 
 /// Each session twice: over what the session before it left, and over the opposite of that.
-#[test]
-fn two_runs_over_other_bytes_leave_the_same() {
+fn two_runs_over_other_bytes_leave_the_same(caller: Caller) {
     let mut random = Random::new(61);
-    let mut memory = Lent::new(SIZES.map(|size| size + 3), || random.byte());
+    let mut memory = Lent::of(caller, caller.sizes().map(|size| size + 3), || random.byte());
     let mut compared = Compared::default();
     let (mut accepted, mut refused) = (0, 0);
-    for (seed, script) in scripts(180, 150).enumerate() {
+    for (seed, script) in scripts(caller, 180, 150).enumerate() {
         let mut other = other(&script);
         let mut runs = [opposite(&memory), memory];
         for run in &mut runs {
@@ -102,13 +108,12 @@ fn two_runs_over_other_bytes_leave_the_same() {
 // ---- free bytes
 
 /// Somebody writes all free bytes before every frame: the answers are the same, and so is each promised byte.
-#[test]
-fn free_bytes_may_hold_anything() {
+fn free_bytes_may_hold_anything(caller: Caller) {
     let mut random = Random::new(62);
     let mut written = 0;
-    for (seed, script) in scripts(180, 150).enumerate() {
+    for (seed, script) in scripts(caller, 180, 150).enumerate() {
         let mut other = other(&script);
-        let mut memory = Lent::new(SIZES, || random.byte());
+        let mut memory = Lent::of(caller, caller.sizes(), || random.byte());
         assert_eq!(memory.configure(&script.configuration), 0, "seed {seed}");
         for (index, frame) in script.frames.iter().enumerate() {
             let left = left(&script.configuration, &other, &memory);
@@ -133,13 +138,12 @@ fn free_bytes_may_hold_anything() {
 // ---- the comparison itself
 
 /// Each bit of each byte: a change is noticed if the byte is promised, and else not. Of the clock the time is noticed by the rows.
-#[test]
-fn every_changed_byte_is_noticed() {
+fn every_changed_byte_is_noticed(caller: Caller) {
     let mut random = Random::new(63);
     let (mut noticed, mut free, mut met) = (0, 0, [false; 4]);
-    for (seed, script) in (0..40).map(|seed| (seed, Generator::new(seed).script(3..=9, 80))) {
+    for (seed, script) in (0..40).map(|seed| (seed, Generator::within(caller.limits(), seed).script(3..=9, 80))) {
         let mut other = other(&script);
-        let mut memory = Lent::new(SIZES, || random.byte());
+        let mut memory = Lent::of(caller, caller.sizes(), || random.byte());
         memory.configure(&script.configuration);
         for frame in &script.frames {
             other.frame(frame);

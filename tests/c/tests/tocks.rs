@@ -1,6 +1,7 @@
 //! All tock values through the C functions: a timer started with each, against the other implementation.
 
-use c::lent::{Lent, PART, SIZES};
+use c::caller::Caller;
+use c::lent::{Lent, PART};
 use plain_executive::executive::Executive;
 use plain_executive::numbers::TOCK_VALUE;
 
@@ -8,9 +9,10 @@ const CONFIGURATION: [u8; 9] = [1, 1, 0, 1, 0, 1, 0, 125, 0];
 const PURGE: [u8; 5] = [0x0F, 0, 1, 0, 0];
 const TICK: [u8; 5] = [0x10, 0, 0, 0, 0];
 
-#[test]
-fn all_tock_values() {
-    let mut memory = Lent::new(SIZES, || 0xA5);
+c::for_each_caller!(all_tock_values);
+
+fn all_tock_values(caller: Caller) {
+    let mut memory = Lent::of(caller, caller.sizes(), || 0xA5);
     let mut other = Executive::configure(&CONFIGURATION).expect("accepted");
     assert_eq!(memory.configure(&CONFIGURATION), 0);
     for value in 0..=u16::MAX {

@@ -161,7 +161,7 @@ fn accepted(name: &str) -> String {
     format!("configurations: accepted, {name}")
 }
 
-fn sum(frame: &[u8]) -> usize {
+pub fn sum(frame: &[u8]) -> usize {
     usize::from(frame[1]) + usize::from(frame[0]) + 2 * usize::from(frame[2])
 }
 
@@ -169,12 +169,12 @@ fn length_without_pairs(frame: &[u8]) -> usize {
     8 + usize::from(frame[0]) + 2 * usize::from(frame[2])
 }
 
-fn states(frame: &[u8]) -> &[u8] {
+pub fn states(frame: &[u8]) -> &[u8] {
     let end = (8 + usize::from(frame[0])).min(frame.len());
     &frame[8..end]
 }
 
-fn sizes(frame: &[u8]) -> impl Iterator<Item = (u8, u8)> + '_ {
+pub fn sizes(frame: &[u8]) -> impl Iterator<Item = (u8, u8)> + '_ {
     frame[8 + usize::from(frame[0])..length_without_pairs(frame)].chunks_exact(2).map(|pair| (pair[0], pair[1]))
 }
 
@@ -210,6 +210,6 @@ fn only_wrong_pairs(frame: &[u8], fits: fn(&[u8], (u8, u8)) -> bool) -> bool {
     good_but_pairs(frame) && !wrong.is_empty() && wrong.into_iter().all(|pair| fits(frame, pair))
 }
 
-fn queue_bytes(frame: &[u8]) -> usize {
+pub fn queue_bytes(frame: &[u8]) -> usize {
     sizes(frame).map(|(width, depth)| usize::from(width) * usize::from(depth)).sum()
 }

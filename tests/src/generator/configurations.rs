@@ -4,23 +4,24 @@ use std::ops::RangeInclusive;
 
 use super::pairs;
 use crate::configuration::{Configuration, MOST_PAIRS};
+use crate::limits::Limits;
 use crate::random::Random;
 
 #[derive(Clone)]
-struct Draft {
-    tasks: u8,
-    named: u8,
-    queues: Vec<(u8, u8)>,
-    timers: u8,
-    messages: u8,
-    ticks: u8,
-    milliseconds: u16,
-    states: Vec<u8>,
-    pairs: Vec<(u8, u8)>,
+pub struct Draft {
+    pub tasks: u8,
+    pub named: u8,
+    pub queues: Vec<(u8, u8)>,
+    pub timers: u8,
+    pub messages: u8,
+    pub ticks: u8,
+    pub milliseconds: u16,
+    pub states: Vec<u8>,
+    pub pairs: Vec<(u8, u8)>,
 }
 
 impl Draft {
-    fn bytes(&self) -> Vec<u8> {
+    pub fn bytes(&self) -> Vec<u8> {
         let queues = self.queues.len() as u8;
         let mut bytes = vec![self.tasks, self.named, queues, self.timers, self.messages, self.ticks];
         bytes.extend(self.milliseconds.to_be_bytes());
@@ -29,24 +30,26 @@ impl Draft {
         bytes
     }
 
-    fn most_named(&self) -> u8 {
+    pub fn most_named(&self) -> u8 {
         255 - self.tasks - 2 * self.queues.len() as u8
     }
 }
 
-pub fn accepted(random: &mut Random, tasks: RangeInclusive<u8>) -> Vec<u8> {
-    let tasks = random.between(*tasks.start(), *tasks.end());
-    let queues = queues(random);
-    draft(random, tasks, queues).bytes()
+/// Accepted within the limits, with so many tasks as far as they go.
+pub fn within(random: &mut Random, limits: Limits, tasks: RangeInclusive<u8>) -> Draft {
+    let [least, most] = [tasks.start(), tasks.end()].map(|&tasks| tasks.min(limits.tasks));
+    let tasks = random.between(least, most);
+    let queues = queues(random, limits);
+    draft(random, limits, tasks, queues)
 }
 
-fn draft(random: &mut Random, tasks: u8, queues: Vec<(u8, u8)>) -> Draft {
+fn draft(random: &mut Random, limits: Limits, tasks: u8, queues: Vec<(u8, u8)>) -> Draft {
     let mut draft = Draft {
         tasks,
         named: 0,
         queues,
-        timers: rarely(random, 64, &[0, 1, 2, 3, 4, 6, 8]),
-        messages: rarely(random, 64, &[0, 1, 2, 3, 4, 8, 16]),
+        timers: rarely(random, limits.timers, &[0, 1, 2, 3, 4, 6, 8]),
+        messages: rarely(random, limits.messages, &[0, 1, 2, 3, 4, 8, 16]),
         ticks: rarely(random, 255, &[1, 1, 1, 2, 3]),
         milliseconds: random.pick(&[1, 10, 125, 65_535]),
         states: states(random, tasks),
@@ -54,7 +57,7 @@ fn draft(random: &mut Random, tasks: u8, queues: Vec<(u8, u8)>) -> Draft {
     };
     draft.named = if random.percent(5) { draft.most_named() } else { random.between(0, 5) };
     let mut aside = random.aside();
-    let most = draft.queues.len() == 32 && aside.percent(50);
+    let most = draft.queues.len() == usize::from(limits.queues) && aside.percent(50);
     draft.pairs = pairs::accepted(&mut aside, &draft.states, most);
     draft
 }
@@ -63,7 +66,7 @@ fn rarely(random: &mut Random, most: u8, usual: &[u8]) -> u8 {
     if random.percent(6) {
         most
     } else {
-        random.pick(usual)
+        random.pick(usual).min(most)
     }
 }
 
@@ -73,23 +76,62 @@ fn states(random: &mut Random, tasks: u8) -> Vec<u8> {
     (0..tasks).map(|place| u8::from(place < low_idle || random.percent(idle))).collect()
 }
 
-fn queues(random: &mut Random) -> Vec<(u8, u8)> {
+fn queues(random: &mut Random, limits: Limits) -> Vec<(u8, u8)> {
     match random.below(30) {
-        0 => vec![(16, 255), (16, 1)],
-        1 => (0..32).map(|_| size(random)).collect(),
+        0 => vec![nearly_full(limits), (16, 1)],
+        1 => sizes(random, limits, limits.queues),
         2 => Vec::new(),
-        _ => (0..random.between(0, 4)).map(|_| size(random)).collect(),
+        _ => {
+            let count = random.between(0, 4);
+            sizes(random, limits, count)
+        }
     }
 }
 
-fn size(random: &mut Random) -> (u8, u8) {
-    (random.pick(&[1, 1, 2, 3, 5, 16]), random.pick(&[1, 1, 1, 2, 3, 5]))
+/// A queue that leaves 16 bytes of those that all may have.
+fn nearly_full(limits: Limits) -> (u8, u8) {
+    (16, (limits.queue_bytes / 16 - 1) as u8)
+}
+
+/// A byte more than all may have.
+pub fn too_full(limits: Limits) -> Vec<(u8, u8)> {
+    vec![nearly_full(limits), (1, 17)]
+}
+
+fn sizes(random: &mut Random, limits: Limits, count: u8) -> Vec<(u8, u8)> {
+    let share = limits.queue_bytes / usize::from(count.max(1));
+    (0..count).map(|_| size(random, share)).collect()
+}
+
+fn size(random: &mut Random, most_bytes: usize) -> (u8, u8) {
+    let (width, depth) = (random.pick(&[1, 1, 2, 3, 5, 16]), random.pick(&[1, 1, 1, 2, 3, 5]));
+    (width, depth.min((most_bytes / usize::from(width)).min(255) as u8))
+}
+
+/// All that these limits allow: it needs every byte of the memory that is lent.
+pub fn largest(limits: Limits) -> Vec<u8> {
+    let Limits { tasks, queues, timers, messages, queue_bytes } = limits;
+    let half = tasks / 2;
+    let depth = queue_bytes / 16 / usize::from(queues);
+    let mut draft = Draft {
+        tasks,
+        named: 0,
+        queues: vec![(16, depth as u8); queues.into()],
+        timers,
+        messages,
+        ticks: 2,
+        milliseconds: 125,
+        states: vec![0; tasks.into()],
+        pairs: (1..=half).cycle().map(|first| (first, first + half)).take(MOST_PAIRS).collect(),
+    };
+    draft.named = draft.most_named();
+    draft.bytes()
 }
 
 /// With one fault or, rarely, with two.
 pub fn refused(random: &mut Random) -> Vec<u8> {
     loop {
-        let mut draft = draft(random, 5, vec![(1, 2), (3, 1)]);
+        let mut draft = draft(random, Limits::CONTROLLER, 5, vec![(1, 2), (3, 1)]);
         let faults = if random.percent(25) { 2 } else { 1 };
         for _ in 0..faults {
             spoil(random, &mut draft);
@@ -123,7 +165,7 @@ fn spoil(random: &mut Random, draft: &mut Draft) {
         9 => draft.queues[0].0 = 0,
         10 => draft.queues[0].0 = random.between(17, 255),
         11 => draft.queues[0].1 = 0,
-        12 => draft.queues = vec![(16, 255), (1, 17)],
+        12 => draft.queues = too_full(Limits::CONTROLLER),
         _ => pairs::spoil(random, &mut draft.states, &mut draft.pairs),
     }
 }

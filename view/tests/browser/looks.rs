@@ -3,8 +3,10 @@
 use plain_executive::executive::Executive;
 use plain_executive::generator::Generator;
 
+use c::caller::Caller;
+
 use crate::chromium::Browser;
-use crate::{browser, expected, lively, page_of, story};
+use crate::{browser, expected, lively, page_of, page_of_caller, story};
 
 /// The stories that begin.
 fn stories() -> Vec<String> {
@@ -36,6 +38,21 @@ fn compare_tables(browser: &mut Browser, states: &[Executive], frames: &[usize],
     for (rows, frame) in shown.into_iter().zip(frames) {
         assert_eq!(rows, expected::tables(&states[*frame]), "{name}, frame {frame}");
     }
+}
+
+/// A session of the module has the same tables, and the page says whose it is.
+#[test]
+fn a_page_of_the_module_says_so() {
+    let station = story("station");
+    let page = page_of_caller(Caller::Module, "module", &[("station.session", &station)], "");
+    let mut opened = browser("module");
+    let browser = &mut opened.browser;
+    browser.open(&page, "");
+    let about = browser.text("document.getElementById('about').textContent");
+    assert!(about.ends_with("; on the brake module"), "{about}");
+    let states = expected::states(&station);
+    compare_tables(browser, &states, &(0..states.len()).collect::<Vec<_>>(), "station on the module");
+    assert_eq!(browser.complaints, Vec::<String>::new());
 }
 
 /// The names of the colours that most of each lane's cell has after a frame; a cell is six pixels wide at least.

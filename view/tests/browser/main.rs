@@ -12,6 +12,7 @@ use std::fs;
 use std::path::{Path, PathBuf};
 use std::sync::{Mutex, MutexGuard, PoisonError};
 
+use c::caller::Caller;
 use chromium::Browser;
 use view::names::Names;
 use view::page;
@@ -42,10 +43,14 @@ pub fn browser(name: &str) -> Opened {
     Opened { browser, _alone: alone }
 }
 
-/// Writes the page of some sessions.
+/// Writes the page of some sessions of the controller.
 pub fn page_of(name: &str, sessions: &[(&str, &[u8])], names: &str) -> PathBuf {
+    page_of_caller(Caller::Controller, name, sessions, names)
+}
+
+pub fn page_of_caller(caller: Caller, name: &str, sessions: &[(&str, &[u8])], names: &str) -> PathBuf {
     let names = Names::read(names).expect("names");
     let path = Path::new(env!("CARGO_TARGET_TMPDIR")).join(format!("{name}.html"));
-    fs::write(&path, page::make(sessions, &names).expect("a page").html).expect("written");
+    fs::write(&path, page::make(caller, sessions, &names).expect("a page").html).expect("written");
     path
 }

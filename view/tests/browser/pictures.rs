@@ -15,7 +15,9 @@ fn pictures() {
     let station = std::fs::read(repository().join("examples/station.session")).unwrap();
     let other: Vec<u8> = String::from_utf8(station.clone()).unwrap().replace("1100020000", "1100030000").into_bytes();
     let long = lively::session(1, 50_000);
-    let make = |sessions: &[(&str, &[u8])], names| view::page::make(sessions, names).expect("a page").html;
+    let make = |sessions: &[(&str, &[u8])], names| {
+        view::page::make(c::caller::Caller::Controller, sessions, names).expect("a page").html
+    };
     let none = view::names::Names::default();
     let pages = [
         ("station", make(&[("station.session", &station)], &names)),

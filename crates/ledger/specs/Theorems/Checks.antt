@@ -4,7 +4,7 @@ use mathlib.Core.Path.{_≡_, refl, sym, ap, _∙_}
 use mathlib.Core.Bool.{Bool, true, false, cond, not, _&&_, _||_, false≢true}
 use mathlib.Core.List.{List, [], _∷_, _++_}
 use native.Mathlib.Omega.{arith}
-use borrow.Author.Tests.{le-leb, leb-true, leb-false, eqb-true, eqb-false}
+use borrow.Author.Tests.{le-leb, leb-true, leb-false, eqb-true, eqb-false, not-true}
 use lib.Dec.{eqb, leb}
 use lib.ListN.{length, getD, List·getD-eq-default}
 use Rattle.ledger.specs.Lists.{Check, first, at, any, all, within}
@@ -62,6 +62,20 @@ passes [] h e = tt
 passes (k ∷ ks) h e =
     let p = passes-one (k .fails) (k .number) (first ks) (and-left _ (Numbers ks) h) e in
     (p .0, passes ks (and-right (not (eqb (k .number) 0)) (Numbers ks) h) (p .1))
+
+-- a number that no check has is not given
+abbrev pub lacks : ℕ → List Check → Bool
+lacks n [] = true
+lacks n (k ∷ ks) = not (eqb (k .number) n) && lacks n ks
+
+pub never-given : (n : ℕ) → (0 ≡ n → ⊥) → (ks : List Check) → lacks n ks ≡ true → first ks ≡ n → ⊥
+unfolding first
+never-given n z [] h e = z e
+never-given n z (k ∷ ks) h e = go (k .fails) (never-given n z ks (and-right (not (eqb (k .number) n)) (lacks n ks) h)) e
+  where
+    go : (b : Bool) → (first ks ≡ n → ⊥) → cond b (k .number) (first ks) ≡ n → ⊥
+    go true r x = eqb-false (k .number) n (not-true _ (and-left _ (lacks n ks) h)) x
+    go false r x = r x
 
 -- ---- two lists of checks, one behind the other: the first that fails, else the second's
 

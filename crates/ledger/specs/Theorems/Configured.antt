@@ -1,14 +1,14 @@
 -- What an accepted configuration says: each of its checks has passed.
 use Prim.Native.Nat.{ℕ, _+_, _-_, _*_, _≤_}
 use mathlib.Core.Path.{_≡_, refl}
-use mathlib.Core.Bool.{true, not, _&&_}
-use mathlib.Core.List.{List, [], _∷_}
+use mathlib.Core.Bool.{true, _&&_}
+use mathlib.Core.List.{List}
 use native.Mathlib.Omega.{arith}
 use borrow.Author.Tests.{leb-true, not-false}
-use lib.Dec.{leb, ltb}
+use lib.Dec.{leb}
 use lib.ListN.{length, take, drop, length-take, length-drop}
-use Rattle.ledger.specs.Lists.{_⇒_, byte, all, within}
-use Rattle.ledger.specs.Config.{QueueShape, Config, configIn, controller, mostPairs, front, goodHead, goodLength, goodPair, goodRest, configRefusal}
+use Rattle.ledger.specs.Lists.{byte, all, within}
+use Rattle.ledger.specs.Config.{QueueShape, Config, configIn, controller, mostPairs, front, goodHead, fewEnough, goodValues, goodLength, goodPair, goodRest, configChecks, configRefusal}
 use Rattle.ledger.specs.Services.{shape}
 use Rattle.ledger.specs.Theorems.Items.{Numbered}
 use Rattle.ledger.specs.Theorems.Twos.{twos-length}
@@ -39,10 +39,10 @@ all-shaped c e h q n =
     record { width = within-numbered 16 (s .width) (and-left _ (within 1 255 (s .depth)) k); depth = within-numbered 255 (s .depth) (and-right (within 1 16 (s .width)) _ k) }
 
 checked : (c : Config) → goodHead controller c ≡ true → goodRest controller c ≡ true → length (c .states) ≡ c .T → length (c .shapes) ≡ c .Q → Configured c
-unfolding goodHead goodRest
+unfolding goodHead fewEnough goodValues goodRest
 checked c h r s q =
     record {
-      tasks = within-numbered 126 (c .T) (search (and-left, and-right) depth 9);
+      tasks = record { from = leb-true 1 (c .T) (search (and-left, and-right) depth 9); upto = leb-true (c .T) 126 (search (and-left, and-right) depth 9) };
       queues = leb-true (c .Q) 32 (search (and-left, and-right) depth 9);
       timers = leb-true (c .R) 64 (search (and-left, and-right) depth 9);
       messages = leb-true (c .G) 64 (search (and-left, and-right) depth 9);
@@ -86,9 +86,8 @@ pub record Passed (g : List ℕ) : Type 0 where
 pub passed : (g : List ℕ) → configRefusal g ≡ 0 → Passed g
 unfolding configRefusal
 passed g h =
-    let c = configIn g in
-    let p = passes (ltb (length g) 8 ⇒ 2 ∷ not (goodHead controller c) ⇒ 3 ∷ not (goodLength (front c) (length g)) ⇒ 2 ∷ not (goodRest controller c) ⇒ 3 ∷ []) refl h in
-    record { head = not-false _ (p .1 .0); whole = long (front c) (length g) (not-false _ (p .1 .1 .0)); rest = not-false _ (p .1 .1 .1 .0) }
+    let p = passes (configChecks g) refl h in
+    record { head = not-false _ (p .1 .0); whole = long (front (configIn g)) (length g) (not-false _ (p .1 .1 .0)); rest = not-false _ (p .1 .1 .1 .0) }
 
 pub configured : (g : List ℕ) → configRefusal g ≡ 0 → Configured (configIn g)
 configured g h = let p = passed g h in checked (configIn g) (p .head) (p .rest) (states-many g (p .whole .front)) (shapes-many g (p .whole .front))

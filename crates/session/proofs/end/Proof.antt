@@ -2,6 +2,7 @@
 use mathlib.Core.Path.{ap}
 use native.Mathlib.Omega.{arith}
 use Rattle.feeding.specs.declared.Reached.{Reached}
+use Rattle.mcx11.specs.Contract.{sizesOf}
 use borrow.Author.Needs.{needs}
 use Rattle.session.proofs.end.Statement.{statement}
 use Rattle.session.proofs.end.Tie as tie
@@ -10,6 +11,7 @@ next-block-requires : tie.Need-next-block-requires
 next-block-requires c κs = search needs
 
 finish-requires : tie.Need-finish-requires
+unfolding sizesOf
 finish-requires c κs =
     let b = c .before .before .before .before .before .before .before .next-block .ensures in
     let held = ap (λ (r : Reached). r .held) b in

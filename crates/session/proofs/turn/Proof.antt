@@ -2,6 +2,7 @@
 use mathlib.Core.Path.{ap}
 use native.Mathlib.Omega.{arith}
 use Rattle.feeding.specs.declared.Reached.{Reached}
+use Rattle.mcx11.specs.Contract.{sizesOf}
 use borrow.Author.Needs.{needs}
 use Rattle.session.proofs.turn.Statement.{statement}
 use Rattle.session.proofs.turn.Tie as tie
@@ -37,6 +38,7 @@ slice-aggregate-feed : tie.Need-slice-aggregate-feed
 slice-aggregate-feed c = search needs
 
 feed-requires : tie.Need-feed-requires
+unfolding sizesOf
 feed-requires c κs =
     let b = c .before .before .before .before .before .before .before .before .next-block .ensures in
     let next = ap (λ (r : Reached). r .next) b in

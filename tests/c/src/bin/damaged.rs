@@ -1,8 +1,9 @@
-//! Damaged memory, each lent part in a heap block of exactly its length: for tests/memcheck. Argument: the number of calls, or
-//! `outside` for one read of the byte behind a block.
+//! Damaged memory, each lent part in a heap block of exactly its length: for tests/memcheck. Argument: the number of calls for
+//! each caller, or `outside` for one read of the byte behind a block.
 
+use c::caller::Caller;
 use c::damage::{damage, frames, Watch};
-use c::lent::{feed, Lent, SIZES};
+use c::lent::{Lent, SIZES};
 use c::rules;
 use plain_executive::generator::Generator;
 use plain_executive::numbers::Number;
@@ -10,7 +11,7 @@ use plain_executive::random::Random;
 
 fn exact(memory: &mut Lent, frame: &[u8]) -> Number {
     let mut blocks = memory.blocks().map(Box::<[u8]>::from);
-    let number = feed(&Box::<[u8]>::from(frame), blocks.each_mut().map(|block| &mut **block));
+    let number = memory.caller.feed(&Box::<[u8]>::from(frame), blocks.each_mut().map(|block| &mut **block));
     for (block, after) in memory.blocks_mut().into_iter().zip(&blocks) {
         block.copy_from_slice(after);
     }
@@ -26,19 +27,23 @@ fn main() {
         return;
     }
     let calls: u64 = argument.parse().expect("a number of calls");
+    Caller::ALL.into_iter().for_each(|caller| damage_memory(caller, calls));
+}
+
+fn damage_memory(caller: Caller, calls: u64) {
     let mut random = Random::new(31);
     let mut watch = Watch::new(exact);
-    let mut another = Lent::new(SIZES, || 0);
+    let mut another = Lent::of(caller, caller.sizes(), || 0);
     for seed in 0.. {
-        let script = Generator::new(seed).script(1..=20, 30);
-        let mut memory = Lent::new(SIZES, || random.byte());
+        let script = Generator::within(caller.limits(), seed).script(1..=20, 30);
+        let mut memory = Lent::of(caller, caller.sizes(), || random.byte());
         assert_eq!(memory.configure(&script.configuration), 0);
         for (count, frame) in script.frames.iter().enumerate() {
-            let configuration = rules::configuration(&memory.config).expect("accepted");
+            let configuration = rules::configuration_of(&memory).expect("accepted");
             let mut damaged = memory.clone();
             damage(&mut random, &mut damaged, &configuration, &another);
             let frames = frames(&mut random, &damaged, &script.frames[count..]);
-            watch.feed(damaged, &frames, &|| format!("seed {seed}, frame {count}"));
+            watch.feed(damaged, &frames, &|| format!("{caller:?}, seed {seed}, frame {count}"));
             exact(&mut memory, frame);
         }
         another = memory;
@@ -46,5 +51,5 @@ fn main() {
             break;
         }
     }
-    println!("{} calls", watch.counts.calls);
+    println!("{caller:?}: {} calls", watch.counts.calls);
 }

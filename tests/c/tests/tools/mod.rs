@@ -1,6 +1,9 @@
 //! What the tests of host/ and of the papers share: files of the repository, commands, compilers. Each test uses some of it.
 #![allow(dead_code)]
 
+use c::caller::Caller;
+use plain_executive::executive::Executive;
+use plain_executive::{line, session};
 use std::fs;
 use std::io::Write;
 use std::os::unix::fs::symlink;
@@ -103,6 +106,23 @@ pub fn built(folder: &Path, source: &str, (compiler, language): Language, more: 
     program
 }
 
+/// What makes a program of tests/c, which is written for the controller, one of this caller.
+pub fn of_caller(caller: Caller) -> &'static [&'static str] {
+    match caller {
+        Caller::Controller => &[],
+        Caller::Module => &["-include", "mcx11_state.h", "-include", "mcx11_as_module.h"],
+    }
+}
+
+/// What the other implementation answers to this caller's session. The first line is a frame.
+pub fn answers(caller: Caller, input: &[u8]) -> Vec<u8> {
+    let first = line::read(session::lines(input).next().expect("a line")).expect("a frame");
+    match Executive::configure_within(caller.limits(), &first) {
+        Ok(_) => session::run(input),
+        Err(number) => format!("{number:02X}000000\n").into_bytes(),
+    }
+}
+
 /// The names of the stories of examples/, in order.
 pub fn stories() -> Vec<String> {
     let files = fs::read_dir(repository().join("examples")).expect("examples/");
@@ -116,6 +136,6 @@ pub fn stories() -> Vec<String> {
 /// A story's session, without the lines that are no frames: what a host in C can be fed.
 pub fn frames_of(story: &str) -> Vec<u8> {
     let session = text(&format!("examples/{story}.session"));
-    let frames = session.lines().filter(|line| plain_executive::line::read(line.as_bytes()).is_ok());
+    let frames = session.lines().filter(|line| line::read(line.as_bytes()).is_ok());
     frames.flat_map(|frame| [frame.as_bytes(), b"\n"].concat()).collect()
 }

@@ -1,9 +1,12 @@
--- The test for 11, then the step over the parts.
+-- What the limits are asked for, then the executive over the blocks.
+use native.Mathlib.Omega.{arith}
 use denote.Ref.{now}
-use mathlib.Core.Path.{refl, sym, subst}
-use Rattle.configuration.specs.Limits.{Made, controller-made}
-use Rattle.mcx11.specs.Tested.{tested-bad, tested-good}
-use Rattle.mcx11.specs.Entries.{frame-bad, room-here, frame-fed}
+use mathlib.Core.Path.{refl, sym, ap, _∙_, subst}
+use borrow.Author.Tests.{not-true, not-false}
+use Rattle.configuration.specs.Limits.{limitsOf, Made, controller-made}
+use Rattle.configuration.specs.Block.{countsRule}
+use Rattle.mcx11.specs.Framed.{frame-is}
+use Rattle.mcx11.specs.Inside.{counts-here, kept-inside, sized-here, frame-met, frame-unmet, frames-by}
 use borrow.Author.Needs.{needs}
 use Rattle.mcx11.proofs.entries.mcx11_frame_blocks.Statement.{statement}
 use Rattle.mcx11.proofs.entries.mcx11_frame_blocks.Tie as tie
@@ -11,20 +14,11 @@ use Rattle.mcx11.proofs.entries.mcx11_frame_blocks.Tie as tie
 controller-requires : tie.Need-controller-requires
 controller-requires c κs = search needs
 
-test-requires : tie.Need-test-requires
-test-requires c κs = subst Made (sym (c .before .before .before .controller .ensures)) controller-made
+sizes-of-requires : tie.Need-sizes-of-requires
+sizes-of-requires c κs = search needs
 
-enum-told : tie.Need-enum-told
-enum-told c = search needs
-
-enum-known-l : tie.Need-enum-known-l
-enum-known-l c = search needs
-
-feed-requires : tie.Need-feed-requires
-feed-requires c κs =
-    let s = c .before .before .before .before .before .before .before .before .before .before .before .before .before .before .before .before .before .before in
-    let t = tested-good _ (c .before .before .before .before .before .before .before .before .before .before .before .controller .ensures) (now (s .args .config)) (now (s .args .tables)) (now (s .args .slots)) (now (s .args .timers)) (now (s .args .answer)) _ (c .before .before .before .before .before .before .before .test .ensures) (c .before .before .before .before .before .l .given .1) in
-    room-here (now (s .args .frame)) (now (s .args .config)) (now (s .args .tables)) (now (s .args .slots)) (now (s .args .timers)) (now (s .args .answer)) _ (t .1) (t .0)
+meets-limits-requires : tie.Need-meets-limits-requires
+meets-limits-requires c κs = c .before .before .before .sizes-of .ensures
 
 same-length : tie.Need-same-length
 same-length c = search needs
@@ -38,7 +32,27 @@ same-length-3 c = search needs
 returns : tie.Need-returns
 returns c =
     let s = c .before .before .before .before .before .before .before .before .before .before .before .before .before in
-    frame-bad (now (s .args .frame)) (now (s .args .config)) (now (s .args .tables)) (now (s .args .slots)) (now (s .args .timers)) (now (s .args .answer)) (tested-bad _ (c .before .before .before .before .before .before .controller .ensures) (now (s .args .config)) (now (s .args .tables)) (now (s .args .slots)) (now (s .args .timers)) (now (s .args .answer)) _ (c .before .before .test .ensures) (c .enum-told .given .1))
+    frames-by (c .before .before .before .before .before .before .controller .ensures) (frame-unmet (limitsOf (c .before .before .before .before .before .before .controller .result)) (now (s .args .frame)) (now (s .args .config)) (now (s .args .tables)) (now (s .args .slots)) (now (s .args .timers)) (now (s .args .answer)) (λ a e. c .before .meets-limits .ensures a e ∙ not-true _ (c .if1 .taken)))
+
+frame-length-requires : tie.Need-frame-length-requires
+frame-length-requires c κs = let s = c .before .before .before .before .before .before .before .before .before .before .before .before .before in omega (arith, kept-inside (limitsOf (c .before .before .before .before .before .before .controller .result)) (now (s .args .frame)) (now (s .args .config)) (now (s .args .tables)) (now (s .args .slots)) (now (s .args .timers)) (now (s .args .answer)) (c .before .meets-limits .ensures (now (s .args .answer)) refl ∙ not-false _ (c .if1 .left)))
+
+add-end : tie.Need-add-end
+add-end c = search needs
+
+sub-frame : tie.Need-sub-frame
+sub-frame c = search needs
+
+part-frame-start : tie.Need-part-frame-start
+part-frame-start c = search needs
+
+part-frame-end : tie.Need-part-frame-end
+part-frame-end c = let s = c .before .before .before .before .before .before .before .before .before .before .before .before .before .before in omega (arith, kept-inside (limitsOf (c .before .before .before .before .before .before .before .controller .result)) (now (s .args .frame)) (now (s .args .config)) (now (s .args .tables)) (now (s .args .slots)) (now (s .args .timers)) (now (s .args .answer)) (c .before .before .meets-limits .ensures (now (s .args .answer)) refl ∙ not-false _ (c .before .if1 .left)), c .frame-length .ensures .0)
+
+frame-requires : tie.Need-frame-requires
+frame-requires c κs =
+    let s = c .before .before .before .before .before .before .before .before .before .before .before .before .before .before .before .before .before .before .before in
+    (subst Made (sym (c .before .before .before .before .before .before .before .before .before .before .before .before .controller .ensures)) controller-made, ap (countsRule (limitsOf (c .before .before .before .before .before .before .before .before .before .before .before .before .controller .result))) (frame-is (now (s .args .config)) _ (c .before .before .before .before .before .frame-length .ensures .0)) ∙ counts-here (limitsOf (c .before .before .before .before .before .before .before .before .before .before .before .before .controller .result)) (now (s .args .frame)) (now (s .args .config)) (now (s .args .tables)) (now (s .args .slots)) (now (s .args .timers)) (now (s .args .answer)) (c .before .before .before .before .before .before .before .meets-limits .ensures (now (s .args .answer)) refl ∙ not-false _ (c .before .before .before .before .before .before .if1 .left)), sized-here (limitsOf (c .before .before .before .before .before .before .before .before .before .before .before .before .controller .result)) (now (s .args .frame)) (now (s .args .config)) (now (s .args .tables)) (now (s .args .slots)) (now (s .args .timers)) (now (s .args .answer)) (c .before .before .before .before .before .before .before .meets-limits .ensures (now (s .args .answer)) refl ∙ not-false _ (c .before .before .before .before .before .before .if1 .left)))
 
 same-length-4 : tie.Need-same-length-4
 same-length-4 c = search needs
@@ -54,25 +68,29 @@ same-length-7 c = search needs
 
 returns-2 : tie.Need-returns-2
 returns-2 c =
-    let s = c .before .before .before .before .before .before .before .before .before .before .before .before .before .before .before .before .before .before .before .before .before .before .before .before .before .before .before in
-    let t = tested-good _ (c .before .before .before .before .before .before .before .before .before .before .before .before .before .before .before .before .before .before .before .before .controller .ensures) (now (s .args .config)) (now (s .args .tables)) (now (s .args .slots)) (now (s .args .timers)) (now (s .args .answer)) _ (c .before .before .before .before .before .before .before .before .before .before .before .before .before .before .before .before .test .ensures) (c .before .before .before .before .before .before .before .before .before .before .before .before .before .before .l .given .1) in
-    let k = c .before .before .before .before .before .before .before .before .feed .kept in
-    frame-fed (now (s .args .frame)) (now (s .args .config)) (now (s .args .tables)) (now (s .args .slots)) (now (s .args .timers)) (now (s .args .answer)) _ (t .1) (t .0) _ _ _ _ _ record { config = refl; tables = k .1 .1 .0; slots = k .1 .1 .1 .0; timers = k .1 .1 .1 .1 .0; answer = k .1 .1 .1 .1 .1 .1 .0 }
-    (c .before .before .before .before .before .before .before .before .feed .ensures)
+    let s = c .before .before .before .before .before .before .before .before .before .before .before .before .before .before .before .before .before .before .before .before .before .before .before .before .before .before .before .before in
+    let k = c .before .before .before .before .before .before .before .before .frame .kept in
+    frames-by (c .before .before .before .before .before .before .before .before .before .before .before .before .before .before .before .before .before .before .before .before .before .controller .ensures)
+    (frame-met (limitsOf (c .before .before .before .before .before .before .before .before .before .before .before .before .before .before .before .before .before .before .before .before .before .controller .result)) (now (s .args .frame)) (now (s .args .config)) (now (s .args .tables)) (now (s .args .slots)) (now (s .args .timers)) (now (s .args .answer)) (c .before .before .before .before .before .before .before .before .before .before .before .before .before .before .before .before .meets-limits .ensures (now (s .args .answer)) refl ∙ not-false _ (c .before .before .before .before .before .before .before .before .before .before .before .before .before .before .before .if1 .left)) _ (frame-is (now (s .args .config)) _ (c .before .before .before .before .before .before .before .before .before .before .before .before .before .before .frame-length .ensures .0)) _ _ _ _ _
+    record { config = refl; tables = k .1 .1 .1 .0; slots = k .1 .1 .1 .1 .0; timers = k .1 .1 .1 .1 .1 .0; answer = k .1 .1 .1 .1 .1 .1 .0 } (c .before .before .before .before .before .before .before .before .frame .ensures))
 
 pub mcx11-frame-blocks-spec : {M : Type 1} → statement M
 mcx11-frame-blocks-spec =
     tie.close
     (tie.spec
     controller-requires
-    test-requires
-    enum-told
-    enum-known-l
-    feed-requires
+    sizes-of-requires
+    meets-limits-requires
     same-length
     same-length-2
     same-length-3
     returns
+    frame-length-requires
+    add-end
+    sub-frame
+    part-frame-start
+    part-frame-end
+    frame-requires
     same-length-4
     same-length-5
     same-length-6
