@@ -3,7 +3,7 @@
 use std::hint::black_box;
 
 use c::caller::{call, Caller};
-use c::lent::{pairs_at, Lent, Regions, COUNT, FRAME, PART};
+use c::lent::{pairs_at, Lent, Regions, COUNT, FRAME};
 use plain_executive::configuration::Configuration;
 use plain_executive::executive::Executive;
 use plain_executive::generator::Script;
@@ -130,7 +130,7 @@ impl Session {
     }
 
     /// Before each frame, the break that the test for 11 meets last: in the last message that lies if G lie, else in the last
-    /// queue, else in the frame's length: it is made too short, or with many pairs too long.
+    /// queue, else in S, by which the semaphore sum is too large.
     pub fn breaks(&self) -> Vec<Break> {
         let mut memory = self.memory();
         let configuration = Configuration::read(&self.configuration).expect("accepted");
@@ -140,8 +140,8 @@ impl Session {
             let number = (lying > 0).then(|| Break::Tables(messages + 4 * (lying - 1) + 1, 0));
             let last = pairs_at(&configuration) - 1;
             let depth = (!configuration.queues.is_empty()).then_some(Break::Config(last, 0));
-            let length = Break::Config(PART + 1, (last - FRAME) as u8);
-            let candidates = [number, depth, Some(length)];
+            let sum = Break::Config(FRAME + 1, u8::MAX);
+            let candidates = [number, depth, Some(sum)];
             let mut found = candidates.into_iter().flatten();
             let found =
                 found.find(|rule| rule.frame(&mut memory.clone(), frame, Lent::frame) == MEMORY).expect("a break");
