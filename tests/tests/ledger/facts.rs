@@ -4,6 +4,7 @@ use crate::antt;
 use plain_executive::executive::Executive;
 use plain_executive::generator::Script;
 use plain_executive::items::Items;
+use plain_executive::limits::Limits;
 use plain_executive::session;
 use plain_executive::tocks::{self, Tocks};
 
@@ -14,6 +15,7 @@ use Prim.Native.String.{String}
 use mathlib.Core.Path.{_≡_, refl}
 use mathlib.Core.Bool.{Bool, true, false}
 use mathlib.Core.List.{List, [], _∷_, map}
+use Rattle.ledger.specs.Config.{brakeModule, configRefusalBy}
 use Rattle.ledger.specs.Ledger.{Semaphore, PENDING, DONE, WAITING, Outcome, plain, begin, message, entry, refused, semaphore, \
 woke, Request, none, receive, dequeue, enqueue}
 use Rattle.ledger.specs.Session.{session}
@@ -83,6 +85,17 @@ pub fn refused_configuration(number: usize, configuration: &[u8]) -> Fact {
         equation: format!("session {} (map hex {frames}) ≡ map hex {answers}", antt::bytes(configuration)),
         unfolding: "everything",
         replay: format!("{}\nrefused here with {refusal}\n", antt::digits(configuration)),
+    }
+}
+
+/// The number of a configuration on the brake module, 0 if it is accepted there.
+pub fn on_the_module(number: usize, configuration: &[u8]) -> Fact {
+    let given = Executive::configure_within(Limits::MODULE, configuration).err().unwrap_or(0);
+    Fact {
+        name: format!("module-{number}"),
+        equation: format!("configRefusalBy brakeModule {} ≡ {given}", antt::bytes(configuration)),
+        unfolding: "everything",
+        replay: format!("{}\ngets {given} here, on the module\n", antt::digits(configuration)),
     }
 }
 

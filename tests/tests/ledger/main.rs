@@ -6,9 +6,12 @@ mod compared;
 mod facts;
 mod scratch;
 
+use std::iter::once;
+
 use facts::{Fact, Results};
 use plain_executive::coverage::Coverage;
-use plain_executive::generator::{cascade, Generator, Script};
+use plain_executive::generator::{cascade, largest, Generator, Script};
+use plain_executive::limits::Limits;
 use plain_executive::random::Random;
 use scratch::File;
 
@@ -85,6 +88,24 @@ fn refused_configurations() -> Vec<Fact> {
     frames.iter().enumerate().map(|(number, frame)| facts::refused_configuration(number, frame)).collect()
 }
 
+/// Frames that together have every cause of 27, every limit of the module met, and every other number behind a limit that is passed.
+fn configurations_of_the_module() -> Vec<Fact> {
+    let mut generator = Generator::within(Limits::MODULE, seed() + 16);
+    let mut coverage = Coverage::new();
+    let random = (0..100_000).map(|turn| match turn % 3 {
+        0 => generator.script(1..=Limits::MODULE.tasks, 0).configuration,
+        1 => generator.refused_configuration(),
+        _ => generator.configuration_above_module(),
+    });
+    let frames = chosen(once(largest(Limits::MODULE)).chain(random), REFUSED, |frame| {
+        coverage.watch_configuration(frame);
+        coverage.missing_of_module().len()
+    });
+    let missing = coverage.missing_of_module();
+    assert!(missing.is_empty(), "not compared: {missing:#?}");
+    frames.iter().enumerate().map(|(number, frame)| facts::on_the_module(number, frame)).collect()
+}
+
 fn inputs() -> Vec<Fact> {
     let mut generator = Generator::new(seed() + 14);
     (0..60).map(|number| facts::input(number, &generator.input(8))).collect()
@@ -108,6 +129,7 @@ fn the_ledger_computes_the_same() {
     let sessions = sessions(&scripts);
     let mut files: Vec<File> = sessions.chunks(8).map(|group| (facts::SESSIONS, group.to_vec())).collect();
     files.push((facts::SESSIONS, refused_configurations()));
+    files.push((facts::SESSIONS, configurations_of_the_module()));
     files.push((facts::SESSIONS, inputs()));
     files.push((facts::TIMES, times()));
     if let Err(difference) = scratch::check("ledger-sessions", &files) {
