@@ -3,6 +3,7 @@
 
 use plain_executive::configuration::{Configuration, QueueSize, MOST_PAIRS};
 use plain_executive::executive::Executive;
+use plain_executive::generator::largest;
 use plain_executive::items::{OutcomeItem, RequestItem};
 use plain_executive::limits::Limits;
 use plain_executive::line;
@@ -131,23 +132,12 @@ impl Numbers {
 
 // ---- configurations
 
-/// As much of everything as the limits allow, and 64 pairs; all queues have the same bytes, 16 a row.
-fn largest_frame(limits: Limits) -> Vec<u8> {
-    let Limits { tasks, queues, timers, messages, queue_bytes } = limits;
-    let depth = queue_bytes / 16 / usize::from(queues);
-    let mut frame = vec![tasks, 255 - tasks - 2 * queues, queues, timers, messages, 255, 255, 255];
-    frame.extend(vec![0; tasks.into()]);
-    frame.extend([16, depth as u8].repeat(queues.into()));
-    frame.extend([1, tasks].repeat(MOST_PAIRS));
-    frame
-}
-
 fn some_configurations() -> Vec<Configuration> {
     let session = line::read(b"020101010101007D00000101").unwrap();
     let plain = line::read(b"010000000001000100").unwrap();
     let queues = line::read(b"030502020901000A000100030410FF").unwrap();
     let pairs = line::read(b"03000100000100010000000201010302030103").unwrap();
-    [session, plain, queues, pairs, largest_frame(Limits::CONTROLLER), largest_frame(Limits::MODULE)]
+    [session, plain, queues, pairs, largest(Limits::CONTROLLER), largest(Limits::MODULE)]
         .iter()
         .map(|frame| Configuration::read(frame).expect("accepted"))
         .collect()
@@ -170,7 +160,7 @@ fn told(numbers: Numbers) -> String {
 fn the_sizes_are_what_the_largest_configuration_needs() {
     let page = text("docs/MEMORY.md").split_whitespace().collect::<Vec<_>>().join(" ");
     for caller in [CONTROLLER, MODULE] {
-        let frame = largest_frame(caller.limits);
+        let frame = largest(caller.limits);
         let largest = Numbers::of(&Configuration::read_within(caller.limits, &frame).expect("accepted"));
         let sizes = sizes(&caller);
         for (block, bytes, needed) in &sizes {

@@ -142,17 +142,25 @@ fn the_pages_have_the_sizes_and_limits(caller: Caller) {
     let told = column("docs/MEMORY.md", "| At most | Controller | Module |", 2 + behind);
     assert_eq!(told, all.map(|limit| limit.to_string()).collect::<Vec<_>>());
 
-    let total: usize = caller.sizes().iter().sum();
-    let total = format!("{},{:03}", total / 1000, total % 1000);
+    let total = grouped(caller.sizes().iter().sum());
     for page in ["README.md", "docs/HOST.md", "docs/MEMORY.md", "docs/CHANGES.md"] {
         assert!(text(page).contains(&total), "{page} does not have {total}, all bytes that are lent");
     }
 
     let heading = "| Bytes | Holds | In `mcx11_configuration_t` |";
     let told = column("docs/FRAMES.md", heading, 3).into_iter().zip(column("docs/FRAMES.md", heading, 5 + behind));
-    let counts = ["`tasks`", "`queues`", "`timers`", "`messages`"];
-    let told = told.filter(|(field, _)| counts.contains(&field.as_str())).map(|(_, most)| most);
-    assert_eq!(told.collect::<Vec<_>>(), limits(caller)[..4].iter().map(u32::to_string).collect::<Vec<_>>());
+    let fields = ["`tasks`", "`queues`", "`timers`", "`messages`", "`queue[q].width`, `.depth`"];
+    let told = told.filter(|(field, _)| fields.contains(&field.as_str())).map(|(_, most)| most);
+    let most = limits(caller).map(|limit| grouped(limit as usize));
+    let alike = |(told, most): &(String, String)| told == most || told.ends_with(&format!("at most {most}"));
+    assert_eq!(told.zip(most).filter(alike).count(), fields.len(), "docs/FRAMES.md");
+}
+
+fn grouped(number: usize) -> String {
+    if number < 1000 {
+        return number.to_string();
+    }
+    format!("{},{:03}", number / 1000, number % 1000)
 }
 
 #[test]
