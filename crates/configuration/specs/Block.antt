@@ -2,13 +2,15 @@
 use mathlib.Core.Path.{_≡_, refl, sym, ap, _∙_}
 use mathlib.Core.Bool.{Bool, true, false, _&&_, and-assoc}
 use mathlib.Core.List.{List, map}
-use Prim.Native.Nat.{ℕ, _+_, _-_, _*_}
+use Prim.Native.Nat.{ℕ, _+_, _-_, _*_, _≤_}
 use native.Mathlib.Omega.{arith}
 use lib.Dec.{leb}
+use borrow.Author.Tests.{leb-true}
 use lib.ListN.{length, take, drop, length-drop}
 use lib.Seq.{take-all}
 use Rattle.rows.specs.Splice.{cut}
 use Rattle.ledger.specs.Lists.{within, byte, sum, all}
+use Rattle.ledger.specs.Theorems.Checks.{and-left, and-right}
 use Rattle.ledger.specs.Config.{QueueShape, Config, Limits, longest, shapesIn, pairsIn, configIn, front, fewEnough, goodValues, goodHead, goodPair, goodRest}
 
 -- ---- the structure rule of number 11. The initial states are not read again
@@ -49,6 +51,20 @@ counts-first m f = let c = configIn f in go (leb (front c) (length f)) (leb (len
 
 pub counts-fail : (m : Limits) (f : List ℕ) → countsRule m f ≡ false → frameRule m f ≡ false
 counts-fail m f e = counts-first m f ∙ rw e
+
+-- what a frame that keeps it has
+module _ (m : Limits) (f : List ℕ) (keeps : frameRule m f ≡ true) where
+  pub frame-rule : rule m (configIn f) ≡ true
+  unfolding frameRule
+  frame-rule = and-right (leb (front (configIn f)) (length f) && leb (length f) (longest m)) (rule m (configIn f)) keeps
+
+  pub frame-front : 8 + byte 0 f + 2 * byte 2 f ≤ length f
+  unfolding frameRule configIn
+  frame-front = leb-true (8 + byte 0 f + 2 * byte 2 f) (length f) (search (and-left, and-right) depth 9)
+
+  pub frame-short : length f ≤ longest m
+  unfolding frameRule
+  frame-short = leb-true (length f) (longest m) (search (and-left, and-right) depth 9)
 
 unfoldable pub goodPairs : Config → Bool
 goodPairs c = all (goodPair (c .T) (c .states)) (c .pairs)

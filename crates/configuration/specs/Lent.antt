@@ -4,19 +4,18 @@ use mathlib.Core.Bool.{Bool, true, false, _&&_}
 use mathlib.Core.List.{List, map}
 use Prim.Native.Nat.{ℕ, _+_, _*_, _<_, _≤_}
 use native.Mathlib.Omega.{arith}
-use lib.Dec.{leb}
 use lib.ListN.{length}
 use borrow.Author.Tests.{leb-true}
 use Rattle.rows.specs.Splice.{cut}
 use Rattle.ledger.specs.Lists.{byte, sum}
 use Rattle.ledger.specs.Config as config
-use Rattle.ledger.specs.Config.{Limits, longest, shapesIn, configIn, front, goodValues}
+use Rattle.ledger.specs.Config.{Limits, shapesIn, configIn, goodValues}
 use Rattle.ledger.specs.Theorems.Checks.{and-left, and-right}
 use Rattle.ledger.specs.Theorems.Configured.{shapes-many}
 use Rattle.tables.specs.declared.shape.Shape.{Shape}
 use Rattle.tables.specs.Shows.{Of}
 use Rattle.configuration.specs.declared.Lent.the-variants.{Good}
-use Rattle.configuration.specs.Block.{product, goodShapes, goodQueues, rule, frameRule, countsRule, counts-first, front-is, shapes-in}
+use Rattle.configuration.specs.Block.{product, goodShapes, goodQueues, frameRule, countsRule, counts-first, frame-rule, front-is, shapes-in}
 use Rattle.configuration.specs.Limits.{Made}
 use Rattle.configuration.specs.Room.{roomIn, room-good, room-bad}
 use Rattle.configuration.specs.Layout.{laidOut, shapeOf, Lends, of-shape}
@@ -48,10 +47,6 @@ module _ (m : Limits) (f : List ℕ) (counted : countsRule m f ≡ true) where
       unfolding goodQueues
       keeps = by-rest true (rw values (ap (goodShapes m) shapes-are ∙ room-good m (made .bytes) part (omega arith) .0))
 
-      ruled : rule m (configIn f) ≡ true
-      unfolding frameRule
-      ruled = and-right (leb (front (configIn f)) (length f) && leb (length f) (longest m)) (rule m (configIn f)) keeps
-
       many : length (configIn f .shapes) ≡ configIn f .Q
       many = shapes-many f (omega (arith, front-is f, lent-front))
 
@@ -61,4 +56,4 @@ module _ (m : Limits) (f : List ℕ) (counted : countsRule m f ≡ true) where
           let r : List config.QueueShape → ℕ = λ l. sum (map product l) in
           let b : n ≡ r (configIn f .shapes) = en ∙ room-good m (made .bytes) part (omega arith) .1 ∙ ap r (sym shapes-are) in
           let e : s ≡ shapeOf (configIn f) = es ∙ ap (laidOut (byte 0 f) (byte 1 f) (byte 2 f) (byte 3 f) (byte 4 f) (byte 5 f)) b in
-          (keeps, subst (λ (x : Shape). Of (configIn f) x) (sym e) (of-shape m made (configIn f) ruled many))
+          (keeps, subst (λ (x : Shape). Of (configIn f) x) (sym e) (of-shape m made (configIn f) (frame-rule m f keeps) many))

@@ -15,7 +15,7 @@ use Rattle.rows.specs.Splice.{cut, splice}
 use Rattle.tables.specs.declared.shape.Shape.{Shape}
 use Rattle.tables.specs.Shows.{Of, ShowsAs, Shows, loosely}
 use Rattle.configuration.specs.Limits.{Made}
-use Rattle.configuration.specs.Block.{rule, frameRule}
+use Rattle.configuration.specs.Block.{rule, frameRule, frame-rule, frame-short}
 use Rattle.configuration.specs.Layout.{shapeOf, of-one}
 use Rattle.configuration.specs.Within.{accepted-rule}
 use Rattle.configuration.specs.Started.{timersBytes, Started}
@@ -24,7 +24,7 @@ use Rattle.parts.specs.Parts.{partAt, frameAt, ends, part, keptFrame, kept, Sta
 use Rattle.parts.specs.Laws.{length-ends, marks-after, spares-after, part-stays, back-part, back-stays, kept-frame}
 use Rattle.mcx11.specs.Contract.{Memory, memory, Sizes, sizesOf, fullSize, configMark, tablesMark, slotsMark, timersMark, isMarked, configOf, tablesPart, slotsPart, timersPart, Displays, Tidily, SameSizes, answering, Begins, Configures}
 use Rattle.mcx11.specs.Sizes.{full-sizes, full-kept}
-use Rattle.mcx11.specs.Framed.{frame-rule, frame-short, tables-within, slots-within, timers-within}
+use Rattle.mcx11.specs.Framed.{tables-within, slots-within, timers-within}
 use Rattle.mcx11.specs.Displayed.{displays-well}
 
 -- ---- the answer that shows the running task

@@ -1,22 +1,21 @@
 -- A frame that keeps the rule: its shape, and that the sizes have room for its parts.
 use Prim.Native.Nat.{ℕ, _+_, _-_, _*_, _≤_, min}
 use mathlib.Core.Path.{_≡_, refl, ap, _∙_}
-use mathlib.Core.Bool.{true, _&&_}
+use mathlib.Core.Bool.{true}
 use mathlib.Core.List.{List}
 use native.Mathlib.Omega.{arith}
-use lib.Dec.{leb}
 use borrow.Author.Tests.{leb-true}
 use lib.ListN.{length, take, drop, length-take, length-drop}
 use lib.Seq.{take-all}
-use Rattle.ledger.specs.Lists.{byte, word}
-use Rattle.ledger.specs.Config.{Config, Limits, longest, configIn, front}
+use Rattle.ledger.specs.Lists.{word}
+use Rattle.ledger.specs.Config.{Config, Limits, longest, configIn}
 use Rattle.ledger.specs.Theorems.Checks.{and-left, and-right}
 use Rattle.ledger.specs.Theorems.Configured.{shapes-many}
 use Rattle.tables.specs.declared.shape.Shape.{Shape}
 use Rattle.tables.specs.Shows.{bytesOf, Of}
 use Rattle.mailboxes.specs.Room.{soundIn}
 use Rattle.configuration.specs.Limits.{Made}
-use Rattle.configuration.specs.Block.{rule, frameRule, countsRule, front-is}
+use Rattle.configuration.specs.Block.{rule, frameRule, countsRule, frame-rule, frame-front, front-is}
 use Rattle.configuration.specs.Layout.{shapeOf, of-one, of-shape, rule-head, rule-room}
 use Rattle.configuration.specs.Started.{timersBytes}
 use Rattle.rows.specs.Splice.{cut}
@@ -24,21 +23,9 @@ use Rattle.parts.specs.Parts.{partAt, frameAt, keptFrame}
 use Rattle.mcx11.specs.Contract.{sizesOf, messagesSound}
 
 module _ (k : Limits) (f : List ℕ) (keeps : frameRule k f ≡ true) where
-  pub frame-rule : rule k (configIn f) ≡ true
-  unfolding frameRule
-  frame-rule = and-right (leb (front (configIn f)) (length f) && leb (length f) (longest k)) (rule k (configIn f)) keeps
-
-  pub frame-front : 8 + byte 0 f + 2 * byte 2 f ≤ length f
-  unfolding frameRule configIn
-  frame-front = leb-true (8 + byte 0 f + 2 * byte 2 f) (length f) (search (and-left, and-right) depth 9)
-
-  pub frame-short : length f ≤ longest k
-  unfolding frameRule
-  frame-short = leb-true (length f) (longest k) (search (and-left, and-right) depth 9)
-
   -- the shape of its tables
   pub frame-shape : Made k → Of (configIn f) (shapeOf (configIn f))
-  frame-shape made = of-shape k made (configIn f) frame-rule (shapes-many f (omega (arith, front-is f, frame-front)))
+  frame-shape made = of-shape k made (configIn f) (frame-rule k f keeps) (shapes-many f (omega (arith, front-is f, frame-front k f keeps)))
 
 -- by the length that was read
 pub frame-is : (g : List ℕ) (n : ℕ) → n ≡ word partAt g → cut g frameAt (frameAt + n) ≡ keptFrame g

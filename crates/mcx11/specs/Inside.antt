@@ -17,7 +17,7 @@ use Rattle.tables.specs.Shows.{Of}
 use Rattle.mailboxes.specs.Room.{soundIn}
 use Rattle.clock.specs.Held.{holding}
 use Rattle.configuration.specs.Limits.{Made}
-use Rattle.configuration.specs.Block.{frameRule, countsRule, counts-first}
+use Rattle.configuration.specs.Block.{frameRule, countsRule, counts-first, frame-rule, frame-front}
 use Rattle.configuration.specs.Layout.{frontBytes, shapeOf, of-one}
 use Rattle.configuration.specs.Started.{timersBytes}
 use Rattle.command.specs.Configured.{framed}
@@ -28,7 +28,7 @@ use Rattle.parts.specs.Parts.{partAt, frameAt, part, keptFrame, Stays}
 use Rattle.parts.specs.Laws.{back-part, back-stays, back-same}
 use Rattle.mcx11.specs.Contract.{Memory, memory, sizesOf, fullSize, isMarked, configOf, tablesPart, slotsPart, timersPart, messagesSound, lentWell, Displays, Tidily, SameSizes, Frames}
 use Rattle.mcx11.specs.Sizes.{full-sizes}
-use Rattle.mcx11.specs.Framed.{long-config, kept-within, sound-is, frame-rule, frame-front, tables-within, slots-within, timers-within}
+use Rattle.mcx11.specs.Framed.{long-config, kept-within, sound-is, tables-within, slots-within, timers-within}
 use Rattle.mcx11.specs.Tested.{MeetsLimits, restRule}
 
 -- ---- the step

@@ -12,14 +12,14 @@ use Rattle.ledger.specs.Session.{step}
 use Rattle.ledger.specs.Theorems.Once.{Once, once-step}
 use Rattle.tables.specs.Shows.{Of}
 use Rattle.configuration.specs.Limits.{Made}
-use Rattle.configuration.specs.Block.{rule, frameRule}
+use Rattle.configuration.specs.Block.{rule, frameRule, frame-rule}
 use Rattle.configuration.specs.Layout.{shapeOf}
 use Rattle.configuration.specs.Started.{timersBytes}
 use Rattle.parts.specs.Parts.{partAt, markedBy, part, keptFrame}
 use Rattle.parts.specs.Laws.{marks-kept}
 use Rattle.mcx11.specs.Contract.{Memory, sizesOf, fullSize, configMark, tablesMark, slotsMark, timersMark, isMarked, configOf, tablesPart, slotsPart, timersPart, lentWell, Displays, OutsideStays, Begins, Frames}
 use Rattle.mcx11.specs.Sizes.{full-sizes, full-kept, well-full, well-marked, well-frame}
-use Rattle.mcx11.specs.Framed.{frame-rule, frame-shape, tables-within, slots-within, timers-within}
+use Rattle.mcx11.specs.Framed.{frame-shape, tables-within, slots-within, timers-within}
 use Rattle.mcx11.specs.Displayed.{displays-well}
 
 -- ---- a memory of full size whose frame keeps the rule

@@ -16,12 +16,12 @@ use Rattle.mailboxes.specs.Room.{soundIn}
 use Rattle.configuration.specs.declared.Lent.{Lent}
 use Rattle.configuration.specs.declared.Lent.the-variants.{Bad, Good}
 use Rattle.configuration.specs.Limits.{Made}
-use Rattle.configuration.specs.Block.{frameRule, countsRule}
+use Rattle.configuration.specs.Block.{frameRule, countsRule, frame-rule}
 use Rattle.configuration.specs.Layout.{shapeOf, of-one, Lends}
 use Rattle.parts.specs.Parts.{partAt, frameAt, markedBy, part, keptFrame}
 use Rattle.mcx11.specs.Contract.{memory, Sizes, sizesOf, hasSizes, fullSize, configMark, tablesMark, slotsMark, timersMark, isMarked, messagesSound}
 use Rattle.mcx11.specs.Sizes.{RoomForMarks, room-for-marks}
-use Rattle.mcx11.specs.Framed.{frame-rule, sound-is, tables-within}
+use Rattle.mcx11.specs.Framed.{sound-is, tables-within}
 
 -- ---- what the limits are asked for: the sizes, the marks, and how much there is of each
 

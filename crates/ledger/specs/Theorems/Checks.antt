@@ -47,10 +47,13 @@ abbrev pub Passes : List Check → Type 0
 Passes [] = Unit {0}
 Passes (k ∷ ks) = (k .fails ≡ false) × Passes ks
 
--- none has number 0
+-- none of them has the number n
+abbrev pub lacks : ℕ → List Check → Bool
+lacks n [] = true
+lacks n (k ∷ ks) = not (eqb (k .number) n) && lacks n ks
+
 abbrev pub Numbers : List Check → Bool
-Numbers [] = true
-Numbers (k ∷ ks) = not (eqb (k .number) 0) && Numbers ks
+Numbers = lacks 0
 
 passes-one : (b : Bool) (n r : ℕ) → not (eqb n 0) ≡ true → cond b n r ≡ 0 → (b ≡ false) × (r ≡ 0)
 passes-one true n r h e = absurd (eqb-false n 0 (cc) e)
@@ -64,10 +67,6 @@ passes (k ∷ ks) h e =
     (p .0, passes ks (and-right (not (eqb (k .number) 0)) (Numbers ks) h) (p .1))
 
 -- a number that no check has is not given
-abbrev pub lacks : ℕ → List Check → Bool
-lacks n [] = true
-lacks n (k ∷ ks) = not (eqb (k .number) n) && lacks n ks
-
 pub never-given : (n : ℕ) → (0 ≡ n → ⊥) → (ks : List Check) → lacks n ks ≡ true → first ks ≡ n → ⊥
 unfolding first
 never-given n z [] h e = z e

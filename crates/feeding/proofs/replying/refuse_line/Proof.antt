@@ -7,7 +7,8 @@ use Rattle.ledger.specs.Theorems.Checks.{never}
 use Rattle.ledger.specs.Config.{controller}
 use Rattle.configuration.specs.Limits.{controller-made}
 use Rattle.parts.specs.Parts.{keptFrame}
-use Rattle.mcx11.specs.Framed.{frame-rule, tables-within, slots-within}
+use Rattle.configuration.specs.Block.{frame-rule}
+use Rattle.mcx11.specs.Framed.{tables-within, slots-within}
 use Rattle.mcx11.specs.Tested.{lends-bad, lends-good}
 use Rattle.feeding.specs.Replies.{refuses-line}
 use borrow.Author.Needs.{needs}
