@@ -27,7 +27,7 @@ static const char *advice(uint8_t number)
     case MCX11_NUMBER_MEMORY: return "configure first; else stop, for someone wrote into the lent memory";
     case MCX11_NUMBER_NULL_TASK_RUNS: return "let tasks alone call services; the null task has none";
     case MCX11_NUMBER_SEMAPHORE_WAITING: return "give each semaphore one waiting task";
-    case MCX11_NUMBER_MESSAGE_IN_MAILBOX: return "send the message again once it was received";
+    case MCX11_NUMBER_MESSAGE_IN_MAILBOX: return "send the message again once it was received or dropped";
     case MCX11_NUMBER_ALL_TIMERS_ACTIVE: return "try again later, or configure more timers";
     case MCX11_NUMBER_HAS_A_TIMER: return "purge the old timer first";
     case MCX11_NUMBER_IDLE_OR_WAITING: return "delay tasks that are neither idle nor waiting";
@@ -145,6 +145,14 @@ static void start_the_lap(void)
     tell("task 2: execute task 3, the lap", mcx11_execute(&ride, 3));
 }
 
+/* The station, task 1, sends the lap a message and waits until it was read. The lap ends, and leaves it in its mailbox: terminate
+   drops the message and signals its semaphore, so the station goes on. Its outcome is the same as when the lap has read it. */
+static void end_the_lap(void)
+{
+    tell("task 1: send message 1 to task 3, the lap, and wait", mcx11_sendw(&ride, 1, 3, MCX11_OWN));
+    tell("task 3: terminate itself, the message unread", mcx11_terminate(&ride, MCX11_SELF));
+}
+
 int main(void)
 {
     static const uint8_t entry[] = {0x41};
@@ -190,5 +198,7 @@ int main(void)
     tell("task 1: terminate itself", mcx11_terminate(&ride, MCX11_SELF));
     start_the_lap();
     tell("task 2: suspend itself", mcx11_suspend(&ride, MCX11_SELF));
+    tell("clock: tick", mcx11_tick(&ride));
+    end_the_lap();
     return EXIT_SUCCESS;
 }

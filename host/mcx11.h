@@ -26,10 +26,10 @@ extern "C" {
 
 /** @name The version: docs/CHANGES.md says what each changed for hosts
  * @{ */
-#define MCX11_VERSION_MAJOR 4 /**< a host has to be changed */
-#define MCX11_VERSION_MINOR 1 /**< something is new, or the lent memory has another layout */
+#define MCX11_VERSION_MAJOR 5 /**< a host has to be changed */
+#define MCX11_VERSION_MINOR 0 /**< something is new, or the lent memory has another layout */
 #define MCX11_VERSION_PATCH 0 /**< something is mended */
-#define MCX11_VERSION "4.1.0" /**< the three as a text */
+#define MCX11_VERSION "5.0.0" /**< the three as a text */
 /** @} */
 
 /** @name The sizes of the lent blocks
@@ -100,7 +100,7 @@ enum mcx11_code {
     MCX11_ENQUEUE = 0x08,       /**< the entry behind X into queue A */
     MCX11_RESUME = 0x09,        /**< task A */
     MCX11_SUSPEND = 0x0A,       /**< task A, 0 is self */
-    MCX11_TERMINATE = 0x0B,     /**< task A, 0 is self */
+    MCX11_TERMINATE = 0x0B,     /**< task A, 0 is self; signals the semaphores of the messages in its mailbox */
     MCX11_EXECUTE = 0x0C,       /**< task A from its start */
     MCX11_DELAY = 0x0D,         /**< task A, 0 is self, on semaphore B by the tock value X */
     MCX11_TIMER = 0x0E,         /**< for task A, 0 is self, on semaphore B with the tock value X */
@@ -311,6 +311,7 @@ static inline const char *mcx11_number_name(uint8_t number)
 
 /* ---- The calls: for the controller, and once more for the module */
 
+/** @cond the header's own */
 #ifdef MCX11_TRACE
 #define MCX11_HOOK MCX11_TRACE
 #endif
@@ -324,6 +325,7 @@ static inline const char *mcx11_number_name(uint8_t number)
 #include "mcx11_calls.h"
 #include "mcx11_as_module.h"
 #undef MCX11_HOOK
+/** @endcond */
 
 #ifdef __cplusplus
 }

@@ -65,13 +65,14 @@ static inline uint8_t mcx11_signal(mcx11_t *m, uint8_t semaphore) { return mcx11
 /** Makes the semaphore PENDING. */
 static inline uint8_t mcx11_pend(mcx11_t *m, uint8_t semaphore) { return mcx11_call(m, MCX11_PEND, 0, semaphore, 0); }
 
-/** Puts the message into the task's mailbox, with a semaphore to signal when it was read. */
+/** Puts the message into the task's mailbox, with a semaphore to signal when it was read. A terminate of the task drops the message,
+ * and signals the semaphore too. */
 static inline uint8_t mcx11_send(mcx11_t *m, uint16_t message, uint8_t task, uint8_t semaphore)
 {
     return mcx11_call(m, MCX11_SEND, task, semaphore, message);
 }
 
-/** The same, and the running task waits on the semaphore. */
+/** The same, and the running task waits on the semaphore. Its outcome does not tell read from dropped. */
 static inline uint8_t mcx11_sendw(mcx11_t *m, uint16_t message, uint8_t task, uint8_t semaphore)
 {
     return mcx11_call(m, MCX11_SENDW, task, semaphore, message);
@@ -101,7 +102,8 @@ static inline uint8_t mcx11_resume(mcx11_t *m, uint8_t task) { return mcx11_call
 /** Suspends the task until it is resumed or executed. */
 static inline uint8_t mcx11_suspend(mcx11_t *m, uint8_t task) { return mcx11_call(m, MCX11_SUSPEND, task, 0, 0); }
 
-/** Ends the task: it is idle, and its timers and messages are gone. */
+/** Ends the task: it is idle, and its timers are gone. The messages in its mailbox are dropped, and the semaphore of each is
+ * signalled: a task that waits on it is woken, and if none does, the semaphore is DONE. No outcome tells whom that woke. */
 static inline uint8_t mcx11_terminate(mcx11_t *m, uint8_t task) { return mcx11_call(m, MCX11_TERMINATE, task, 0, 0); }
 
 /** Starts the task from its beginning. Refused with 26 while a task that a pair of the configuration puts first is idle. */

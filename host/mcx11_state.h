@@ -41,7 +41,6 @@ struct mcx11_layout_t {
     size_t tasks, named, semaphores, queues, timers, messages, pairs;
     size_t at_sizes, at_pairs, at_ticks, at_count, at_planes, at_semaphores, at_rings, at_messages, at_entries;
 };
-/** @endcond */
 
 /* ---- The readers: for the controller, and once more for the module */
 
@@ -54,6 +53,7 @@ struct mcx11_layout_t {
 #include "mcx11_readers.h"
 #include "mcx11_as_module.h"
 #undef MCX11_MOST
+/** @endcond */
 
 #ifdef __cplusplus
 }

@@ -24,6 +24,17 @@ pub struct Size {
     pub width: u8,
 }
 
+impl Size {
+    /// S, as many as there may be.
+    fn named(self) -> u8 {
+        SEMAPHORES - TASKS - 2 * self.queues
+    }
+
+    pub fn semaphore_of(self, task: u8) -> u8 {
+        self.named() + task
+    }
+}
+
 /// Who waits at queues: takers at empty ones, or putters at full ones.
 #[derive(Clone, Copy)]
 pub enum Ends {
@@ -68,8 +79,7 @@ impl Stage {
 
     fn configuration(&self) -> Frame {
         let Size { queues, width } = self.size;
-        let named = SEMAPHORES - TASKS - 2 * queues;
-        let mut frame = vec![TASKS, named, queues, TIMERS, MESSAGES, 1, 0, 125];
+        let mut frame = vec![TASKS, self.size.named(), queues, TIMERS, MESSAGES, 1, 0, 125];
         frame.extend((1..=TASKS).map(|task| u8::from(task != self.arranger)));
         frame.extend([width, 1].repeat(queues.into()));
         frame.extend(&self.pairs);

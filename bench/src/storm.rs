@@ -1,13 +1,15 @@
 //! Frames after which as many tasks as can be issue their requests again: when a task that arranged it all blocks itself, and when
 //! timers wake them.
 
-use crate::frames::{service, tick, timed};
+use crate::frames::{message, service, tick, timed};
+use crate::session::Frame;
 use crate::stage::{Ends, Size, Stage, MESSAGES, SILENT, TASKS};
 use plain_executive::command::*;
 
 /// The arranger runs. Tasks behind it are woken: receivers that got a message, but of a sender that they don't want, and one task a
 /// queue, which finds there nothing again. They all will wait again. Behind them one whose request completes and wakes the last
-/// of those at the queues, whose request completes too, and settling ends.
+/// of those at the queues, whose request completes too, and settling ends. Behind them all tasks that only wait, and for each the
+/// arranger has a message with the semaphore that it waits on.
 #[derive(Clone, Copy)]
 pub struct Storm {
     pub size: Size,
@@ -17,27 +19,52 @@ pub struct Storm {
     pub receivers: u8,
     /// The receivers that got their message.
     pub sent: u8,
+    pub waiters: u8,
+    pub order: Order,
+}
+
+/// Where the arranger's messages lie, among those of the receivers.
+#[derive(Clone, Copy)]
+pub enum Order {
+    Before,
+    Between,
+    Behind,
+}
+
+impl Order {
+    pub fn name(self) -> &'static str {
+        match self {
+            Order::Before => "before",
+            Order::Between => "between",
+            Order::Behind => "behind",
+        }
+    }
 }
 
 impl Storm {
     pub fn new(size: Size, ends: Ends) -> Self {
-        Storm { size, ends, spared: None, receivers: MESSAGES, sent: MESSAGES }
+        let (receivers, sent) = (MESSAGES, MESSAGES);
+        Storm { size, ends, spared: None, receivers, sent, waiters: 0, order: Order::Before }
     }
 
     fn queues(self) -> Vec<u8> {
         (1..=self.size.queues).filter(|&queue| self.spared != Some(queue)).collect()
     }
 
-    /// The first receiver. Those that wait at queues come behind the receivers, and the last task is the one that completes.
+    /// The first receiver. Those that wait at queues come behind the receivers, and then the one that completes.
     pub fn first(self) -> u8 {
-        TASKS - self.receivers - self.queues().len() as u8
+        self.passing() - self.receivers - self.queues().len() as u8
+    }
+
+    fn passing(self) -> u8 {
+        TASKS - self.waiters
     }
 
     pub fn stage(self) -> Stage {
         let (queues, first) = (self.queues(), self.first());
         let relayed = *queues.last().expect("a queue");
         let mut stage = Stage::new(self.size, first - 1);
-        stage.relay(self.ends, TASKS, relayed);
+        stage.relay(self.ends, self.passing(), relayed);
         for (&queue, task) in queues.iter().zip(first + self.receivers..) {
             if matches!(self.ends, Ends::Putters) && queue != relayed {
                 stage.fill(queue);
@@ -45,10 +72,27 @@ impl Storm {
             stage.wait_at(self.ends, task, queue);
         }
         (0..self.receivers).for_each(|place| stage.ask(first + place, service(RECEIVE, SILENT, 0)));
+        (self.passing() + 1..=TASKS).for_each(|task| stage.ask(task, service(WAIT, 0, 0)));
         queues.iter().for_each(|&queue| stage.tease(self.ends, queue));
-        (1..=self.sent).for_each(|number| stage.send(first + number - 1, number));
-        stage.does(service(RESUME, TASKS, 0));
+        self.messages(stage.arranger).into_iter().for_each(|frame| stage.does(frame));
+        stage.does(service(RESUME, self.passing(), 0));
         stage
+    }
+
+    fn messages(self, arranger: u8) -> Vec<Frame> {
+        let first = self.first();
+        let receivers = (1..=self.sent).map(|number| message(SEND, first + number - 1, 0, number));
+        let waiter = |place: u8| self.size.semaphore_of(self.passing() + place);
+        let own = (1..=self.waiters).map(|place| message(SEND, arranger, waiter(place), self.sent + place));
+        match self.order {
+            Order::Before => own.chain(receivers).collect(),
+            Order::Behind => receivers.chain(own).collect(),
+            Order::Between => {
+                let (own, receivers): (Vec<Frame>, Vec<Frame>) = (own.collect(), receivers.collect());
+                let pairs = (0..own.len().max(receivers.len())).map(|place| [own.get(place), receivers.get(place)]);
+                pairs.flatten().flatten().cloned().collect()
+            }
+        }
     }
 
     pub fn name(self) -> String {

@@ -5,9 +5,11 @@ mod above;
 mod cascade;
 mod configurations;
 mod damage;
+mod dropping;
 mod fields;
 mod moves;
 mod pairs;
+mod release;
 
 use std::ops::RangeInclusive;
 
@@ -22,6 +24,13 @@ use moves::Mood;
 pub use cascade::cascade;
 pub use configurations::largest;
 pub use damage::LONGEST;
+pub use release::{release, Release, RELEASES};
+
+/// Sessions that random ones hardly lead to.
+pub fn prepared() -> Vec<Script> {
+    let releases = RELEASES.into_iter().map(release);
+    [cascade()].into_iter().chain(releases).chain(release::freed_with_a_request()).collect()
+}
 
 /// A configuration and the frames behind it.
 #[derive(Clone, Debug, PartialEq, Eq)]

@@ -41,8 +41,11 @@ impl Mailboxes {
         Some(letter)
     }
 
-    pub fn empty(&mut self, task: u8) {
-        while self.take(task, 0).is_some() {}
+    /// Gives the messages that lay there, in order.
+    pub fn empty(&mut self, task: u8) -> Vec<Letter> {
+        let letters = std::mem::take(&mut self.boxes[usize::from(task)]);
+        letters.iter().for_each(|letter| self.lying[usize::from(letter.message)] -= 1);
+        letters
     }
 
     pub fn letters(&self, task: u8) -> impl Iterator<Item = Letter> + '_ {

@@ -40,7 +40,7 @@ impl Executive {
             Command::Enqueue(queue, entry) => self.enqueue(own, queue, entry, notes),
             Command::Resume(task) => self.tasks.unblock(task, Block::Suspended),
             Command::Suspend(task) => self.tasks.block(task, Block::Suspended),
-            Command::Terminate(task) => self.terminate(task),
+            Command::Terminate(task) => self.terminate(task, notes),
             Command::Execute(task) => self.execute(task),
             Command::Delay(start) => self.delay(start),
             Command::Timer(start) => self.start(start),
@@ -69,6 +69,13 @@ impl Executive {
             self.set_semaphore(semaphore, Semaphore::Done);
         }
         woken
+    }
+
+    /// That of a timer or of a message. Only in a state that was given it may be one that there is not: then it signals nothing.
+    fn signal_kept(&mut self, semaphore: u8, notes: &mut impl Notes) {
+        if (1..=self.configuration.semaphores()).contains(&semaphore) {
+            self.signal(semaphore, notes);
+        }
     }
 
     /// As signal, but a semaphore on which nobody waits stays as it is: those of queues are never DONE.
@@ -132,30 +139,39 @@ impl Executive {
         self.wake(self.configuration.not_empty(queue), notes);
     }
 
-    fn terminate(&mut self, task: u8) {
+    /// The messages that are dropped signal once the task waits for nothing, and its record is set behind them all.
+    fn terminate(&mut self, task: u8, notes: &mut impl Notes) {
+        self.end_wait(task);
+        self.timers.remove_of_task(task);
+        for letter in self.mailboxes.empty(task) {
+            self.signal_kept(letter.semaphore, notes);
+        }
         self.reset(task, Outcome::Plain);
         self.tasks.block(task, Block::Idle);
-        self.timers.remove_of_task(task);
-        self.mailboxes.empty(task);
     }
 
     fn execute(&mut self, task: u8) {
+        self.end_wait(task);
         self.reset(task, Outcome::Begin);
     }
 
-    /// No block, no open request, no wait.
-    fn reset(&mut self, task: u8, outcome: Outcome) {
-        let record = self.tasks.get_mut(task);
-        record.outcome = outcome;
-        record.request = Request::None;
-        let waited_on = std::mem::take(&mut record.waits_on);
-        self.tasks.unblock_all(task);
+    /// Nothing is WAITING with the task any longer.
+    fn end_wait(&mut self, task: u8) {
+        let waited_on = std::mem::take(&mut self.tasks.get_mut(task).waits_on);
         if waited_on != 0 {
             self.set_semaphore(waited_on, Semaphore::Pending);
         }
         if self.restored {
             self.withdraw(task);
         }
+    }
+
+    /// No block and no open request.
+    fn reset(&mut self, task: u8, outcome: Outcome) {
+        let record = self.tasks.get_mut(task);
+        record.outcome = outcome;
+        record.request = Request::None;
+        self.tasks.unblock_all(task);
     }
 
     fn delay(&mut self, start: Start) {
@@ -173,9 +189,7 @@ impl Executive {
         }
         while let Some(timer) = self.timers.take_due(self.clock.tocks()) {
             notes.note(Event::Due { task: timer.task, semaphore: timer.semaphore });
-            if (1..=self.configuration.semaphores()).contains(&timer.semaphore) {
-                self.signal(timer.semaphore, notes);
-            }
+            self.signal_kept(timer.semaphore, notes);
         }
     }
 

@@ -1,7 +1,7 @@
 //! The random sessions reach every named situation.
 
 use plain_executive::coverage::Coverage;
-use plain_executive::generator::{cascade, largest, Generator};
+use plain_executive::generator::{largest, prepared, Generator};
 use plain_executive::limits::Limits;
 
 const SESSIONS: u64 = 2000;
@@ -10,7 +10,7 @@ const FRAMES: usize = 250;
 #[test]
 fn every_situation_is_reached() {
     let mut coverage = Coverage::new();
-    coverage.watch_script(&cascade());
+    prepared().iter().for_each(|script| coverage.watch_script(script));
     coverage.watch_configuration(&largest(Limits::MODULE));
     for seed in 0..SESSIONS {
         let mut generator = Generator::new(seed);

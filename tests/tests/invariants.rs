@@ -6,10 +6,10 @@ use plain_executive::answer::Answer;
 use plain_executive::command::{EXECUTE, SIGNAL, TERMINATE};
 use plain_executive::coverage::causes::causes;
 use plain_executive::executive::Executive;
-use plain_executive::generator::{cascade, Generator, Script};
-use plain_executive::items::{OutcomeItem, TaskItem};
+use plain_executive::generator::{cascade, prepared, release, Generator, Script, RELEASES};
+use plain_executive::items::{OutcomeItem, RequestItem, TaskItem};
 use plain_executive::semaphore::Semaphore;
-use plain_executive::tasks::{Block, Outcome};
+use plain_executive::tasks::{Block, Blocks, Outcome, Request};
 
 const SESSIONS: u64 = 600;
 const FRAMES: usize = 200;
@@ -25,7 +25,7 @@ struct Step<'a> {
 /// Every frame of every session.
 fn each_step(holds: impl Fn(&Step)) {
     let random = (0..SESSIONS).map(|seed| Generator::new(seed).script(tasks(seed), FRAMES));
-    for Script { configuration, frames } in random.chain([cascade()]) {
+    for Script { configuration, frames } in random.chain(prepared()) {
         let mut before = Executive::configure(&configuration).expect("an accepted configuration");
         before.keep_history();
         for frame in frames {
@@ -198,20 +198,132 @@ fn the_pairs_never_change() {
     assert!(some.get() > 20_000, "{} frames behind a configuration with pairs", some.get());
 }
 
-/// Nothing of a task but the terminated one is taken away, whatever the pairs say: the others' blocks and outcomes stay, but for
-/// those whom settling reaches.
+/// Every accepted terminate, with the task that it ends.
+fn each_terminate(holds: impl Fn(&Step, u8)) {
+    each_step(|step| {
+        if step.answer.refusal() == 0 && step.frame[0] == TERMINATE {
+            let ended = if step.frame[1] == 0 { step.before.running() } else { step.frame[1] };
+            holds(step, ended);
+        }
+    });
+}
+
+/// How many messages with this semaphore lay in the mailbox of the task that ended.
+fn dropped(step: &Step, ended: u8, semaphore: u8) -> usize {
+    step.before.mailboxes().letters(ended).filter(|letter| letter.semaphore == semaphore).count()
+}
+
+/// The task waited on a semaphore of a dropped message.
+fn is_freed(step: &Step, ended: u8, task: u8) -> bool {
+    let numbers = 1..=step.before.configuration().semaphores();
+    let waits = |number: u8| step.before.semaphore(number) == Semaphore::Waiting(task);
+    task != ended && numbers.into_iter().any(|number| waits(number) && dropped(step, ended, number) > 0)
+}
+
+/// Of the blocks those that are not event wait.
+fn without_event_wait(blocks: Blocks) -> Blocks {
+    let others = [Block::Idle, Block::Suspended, Block::MessageWait];
+    Blocks::of(others.into_iter().filter(|&block| blocks.has(block)))
+}
+
+/// Nothing of a task but the terminated one is taken away, whatever the pairs say, but for the event wait of one whom a dropped
+/// message frees: the others' blocks and outcomes stay, but for those whom settling reaches.
 #[test]
 fn terminating_a_first_leaves_the_others_running() {
-    each_step(|step| {
-        if step.answer.refusal() != 0 || step.frame[0] != TERMINATE {
-            return;
-        }
+    each_terminate(|step, ended| {
         let (before, after) = (step.before.items(), step.after.items());
-        let ended = if step.frame[1] == 0 { step.before.running() } else { step.frame[1] };
         for (task, (old, new)) in (1..).zip(before.tasks.iter().zip(&after.tasks)) {
+            let freed = is_freed(step, ended, task);
+            let blocks = if freed { without_event_wait(old.blocks) } else { old.blocks };
             let reached = step.answer.reissues() > 0 || task == step.before.running();
-            assert!(task == ended || reached || old == new, "task {task}, {:02X?}", step.frame);
+            let kept = TaskItem { blocks, ..old.clone() };
+            assert!(task == ended || reached || kept == *new, "task {task}, {:02X?}", step.frame);
             assert!(task == ended || !new.blocks.has(Block::Idle) || old.blocks.has(Block::Idle), "task {task}");
+        }
+    });
+}
+
+/// Settling touches no semaphore that can be named, so the states are those that the terminate alone leaves: the ended task's own
+/// wait is withdrawn, and then each dropped message signals once.
+#[test]
+fn each_dropped_message_signals_once() {
+    let [twice, own] = [0, 0].map(Cell::new);
+    each_terminate(|step, ended| {
+        for number in 1..=step.before.configuration().nameable_semaphores() {
+            let (old, signals) = (step.before.semaphore(number), dropped(step, ended, number));
+            let withdrawn = if old == Semaphore::Waiting(ended) { Semaphore::Pending } else { old };
+            let expected = match (withdrawn, signals) {
+                (state, 0) => state,
+                (Semaphore::Waiting(_), 1) => Semaphore::Pending,
+                _ => Semaphore::Done,
+            };
+            assert_eq!(step.after.semaphore(number), expected, "semaphore {number}, {:02X?}", step.frame);
+            twice.set(twice.get() + usize::from(withdrawn.is_waiting() && signals == 2));
+            own.set(own.get() + usize::from(withdrawn != old && signals > 0));
+        }
+    });
+    assert!(twice.get() > 50 && own.get() > 50, "{} WAITING in two messages, {} withdrawn", twice.get(), own.get());
+}
+
+/// It has no event wait, unless its request was issued again and waits at a queue. If it had none, it is runnable or was blocked
+/// otherwise, and shows what it had.
+#[test]
+fn a_freed_task_waits_no_longer() {
+    let [plain, open] = [0, 0].map(Cell::new);
+    each_terminate(|step, ended| {
+        for task in (1..=step.before.configuration().tasks).filter(|&task| is_freed(step, ended, task)) {
+            let (old, new) = (step.before.tasks().get(task), step.after.tasks().get(task));
+            if old.request == Request::None {
+                assert_eq!((new.blocks(), new.outcome), (without_event_wait(old.blocks()), old.outcome));
+                plain.set(plain.get() + 1);
+            } else {
+                let configuration = step.before.configuration();
+                let at_its_queue = match new.request {
+                    Request::Dequeue(queue) => new.waits_on == configuration.not_empty(queue),
+                    Request::Enqueue(queue, _) => new.waits_on == configuration.not_full(queue),
+                    _ => false,
+                };
+                assert!(at_its_queue || !new.blocks().has(Block::EventWait), "task {task}, {:02X?}", step.frame);
+                open.set(open.get() + 1);
+            }
+        }
+    });
+    assert!(plain.get() > 500 && open.get() > 30, "{} freed, {} with a request", plain.get(), open.get());
+}
+
+/// Of the others, a receive that was issued again may have taken one message out.
+#[test]
+fn only_the_ended_tasks_mailbox_is_emptied() {
+    each_terminate(|step, ended| {
+        let (before, after) = (step.before.items(), step.after.items());
+        for task in 1..=step.before.configuration().tasks {
+            let place = usize::from(task) - 1;
+            let mut expected = before.mailboxes[place].clone();
+            match (&before.tasks[place].request, &after.tasks[place].request, &after.tasks[place].outcome) {
+                _ if task == ended => expected.clear(),
+                (RequestItem::Receive(_), RequestItem::None, OutcomeItem::Message(taken)) => {
+                    expected.retain(|letter| letter != taken);
+                }
+                _ => {}
+            }
+            assert_eq!(after.mailboxes[place], expected, "the mailbox of task {task}, {:02X?}", step.frame);
+        }
+    });
+}
+
+/// Whomever it freed, nobody is told; and the ended task is idle and nothing else.
+#[test]
+fn a_terminate_tells_nobody_whom_it_freed() {
+    each_terminate(|step, ended| {
+        let after = step.after.items();
+        let caller = step.before.running();
+        assert_eq!(after.tasks[usize::from(caller) - 1].outcome, OutcomeItem::Plain, "{:02X?}", step.frame);
+        let TaskItem { blocks, outcome, request, slot } = &after.tasks[usize::from(ended) - 1];
+        assert_eq!((blocks, outcome, request), (&Blocks::of([Block::Idle]), &OutcomeItem::Plain, &RequestItem::None));
+        assert_eq!(*slot, step.before.tasks().get(ended).slot);
+        assert!(after.timers.iter().all(|timer| timer.task != ended));
+        for (old, new) in step.before.items().tasks.iter().zip(&after.tasks) {
+            assert!(!matches!(new.outcome, OutcomeItem::Woke(_)) || old.outcome == new.outcome, "{:02X?}", step.frame);
         }
     });
 }
@@ -271,4 +383,23 @@ fn the_cascade_counts_98_reissues() {
     assert!(answers.iter().all(|answer| answer.refusal() == 0));
     let last = answers.last().expect("an answer");
     assert_eq!(last.bytes(), [0, 2, 98, 3, 1]);
+}
+
+/// Those of the queues wait there again, and the first sender runs, with its own semaphore.
+#[test]
+fn the_releases_free_as_many_tasks_as_there_are_messages() {
+    for (messages, each) in [64, 8].into_iter().zip(RELEASES) {
+        let script = release(each);
+        let mut executive = Executive::configure(&script.configuration).expect("an accepted configuration");
+        let (last, others) = script.frames.split_last().expect("a frame");
+        assert!(others.iter().all(|frame| executive.frame(frame).refusal() == 0));
+        let waiting = |executive: &Executive| {
+            let nameable = 1..=executive.configuration().nameable_semaphores();
+            nameable.into_iter().filter(|&number| executive.semaphore(number).is_waiting()).count()
+        };
+        assert_eq!(waiting(&executive), messages);
+        let (queues, sender) = (each.queues, each.queues + 2);
+        assert_eq!(executive.frame(last).bytes(), [0, sender, queues, 5, queues + 1 + sender]);
+        assert_eq!(waiting(&executive), 0);
+    }
 }

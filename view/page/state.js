@@ -1,7 +1,7 @@
 // The state of a session after a frame, from the changes of src/changes.rs.
 
 const CHANGE = { ticks: 1, blocks: 2, outcome: 3, request: 4, slot: 5, semaphore: 6, mailbox: 7, queue: 8, timers: 9, tock: 14 };
-const EVENT = { due: 10, woken: 11, lost: 12, issued: 13 };
+const EVENT = { due: 10, woken: 11, lost: 12, issued: 13, dropped: 15 };
 const BLOCK = { idle: 1, suspended: 2, event: 4, message: 8 };
 const WAITS = BLOCK.event | BLOCK.message;
 const DONE = 255;
@@ -84,6 +84,7 @@ class State {
         case EVENT.due: this.events.push([kind, bytes[at], bytes[at + 1]]); at += 2; break;
         case EVENT.woken: this.wake(bytes[at], frame); this.events.push([kind, bytes[at], bytes[at + 1]]); at += 2; break;
         case EVENT.lost: this.events.push([kind, bytes[at]]); at += 1; break;
+        case EVENT.dropped: this.events.push([kind, ...bytes.subarray(at, at + 3)]); at += 3; break;
         case EVENT.issued: this.events.push([kind, ...bytes.subarray(at, at + 4)]); at += 4; break;
         default: throw new Error(`the page's data has a change ${kind} at ${at - 1}`);
       }

@@ -14,6 +14,7 @@ class Speech {
   task(task) { return task === 0 ? "the null task" : this.names.get(`t${task}`) || `task ${task}`; }
   queue(queue) { return `queue ${this.names.get(`q${queue}`) || queue}`; }
   message(message) { return `message ${this.names.get(`m${message}`) || message}`; }
+  letter([message, sender]) { return `${this.message(message)} from ${this.task(sender)}`; }
 
   semaphore(number) {
     const name = this.names.get(`s${number}`);
@@ -48,7 +49,7 @@ class Speech {
 
   outcome([kind, ...value]) {
     if (kind === 1) return "begin";
-    if (kind === 2) return `${this.message(value[0])} from ${this.task(value[1])} with ${this.semaphore(value[2])}`;
+    if (kind === 2) return `${this.letter(value)} with ${this.semaphore(value[2])}`;
     if (kind === 3) return `entry ${hexOf(value)}`;
     if (kind === 4) return `refused ${value[0]}`;
     if (kind === 5) return this.semaphore(value[0]);
@@ -59,6 +60,7 @@ class Speech {
   event([kind, ...values]) {
     const [first, second, third, ended] = values;
     if (kind === EVENT.due) return `A timer of ${this.task(first)} is due and signals ${this.semaphore(second)}.`;
+    if (kind === EVENT.dropped) return `${this.letter(values)} is dropped and signals ${this.semaphore(third)}.`;
     if (kind === EVENT.lost) return `${this.semaphore(first)} was DONE already: this signal is lost.`;
     if (kind === EVENT.woken && second) return `${this.semaphore(second)} wakes ${this.task(first)}.`;
     if (kind === EVENT.woken) return `The message wakes ${this.task(first)}.`;
@@ -83,8 +85,7 @@ function tablesOf(session, speech, state, frame) {
     if (value) tables.semaphores.set(`s${number}`, { cells: [value === DONE ? "DONE" : `WAITING with ${speech.task(value)}`] });
   }
   state.mailboxes.forEach((letters, task) => {
-    const words = ([message, sender, semaphore]) =>
-      `${speech.message(message)} from ${speech.task(sender)} with ${speech.semaphore(semaphore)}`;
+    const words = (letter) => `${speech.letter(letter)} with ${speech.semaphore(letter[2])}`;
     if (letters.length) tables.mailboxes.set(`t${task}`, { cells: [letters.map(words).join("; ")] });
   });
   session.configuration.queues.forEach(([, depth], place) => {

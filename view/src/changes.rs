@@ -23,6 +23,7 @@ const WOKEN: u8 = 11;
 const LOST: u8 = 12;
 const ISSUED: u8 = 13;
 const TOCK: u8 = 14;
+const DROPPED: u8 = 15;
 
 pub const DONE: u8 = 255;
 
@@ -75,11 +76,14 @@ impl Changes {
         &self.before
     }
 
-    /// A frame's changes, if it was accepted, and its trail.
-    pub fn frame(&mut self, after: Option<Items>, tocks: u64, trail: &[Event]) {
+    /// A frame's changes, if it was accepted, and its trail behind the messages that it dropped.
+    pub fn frame(&mut self, after: Option<Items>, tocks: u64, dropped: &[Letter], trail: &[Event]) {
         if let Some(after) = after {
             self.items(&after, tocks);
             self.before = after;
+        }
+        for Letter { message, sender, semaphore } in dropped {
+            self.bytes.extend([DROPPED, *message, *sender, *semaphore]);
         }
         trail.iter().for_each(|event| self.event(event));
         self.bytes.push(END);

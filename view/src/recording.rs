@@ -114,7 +114,7 @@ impl<'a> Writer<'a> {
         if let Some(what) = items.as_ref().and_then(|items| unequal_items(items, &step.other.items())) {
             return Err(Stop::Differs(what));
         }
-        self.changes.frame(items, step.other.clock().tocks(), step.trail);
+        self.changes.frame(items, step.other.clock().tocks(), step.dropped, step.trail);
         self.summary.step(step, self.changes.before());
         Ok(())
     }
@@ -161,7 +161,7 @@ fn asked_line(words: &Words, step: &Step) -> String {
     format!("{digits}\t{}\t{}\t{}", step.caller, named(words.configuration, step).join(" "), words.asked(step))
 }
 
-/// What a frame names: its caller, and what its fields stand for.
+/// What a frame names: its caller, what its fields stand for, and the messages that it drops.
 fn named(configuration: &Configuration, step: &Step) -> Vec<String> {
     let Some(&[code, a, b, _, low, ..]) = step.frame.filter(|_| step.number > 0) else {
         return Vec::new();
@@ -178,7 +178,13 @@ fn named(configuration: &Configuration, step: &Step) -> Vec<String> {
         WAIT | SIGNAL | PEND => named.push(format!("s{}", semaphore(own))),
         SEND | SENDW => named.extend([format!("t{a}"), format!("s{}", semaphore(own)), format!("m{low}")]),
         DEQUEUE | ENQUEUE => named.push(format!("q{a}")),
-        RECEIVE | RESUME | SUSPEND | TERMINATE | EXECUTE => named.push(format!("t{of_a}")),
+        RECEIVE | RESUME | SUSPEND | EXECUTE => named.push(format!("t{of_a}")),
+        TERMINATE => {
+            named.push(format!("t{of_a}"));
+            step.dropped.iter().for_each(|letter| {
+                named.extend([format!("s{}", letter.semaphore), format!("m{}", letter.message)]);
+            });
+        }
         DELAY | TIMER | PURGE => named.extend([format!("t{of_a}"), format!("s{}", semaphore(of_a))]),
         INTERRUPT_EXIT if b != 0 => named.push(format!("s{b}")),
         _ => {}

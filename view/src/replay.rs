@@ -2,9 +2,11 @@
 
 use c::caller::Caller;
 use c::lent::Lent;
+use plain_executive::command::TERMINATE;
 use plain_executive::executive::Executive;
 use plain_executive::line::MOST_BYTES;
 use plain_executive::numbers::{Number, LINE};
+use plain_executive::tasks::Letter;
 use plain_executive::trail::Event;
 
 /// Why a session does not go on.
@@ -24,6 +26,7 @@ pub struct Replay {
     memory: Lent,
     other: Executive,
     trail: Vec<Event>,
+    dropped: Vec<Letter>,
     answer: Vec<u8>,
     frames: usize,
 }
@@ -41,6 +44,8 @@ pub struct Step<'run> {
     pub tock: bool,
     /// What the frame did on its way.
     pub trail: &'run [Event],
+    /// The messages that a terminate dropped, in the order of the mailbox.
+    pub dropped: &'run [Letter],
     /// After the step.
     pub memory: &'run Lent,
     pub other: &'run Executive,
@@ -73,7 +78,7 @@ impl Replay {
         }
         let other = other.map_err(Stop::Refused)?;
         let answer = memory.answered().to_vec();
-        Ok(Replay { call, memory, other, trail: Vec::new(), answer, frames: 0 })
+        Ok(Replay { call, memory, other, trail: Vec::new(), dropped: Vec::new(), answer, frames: 0 })
     }
 
     pub fn other(&self) -> &Executive {
@@ -83,7 +88,8 @@ impl Replay {
     /// The configuration as a step.
     pub fn first<'run>(&'run self, line: &'run [u8]) -> Step<'run> {
         let Replay { memory, other, answer, .. } = self;
-        Step { number: 0, line, frame: Some(line), caller: 0, answer, tock: false, trail: &[], memory, other }
+        let (trail, dropped) = (&[], &[]);
+        Step { number: 0, line, frame: Some(line), caller: 0, answer, tock: false, trail, dropped, memory, other }
     }
 
     /// Feeds a line. `room` holds its frame.
@@ -92,9 +98,13 @@ impl Replay {
         self.trail.clear();
         let (caller, tocks) = (self.other.running(), self.other.clock().tocks());
         let frame = c::read_line(line, room).ok().map(|length| &room[..length]);
+        self.dropped = frame.map_or_else(Vec::new, |frame| left_by(frame, &self.other));
         match frame {
             Some(frame) => self.both(frame)?,
             None => self.refuse_line(),
+        }
+        if self.answer[0] != 0 {
+            self.dropped.clear();
         }
         Ok(Step {
             number: self.frames,
@@ -104,6 +114,7 @@ impl Replay {
             answer: &self.answer,
             tock: self.other.clock().tocks() != tocks,
             trail: &self.trail,
+            dropped: &self.dropped,
             memory: &self.memory,
             other: &self.other,
         })
@@ -126,5 +137,14 @@ impl Replay {
     fn refuse_line(&mut self) {
         self.answer[0] = LINE;
         self.answer[2] = 0;
+    }
+}
+
+/// What lies in the mailbox of the task that a frame would terminate.
+fn left_by(frame: &[u8], other: &Executive) -> Vec<Letter> {
+    match *frame {
+        [TERMINATE, 0, ..] => other.mailboxes().letters(other.running()).collect(),
+        [TERMINATE, task, ..] if task <= other.configuration().tasks => other.mailboxes().letters(task).collect(),
+        _ => Vec::new(),
     }
 }

@@ -50,6 +50,7 @@ impl Wakers {
             _ => None,
         };
         deed.into_iter().for_each(|deed| self.add(deed));
+        step.dropped.iter().for_each(|letter| self.add((Deed::Signals(letter.semaphore), own)));
         for event in step.trail {
             if let Event::Due { semaphore, .. } = event {
                 self.add((Deed::Signals(*semaphore), Source::Timer));

@@ -6,6 +6,7 @@ use c::caller::Caller;
 use plain_executive::answer;
 use plain_executive::command::*;
 use plain_executive::configuration::Configuration;
+use plain_executive::tasks::Letter;
 use plain_executive::tocks::{tock_value, Tocks};
 use plain_executive::trail::Event;
 
@@ -150,7 +151,30 @@ impl Words<'_> {
         if step.answer[2] > 0 {
             said += &format!("; {} reissued", step.answer[2]);
         }
+        said += &self.freed(step);
         step.trail.iter().filter_map(|event| self.lost(event)).for_each(|lost| said += &lost);
+        said
+    }
+
+    /// What came of the signals of the messages that a terminate dropped.
+    fn freed(&self, step: &Step) -> String {
+        let mut seen = BTreeSet::new();
+        let semaphores = step.dropped.iter().map(|letter| letter.semaphore).filter(|semaphore| seen.insert(*semaphore));
+        semaphores.map(|semaphore| self.signalled(step, semaphore)).collect()
+    }
+
+    /// Each signal of the semaphore woke a task, was lost, or made it DONE. That a woken task runs is in the answer.
+    fn signalled(&self, step: &Step, semaphore: u8) -> String {
+        let signals = step.dropped.iter().filter(|letter| letter.semaphore == semaphore).count();
+        let woken = step.trail.iter().find_map(|event| woken_by(semaphore, event));
+        let lost = step.trail.iter().filter(|event| **event == Event::Lost { semaphore }).count();
+        let mut said = String::new();
+        if let Some(task) = woken.filter(|task| *task != step.running()) {
+            said += &format!("; {} is woken by {}", self.task(task), self.semaphore_of(task, semaphore));
+        }
+        if signals > lost + usize::from(woken.is_some()) {
+            said += &format!("; {} is DONE", self.semaphore(semaphore));
+        }
         said
     }
 
@@ -174,6 +198,14 @@ impl Words<'_> {
             [answer::WOKE, woken] => format!(", woke {}", self.task(*woken)),
             _ => String::new(),
         }
+    }
+}
+
+/// The task whose wait for this semaphore ended.
+fn woken_by(semaphore: u8, event: &Event) -> Option<u8> {
+    match *event {
+        Event::Woken { task, semaphore: by } if by == semaphore => Some(task),
+        _ => None,
     }
 }
 
@@ -228,7 +260,7 @@ impl Asked<'_> {
             ENQUEUE => format!("{own} puts {} into {}", hex(self.entry), words.queue(*a)),
             RESUME => format!("{own} resumes {}", self.task_or("task 0")),
             SUSPEND => format!("{own} suspends {}", self.task_or("itself")),
-            TERMINATE => format!("{own} terminates {}", self.task_or("itself")),
+            TERMINATE => format!("{own} terminates {}{}", self.task_or("itself"), self.drops(step)),
             EXECUTE => format!("{own} executes {}", self.task_or("task 0")),
             DELAY => {
                 format!("{own} delays {} by {} on {}", self.task_or("itself"), tocks(*x), self.semaphore(self.of_a()))
@@ -273,6 +305,19 @@ impl Asked<'_> {
         let Asked { words, a, x, .. } = self;
         let to = if *a == 0 { "task 0".to_string() } else { words.task(*a) };
         format!("sends {} to {to} with {}", words.message(*x), self.semaphore(self.caller))
+    }
+
+    /// Of a terminate: the messages that it dropped.
+    fn drops(&self, step: &Step) -> String {
+        let letter = |letter: &Letter| {
+            format!("{} from {}", self.words.message(letter.message.into()), self.words.task(letter.sender))
+        };
+        let dropped: Vec<String> = step.dropped.iter().map(letter).collect();
+        match dropped.len() {
+            0 => String::new(),
+            1 => format!(", {} is dropped", listed(&dropped)),
+            _ => format!(", {} are dropped", listed(&dropped)),
+        }
     }
 
     fn timer(&self, own: &str) -> String {

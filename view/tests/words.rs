@@ -148,6 +148,36 @@ fn a_signal_says_whom_it_woke() {
     is_told("02010000000100640000", &frames);
 }
 
+/// Semaphore 3 wakes task 1, which runs; 1 comes with two messages and wakes task 2 first; 2 is DONE before. Then a task ends itself.
+#[test]
+fn a_terminate_says_which_messages_it_dropped_and_whom_that_woke() {
+    let frames = [
+        ("0504000001", "task 2 runs, begins"),
+        ("0404010002", "task 2 runs, has semaphore 1"),
+        ("0504010003", "task 3 runs, begins"),
+        ("0200020000", "task 3 runs, woke nobody"),
+        ("0404020004", "task 3 runs, has semaphore 2"),
+        ("0B0400000000", "refused 2, a frame of code 0B has 5 bytes, not 6; task 3 goes on"),
+        (
+            "0B04000000",
+            "task 1 runs, has semaphore 3; task 2 is woken by semaphore 1; semaphore 1 is DONE; semaphore 2 was DONE, a signal is lost",
+        ),
+        ("0401000004", "task 1 runs, has semaphore 3"),
+        ("0B00000000", "task 2 runs, has semaphore 1; semaphore 3 is DONE"),
+        ("0B04000000", "task 2 runs"),
+    ];
+    let said = is_told("040200000801006400000000", &frames);
+    let asked: Vec<&str> =
+        said.lines().filter_map(|line| line.split_once(" terminates ")?.1.split(": ").next()).collect();
+    let due = [
+        "task 4",
+        "task 4, message 1 from task 1, message 2 from task 2, message 3 from task 2 and message 4 from task 3 are dropped",
+        "itself, message 4 from task 1 is dropped",
+        "task 4",
+    ];
+    assert_eq!(asked, due);
+}
+
 #[test]
 fn pairs_say_who_starts_only_after_whom() {
     let frames = [

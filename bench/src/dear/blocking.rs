@@ -4,8 +4,18 @@ use super::{but_one_name, start_all, start_but_one, BEHIND, ENDS, NEW};
 use crate::frames::{message, service, take, timed};
 use crate::session::Session;
 use crate::stage::{Size, MESSAGES, SILENT};
-use crate::storm::Storm;
+use crate::storm::{Order, Storm};
 use plain_executive::command::*;
+
+/// How many messages of the caller free a task each, and where they lie.
+const DROPPED: [(u8, Order); 6] = [
+    (1, Order::Before),
+    (1, Order::Behind),
+    (32, Order::Before),
+    (32, Order::Between),
+    (32, Order::Behind),
+    (64, Order::Before),
+];
 
 pub fn all(size: Size) -> Vec<Session> {
     let sessions = |storm: Storm| {
@@ -37,17 +47,24 @@ fn at_a_queue(storm: Storm, queue: u8) -> [Session; 2] {
     [storm.stage().session(name("empty"), take(queue)), full.session(name("full"), frame)]
 }
 
-/// All timers are the caller's; and then all messages too, and nobody else has one.
+/// All timers are the caller's. Of the messages none is; or all are, and signal nobody; or some or all are, and free a task each.
 fn terminating(storm: Storm) -> Vec<Session> {
     let few = Storm { receivers: 0, sent: 0, ..storm };
-    let (mut many, mut own) = (storm.stage(), few.stage());
-    (1..=MESSAGES).for_each(|number| own.send(own.arranger, number));
-    start_all(&mut many);
-    start_all(&mut own);
-    vec![
-        many.session(format!("{}; 64 timers of the caller", storm.name()), service(TERMINATE, 0, 0)),
-        own.session(format!("{}; 64 timers and 64 messages of the caller", few.name()), service(TERMINATE, 0, 0)),
-    ]
+    let session = |storm: Storm, state: &str, own: u8| {
+        let mut stage = storm.stage();
+        (1..=own).for_each(|number| stage.send(stage.arranger, number));
+        start_all(&mut stage);
+        stage.session(format!("{}; 64 timers of the caller{state}", storm.name()), service(TERMINATE, 0, 0))
+    };
+    let freeing = |(waiters, order): (u8, Order)| {
+        let receivers = MESSAGES - waiters;
+        let storm = Storm { receivers, sent: receivers, waiters, order, ..storm };
+        let state = format!("; its messages, {waiters} {} the receivers', free a task each", order.name());
+        session(storm, &state, 0)
+    };
+    let mut sessions = vec![session(storm, "", 0), session(few, "; its 64 messages free none", MESSAGES)];
+    sessions.extend(DROPPED.map(freeing));
+    sessions
 }
 
 fn delaying(storm: Storm) -> Vec<Session> {

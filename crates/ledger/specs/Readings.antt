@@ -7,7 +7,7 @@ use mathlib.Core.List.{List, [], _∷_, _++_, map}
 use mathlib.Core.Option.{none as nothing, some}
 use lib.ListN.{replicate, take}
 use Rattle.ledger.specs.Config.{configIn, controller, brakeModule, longest, configRefusal, configRefusalBy}
-use Rattle.ledger.specs.Ledger.{PENDING, WAITING, begin, dequeue, Timer, Ledger, emptySlot, task, semaphoreOf, mailbox, queue, held, fresh}
+use Rattle.ledger.specs.Ledger.{PENDING, DONE, WAITING, begin, dequeue, Timer, Ledger, onlyIdle, emptySlot, task, semaphoreOf, mailbox, queue, held, fresh}
 use Rattle.ledger.specs.Session.{runFrom}
 use Rattle.ledger.specs.Lines.{longestFrame, number, result, frameOf, lineOf, readLine, writeLine, output}
 use Rattle.ledger.specs.Computing.Hex.{hex, letters, text}
@@ -128,6 +128,29 @@ pub record Table : Type 0 where
   -- 22 ($16)
   a-message-lies-in-one-mailbox-only : Talk room ("0402000001" ▸ "0001000503" ∷ "0403000001" ▸ "1601000503" ∷ [])
   all-16-bits-of-X-are-the-message : Talk room ("0402000101" ▸ "08010001" ∷ "0402000000" ▸ "08010001" ∷ "0402000004" ▸ "08010001" ∷ [])
+  -- ---- messages that are dropped
+
+  -- task 2 sends to task 3 and waits; task 1 terminates task 3, is told nothing, and waits: task 2 goes on
+  a-dropped-message-frees-its-sender : Talk room ("0100010000" ▸ "00020001" ∷ "0503000001" ▸ "00030001" ∷ "1100010000" ▸ "0001000501" ∷ "0B03000000" ▸ "00010000" ∷ "0100010000" ▸ "0002000504" ∷ [])
+  -- nobody waits on semaphore 1: it becomes DONE, so that the next wait on it goes on at once
+  a-PENDING-semaphore-becomes-DONE : Talk room ("0402010001" ▸ "0001000501" ∷ "0B02000000" ▸ "00010000" ∷ "0100010000" ▸ "0001000501" ∷ [])
+  and-a-DONE-one-stays-DONE : semaphoreOf (after room ("0200010000" ∷ "0402010001" ∷ "0B02000000" ∷ [])) 1 ≡ DONE
+  -- a message for task 2 has task 2's own semaphore, on which that waits: its wait is withdrawn first, and then the semaphore signalled
+  the-tasks-own-wait-is-withdrawn-first : let l = after room ("0402040001" ∷ "0100010000" ∷ "0100000000" ∷ "1100010000" ∷ "0B02000000" ∷ []) in
+      (semaphoreOf l 4 ≡ DONE) × (task l 2 .blocks ≡ onlyIdle) × (mailbox l 2 ≡ [])
+  -- tasks 1 and 2 send to task 3 and wait, and it terminates itself: both are freed, and the lower one runs
+  all-senders-are-freed-and-the-lowest-runs : Talk room ("0503000001" ▸ "00020001" ∷ "0503000002" ▸ "00030001" ∷ "0B00000000" ▸ "0001000503" ∷ "0100010000" ▸ "0002000504" ∷ [])
+  -- task 1 sends twice to task 3 with its own semaphore and waits: the first signal frees it, the second leaves DONE
+  one-semaphore-in-two-messages-is-signalled-twice : Talk room ("0403000001" ▸ "0001000503" ∷ "0503000002" ▸ "00020001" ∷ "0B03000000" ▸ "0001000503" ∷ [])
+      × (semaphoreOf (after room ("0403000001" ∷ "0503000002" ∷ "0B03000000" ∷ [])) 3 ≡ DONE)
+  -- task 1 has a message of its own in its mailbox, and terminates itself
+  so-it-is-where-a-task-terminates-itself : let l = after room ("0401010001" ∷ "0B00000000" ∷ []) in (semaphoreOf l 1 ≡ DONE) × (mailbox l 1 ≡ []) × (task l 1 .blocks ≡ onlyIdle)
+  -- task 2 was woken at the queue, and delayed before it ran. A message that task 1 sent to itself has task 2's semaphore; when task 1 ends, task 2 goes on with its dequeue
+  a-freed-task-may-settle : Talk room ("0100010000" ▸ "00020001" ∷ "0701000000" ▸ "00030001" ∷ "1100010000" ▸ "0001000501" ∷ "080100000041" ▸ "00010000"
+      ∷ "0D02000005" ▸ "00010000" ∷ "0401040001" ▸ "0001000504" ∷ "0B00000000" ▸ "0002010341" ∷ [])
+  -- task 1 sends to task 2 with semaphore 1, and terminates task 3; or executes task 2
+  messages-for-others-stay : let l = after room ("0402010001" ∷ "0B03000000" ∷ []) in (semaphoreOf l 1 ≡ PENDING) × (map number-of (mailbox l 2) ≡ 1 ∷ [])
+  and-execute-drops-nothing : let l = after room ("0402010001" ∷ "0C02000000" ∷ []) in (semaphoreOf l 1 ≡ PENDING) × (map number-of (mailbox l 2) ≡ 1 ∷ [])
   -- ---- queues
 
   a-queues-semaphore-is-not-DONE-after-an-enqueue : semaphoreOf (after room ("080100000041" ∷ [])) 6 ≡ PENDING
@@ -279,6 +302,16 @@ the-table = record {
   a-wrong-sender-wakes-the-receiver-which-waits-again = refl;
   a-message-lies-in-one-mailbox-only = refl;
   all-16-bits-of-X-are-the-message = refl;
+  a-dropped-message-frees-its-sender = refl;
+  a-PENDING-semaphore-becomes-DONE = refl;
+  and-a-DONE-one-stays-DONE = refl;
+  the-tasks-own-wait-is-withdrawn-first = (refl, refl, refl);
+  all-senders-are-freed-and-the-lowest-runs = refl;
+  one-semaphore-in-two-messages-is-signalled-twice = (refl, refl);
+  so-it-is-where-a-task-terminates-itself = (refl, refl, refl);
+  a-freed-task-may-settle = refl;
+  messages-for-others-stay = (refl, refl);
+  and-execute-drops-nothing = (refl, refl);
   a-queues-semaphore-is-not-DONE-after-an-enqueue = refl;
   nor-after-a-dequeue = refl;
   an-entry-lies-in-the-queue-until-the-woken-task-runs = refl;

@@ -7,8 +7,8 @@ use Rattle.ledger.specs.Lists.{find}
 use Rattle.ledger.specs.Config.{Config}
 use Rattle.ledger.specs.Time.{tockValue}
 use Rattle.ledger.specs.Ledger.{PENDING, woke, Request, none, receive, dequeue, enqueue, Ledger, mailbox, queue, held, setSemaphore, setOutcome, setSuspended}
-unfoldable pub use Rattle.ledger.specs.Services.Semaphores.{waitFor, signalled, signal, woken, wakeWaiter, waited, wait, notWaiting, withdrawWait}
-unfoldable pub use Rattle.ledger.specs.Services.Messages.{send, wanted, received}
+unfoldable pub use Rattle.ledger.specs.Services.Semaphores.{waitFor, signalled, signal, signalAll, woken, wakeWaiter, waited, wait, notWaiting, withdrawWait}
+unfoldable pub use Rattle.ledger.specs.Services.Messages.{send, wanted, received, dropMessages}
 unfoldable pub use Rattle.ledger.specs.Services.Queues.{notEmpty, notFull, shape, empty, full, copyInto, takeEntry, putEntry, dequeued, enqueued}
 unfoldable pub use Rattle.ledger.specs.Services.Tasks.{terminate, execute}
 unfoldable pub use Rattle.ledger.specs.Services.Timers.{insertTimer, startTimer, purge, insertAgain, expire, expireAll, due, tock, tick}

@@ -1,5 +1,5 @@
--- Sessions in which each sham that document 01 names, or that a request invites (a signal that tells, a start only after, the brake module), would answer
--- otherwise, with the ledger's answers computed.
+-- Sessions in which each sham that document 01 names, or that a request invites (a signal that tells, a start only after, the brake module, a dropped message),
+-- would answer otherwise, with the ledger's answers computed.
 use Prim.Native.Nat.{ℕ}
 use mathlib.Core.Path.{_≡_, refl}
 use mathlib.Core.List.{List, [], _∷_, _++_}
@@ -74,6 +74,23 @@ seventeen = (17 ∷ 0 ∷ 0 ∷ 0 ∷ 0 ∷ 1 ∷ 0 ∷ 125 ∷ []) ++ replicate
 abbrev pub seventeenAndMore : List ℕ
 seventeenAndMore = seventeen ++ (0 ∷ [])
 
+-- two tasks, a named semaphore, two messages. Semaphore 2 is task 1's, 3 is task 2's
+abbrev pub twoMessages : List ℕ
+twoMessages = 2 ∷ 1 ∷ 0 ∷ 0 ∷ 2 ∷ 1 ∷ 0 ∷ 125 ∷ 0 ∷ 0 ∷ []
+
+-- sends message x to task 2 with semaphore b; sends it with its own and waits; waits on semaphore b; ends itself
+abbrev pub sends : (x b : ℕ) → List ℕ
+sends x b = 4 ∷ 2 ∷ b ∷ 0 ∷ x ∷ []
+
+abbrev pub sendsAndWaits : ℕ → List ℕ
+sendsAndWaits x = 5 ∷ 2 ∷ 0 ∷ 0 ∷ x ∷ []
+
+abbrev pub waitsOn : ℕ → List ℕ
+waitsOn b = 1 ∷ 0 ∷ b ∷ 0 ∷ 0 ∷ []
+
+abbrev pub ends : List ℕ
+ends = terminates 0
+
 pub record ShamAnswers : Type 0 where
   -- both executives accept what the sessions begin with
   pub accepted : (configRefusalBy controller twoTasks ≡ 0) × (configRefusalBy brakeModule twoTasks ≡ 0)
@@ -106,9 +123,21 @@ pub record ShamAnswers : Type 0 where
   pub many : configRefusal tooMany ≡ 2
   pub seventeenTasks : configRefusalBy brakeModule seventeen ≡ 27
   pub seventeenLong : configRefusalBy brakeModule seventeenAndMore ≡ 2
+  pub acceptedMessages : (configRefusalBy controller twoMessages ≡ 0) × (configRefusalBy brakeModule twoMessages ≡ 0)
+  -- task 1 sends and waits; task 2 ends with the message lying, and task 1 goes on
+  pub freed : session twoMessages (sendsAndWaits 1 ∷ ends ∷ []) ≡ (0 ∷ 1 ∷ 0 ∷ 1 ∷ []) ∷ (0 ∷ 2 ∷ 0 ∷ 1 ∷ []) ∷ (0 ∷ 1 ∷ 0 ∷ 5 ∷ 2 ∷ []) ∷ []
+  -- task 1 waits for the second of its messages
+  pub freedSecond : session twoMessages (sends 1 1 ∷ sendsAndWaits 2 ∷ ends ∷ [])
+      ≡ (0 ∷ 1 ∷ 0 ∷ 1 ∷ []) ∷ (0 ∷ 1 ∷ 0 ∷ 5 ∷ 1 ∷ []) ∷ (0 ∷ 2 ∷ 0 ∷ 1 ∷ []) ∷ (0 ∷ 1 ∷ 0 ∷ 5 ∷ 2 ∷ []) ∷ []
+  -- both messages have task 1's semaphore: it is DONE then, and the next wait goes on at once
+  pub freedTwice : session twoMessages (sends 1 0 ∷ sendsAndWaits 2 ∷ ends ∷ waitsOwn ∷ [])
+      ≡ (0 ∷ 1 ∷ 0 ∷ 1 ∷ []) ∷ (0 ∷ 1 ∷ 0 ∷ 5 ∷ 2 ∷ []) ∷ (0 ∷ 2 ∷ 0 ∷ 1 ∷ []) ∷ (0 ∷ 1 ∷ 0 ∷ 5 ∷ 2 ∷ []) ∷ (0 ∷ 1 ∷ 0 ∷ 5 ∷ 2 ∷ []) ∷ []
+  -- the message has task 2's own semaphore, on which task 2 waits: it is DONE then, and task 1's wait on it goes on at once
+  pub withdrawn : session twoMessages (sends 1 3 ∷ waits ∷ waitsOwn ∷ exits ∷ terminates 2 ∷ waitsOn 3 ∷ [])
+      ≡ (0 ∷ 1 ∷ 0 ∷ 1 ∷ []) ∷ (0 ∷ 1 ∷ 0 ∷ 5 ∷ 3 ∷ []) ∷ (0 ∷ 2 ∷ 0 ∷ 1 ∷ []) ∷ (0 ∷ 0 ∷ 0 ∷ 0 ∷ []) ∷ (0 ∷ 1 ∷ 0 ∷ 5 ∷ 1 ∷ []) ∷ (0 ∷ 1 ∷ 0 ∷ 0 ∷ []) ∷ (0 ∷ 1 ∷ 0 ∷ 5 ∷ 3 ∷ []) ∷ []
   -- nobody waits on semaphore 1
   pub done : getD (run (configIn twoTasks) (signals ∷ []) .0 .semaphores) 0 PENDING ≡ DONE
 
 pub the-answers : ShamAnswers
 unfolding everything pairTimes
-the-answers = record { accepted = (refl, refl); settled = refl; filled = refl; started = refl; ticked = refl; told = refl; wakingTick = refl; wakingPut = refl; acceptedThree = (refl, refl); early = refl; suspended = refl; ownNumber = refl; nobody = refl; equal = refl; many = refl; seventeenTasks = refl; seventeenLong = refl; done = refl }
+the-answers = record { accepted = (refl, refl); settled = refl; filled = refl; started = refl; ticked = refl; told = refl; wakingTick = refl; wakingPut = refl; acceptedThree = (refl, refl); early = refl; suspended = refl; ownNumber = refl; nobody = refl; equal = refl; many = refl; seventeenTasks = refl; seventeenLong = refl; acceptedMessages = (refl, refl); freed = refl; freedSecond = refl; freedTwice = refl; withdrawn = refl; done = refl }

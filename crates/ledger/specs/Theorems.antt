@@ -1,12 +1,14 @@
 -- What is proved of the definitions alone.
 -- The sheet's theorems:
---   Settling: settles, one-end, at-most-2T, loop-at-most-2T. Lowest: lowest-runs. Shown: lowest-shown, reissues-shown. Refused: refused-changes-nothing. HandedOut: handed-out. HandedOver: handed-over. Sound: sound.
+--   Settling: settles, one-end, at-most-2T, loop-at-most-2T. Lowest: lowest-runs. Shown: lowest-shown, reissues-shown. Refused: refused-changes-nothing. HandedOut: handed-out. HandedOver: handed-over. Sound: sound. ToldAfter: signal-tells. Callers: told-by-own-signal.
+--   Starts: executes-after, started-after, begins-after. Freed: dropped-frees.
 
--- laws of lists and of checks
+-- laws of lists, of checks and of signals
 pub mod Items
 pub mod Parts
 pub mod Checks
 pub mod Twos
+pub mod Signals
 pub mod Fresh
 -- the running task, settling and the sizes, for every ledger
 pub mod Lowest
@@ -20,8 +22,10 @@ pub mod Accepted
 pub mod Shown
 -- each step as a chain of changes, and what every change keeps
 pub mod Tocks
+pub mod Dropped
 pub mod Changes
 pub mod Named
+pub mod Terminated
 pub mod Steps
 pub mod Kept
 pub mod HandedOut
@@ -37,6 +41,8 @@ pub mod Walk
 pub mod Told
 pub mod ToldAfter
 pub mod Callers
+-- a dropped message frees its sender (dropped-frees)
+pub mod Freed
 -- a task is started only after its firsts (executes-after, started-after, begins-after)
 pub mod Starts
 -- messages 1 to G, none twice: every step of every ledger keeps it (once-step)

@@ -12,9 +12,12 @@ use Rattle.rows.specs.Splice.{cut, splice}
 use Rattle.rows.specs.Laws.{length-cut, length-splice, lent-back, splice-whole}
 use Rattle.messages.specs.Pending.{Pending, addressed, pendingIn, mailboxOf}
 use Rattle.messages.specs.Searches.{recordRoom, Bounded}
+use Rattle.messages.specs.Records.{pending-length}
+use Rattle.messages.specs.Mailboxes.{mailbox-few}
 use Rattle.tables.specs.declared.shape.Shape.{Shape}
 use Rattle.tables.specs.Layout.{OneOf, countAt, Laid, Fits, fitting, bound, region, Regions, named, regions, but, written, byte-written, region-at, region-length}
 use Rattle.tables.specs.Decode.{countOf}
+use Rattle.tables.specs.Encoded.{count-in}
 use Rattle.tables.specs.Shows.{ShowsAs, pendingOf}
 use Rattle.tables.specs.Items.{withMessages, mailbox-is, mailbox-shown}
 use Rattle.tables.specs.Stored.{shows-as}
@@ -110,6 +113,11 @@ module _ (s : Shape) (l : Laid s) (d : List ℕ) (space : s .end ≤ length d) (
 module _ {tidy : Bool} (c : Config) (s : Shape) (L : Ledger) (d z w : List ℕ) (h : ShowsAs tidy c s L d z w) (t : ℕ) (to : OneOf (s .tasks) t) where
   pub mailbox-in : mailbox L t ≡ mailboxOf t (mail s d)
   mailbox-in = mailbox-is c L (regions s d) z w (h .shown) t (to .0, omega (arith, h .of .tasks)) ∙ ap (mailboxOf t) (sym (mail-is c s L d z w h))
+
+  -- it holds no more messages than there are
+  pub mailbox-most : length (mailbox L t) ≤ s .messages
+  mailbox-most =
+      omega (arith, ap length mailbox-in, mailbox-few t (mail s d), pending-length (s .tasks) (countOf (s .messages) (getD d countAt 0)) (bytes s d), count-in (s .messages) (getD d countAt 0))
 
   module _ (ys : List ℕ) (n : length ys ≡ length (bytes s d)) (v : ℕ) (few : v ≤ s .messages) where
     abbrev clock : List ℕ

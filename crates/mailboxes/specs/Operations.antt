@@ -1,13 +1,13 @@
 -- Each operation, from what its call of the records promises: the ledger's own change, for a ledger that the memory shows.
 use mathlib.Core.Path.{_≡_, sym, ap, ap₂, _∙_}
 use mathlib.Core.Bool.{Bool}
-use mathlib.Core.List.{List, []}
+use mathlib.Core.List.{List}
 use mathlib.Core.Option.{none, some}
 use Prim.Native.Nat.{ℕ, _+_, _-_, _<_, _≤_}
 use native.Mathlib.Omega.{arith}
 use lib.ListN.{length, getD}
 use Rattle.messages.specs.Pending.{Pending, letter, pending, pendingIn, letterAt, numbersIn, numbered, mailboxOf, mailboxesOf, occurs}
-use Rattle.messages.specs.Changes.{Inserted, Found, Removed, Taken, Emptied}
+use Rattle.messages.specs.Changes.{Inserted, Found, Removed, Taken}
 use Rattle.messages.specs.Records.{held-is, found-some, found-none, taken}
 use Rattle.tables.specs.declared.shape.Shape.{Shape}
 use Rattle.tables.specs.Layout.{OneOf, countAt}
@@ -66,10 +66,3 @@ module _ {tidy : Bool} (c : Config) (s : Shape) (L : Ledger) (d z w : List ℕ) 
             (i .own ∙ ap (without (wanted a)) own-mail)
             (λ u ne. i .others u ne ∙ ap (mailboxOf u) mail-now)
             (λ p. q (s .tasks) .1 (mail-tidy c s L d z w h p n e))
-
-      pub clear-done : (ys : List ℕ) (r : ℕ) → n ≤ s .messages → length ys ≡ length (bytes s d) → Emptied (s .tasks) n t (bytes s d) ys r
-          → ShowsAs tidy c s (setMailbox t [] L) (renewed s d ys r) z w
-      clear-done ys r few l i =
-          mail-renewed c s L d z w h t to ys l r (omega (arith, i .left)) [] (i .own)
-          (λ u ne. i .others u ne ∙ ap (mailboxOf u) mail-now)
-          (λ q. i .addressed (mail-tidy c s L d z w h q n e))

@@ -4,14 +4,13 @@
 use tables::shape::COUNT_AT;
 use tables::shape::Shape;
 ghost use mathlib.Core.Path.{_≡_};
-ghost use mathlib.Core.List.{[]};
 ghost use Prim.Native.Nat.{_≤_};
 ghost use lib.ListN.{length};
 ghost use Rattle.tables.specs.Decode.{countOf};
 ghost use Rattle.tables.specs.Layout.{OneOf, Fits};
 ghost use Rattle.tables.specs.Shows.{Does, Tells};
 ghost use Rattle.ledger.specs.Lists.{find};
-ghost use Rattle.ledger.specs.Ledger.{mailbox, setMailbox};
+ghost use Rattle.ledger.specs.Ledger.{mailbox};
 ghost use Rattle.ledger.specs.Services.{wanted};
 ghost use Rattle.ledger.specs.Refusals.{inAMailbox};
 ghost use Rattle.mailboxes.specs.Room.{Roomy, soundIn};
@@ -82,18 +81,6 @@ pub fn take(tables: &mut [u8], shape: Shape, t: u8, from: u8) -> Received
     messages::remove(&mut tables[at..end], n, k);
     tables[COUNT_AT] = (n - 1) as u8;
     Received::Message(p.number, p.sender, p.semaphore)
-}
-
-// Empties the mailbox of task t.
-pub fn clear(tables: &mut [u8], shape: Shape, t: u8)
-    requires { ⌜ Fits shape (length (now tables)) × OneOf (shape .tasks) t ⌝ }
-    ensures { λ _. ⌜ Does shape (now (tables .entry)) (now (tables .exit)) (λ c L. setMailbox t [] L) ⌝ }
-{
-    let n = count(tables[COUNT_AT], shape.messages);
-    let at = shape.messageat;
-    let end = shape.bodyat;
-    let m = messages::remove_all(&mut tables[at..end], n, shape.tasks, t);
-    tables[COUNT_AT] = m as u8;
 }
 
 // Whether there is room for one more message, or else each that lies in the memory is one of those that there are, and lies there once.

@@ -2,7 +2,7 @@
 use mathlib.Core.Path.{_≡_}
 use mathlib.Core.Bool.{true}
 use Prim.Native.Nat.{ℕ, _+_, _-_, _≤_}
-use mathlib.Core.List.{List, []}
+use mathlib.Core.List.{List}
 use Rattle.ledger.specs.Lists.{without, insertBy}
 use Rattle.ledger.specs.Services.{wanted}
 use Rattle.rows.specs.Rows.{removeAt}
@@ -27,10 +27,3 @@ Removed n k d d' = (T : ℕ) → (pendingIn T (n - 1) d' ≡ removeAt k (pending
 pub record Taken (T n t a : ℕ) (d d' : List ℕ) : Type 0 where
   pub own : mailboxOf t (pendingIn T (n - 1) d') ≡ without (wanted a) (mailboxOf t (pendingIn T n d))
   pub others : (u : ℕ) → (t ≡ u → ⊥) → mailboxOf u (pendingIn T (n - 1) d') ≡ mailboxOf u (pendingIn T n d)
-
--- the mailbox of task t is emptied: n records before, r after
-pub record Emptied (T n t : ℕ) (d d' : List ℕ) (r : ℕ) : Type 0 where
-  pub left : r ≤ n
-  pub own : mailboxOf t (pendingIn T r d') ≡ []
-  pub others : (u : ℕ) → (t ≡ u → ⊥) → mailboxOf u (pendingIn T r d') ≡ mailboxOf u (pendingIn T n d)
-  pub addressed : addressed T n d ≡ true → addressed T r d' ≡ true

@@ -1,5 +1,5 @@
 -- Tests on the elements of lists and on the places of a table, beside the laws of rows.
-use mathlib.Core.Path.{_≡_, refl, sym, ap, ap₂, _∙_}
+use mathlib.Core.Path.{_≡_, refl, ap, ap₂, _∙_}
 use mathlib.Core.Bool.{Bool, true, false, cond, _&&_, _||_, and-false, or-true}
 use mathlib.Core.List.{List, [], _∷_, map}
 use Prim.Native.Nat.{ℕ, zero, suc, _+_, _-_, _<_}
@@ -66,18 +66,6 @@ module _ {A : Type 0} (p r : A → Bool) where
       go : (b : Bool) → p u ≡ b → any r (keep p us) ≡ any (λ u. p u && r u) us → any r (keep p (u ∷ us)) ≡ any (λ u. p u && r u) (u ∷ us)
       go true e ih = rw (e, ih)
       go false e ih = rw (e, ih)
-
--- what p keeps is not lost to a test that passes it
-pub keep-keep : {A : Type 0} (p r : A → Bool) → ((u : A) → p u ≡ true → r u ≡ true) → (l : List A) → keep p (keep r l) ≡ keep p l
-unfolding keep
-keep-keep p r h [] = refl
-keep-keep {A} p r h (u ∷ us) = go (p u) (r u) refl refl (keep-keep p r h us)
-  where
-    go : (b c : Bool) → p u ≡ b → r u ≡ c → keep p (keep r us) ≡ keep p us → keep p (keep r (u ∷ us)) ≡ keep p (u ∷ us)
-    go true true x y ih = rw (y, x) (ap (λ (z : List A). u ∷ z) ih)
-    go true false x y ih = let z : _≡_ {A = Bool} true false = sym (h u x) ∙ y in cc
-    go false true x y ih = rw (y, x) ih
-    go false false x y ih = rw (y, x) ih
 
 -- what stands at the first place that passes does pass
 pub first-passes : {A : Type 0} (p : A → Bool) (l : List A) (z : A) → firstOf p l < length l → p (getD l (firstOf p l) z) ≡ true

@@ -1,19 +1,21 @@
 -- Mailboxes after each change of what is pending, by the ledger's own functions.
 use mathlib.Core.Path.{_≡_, refl, sym, ap, _∙_}
-use mathlib.Core.Bool.{Bool, true, false, not, _&&_}
+use mathlib.Core.Bool.{Bool, true, false, _&&_}
 use mathlib.Core.List.{List, [], _∷_, map}
 use mathlib.Core.Option.{none, some}
 use Prim.Native.Nat.{ℕ, zero, suc, _-_, _<_, _≤_}
+use native.Mathlib.Omega.{arith}
 use lib.Dec.{ltb}
-use lib.ListN.{length, getD, replicate, List·getD-map}
+use lib.ListN.{length, getD, replicate, length-map, List·getD-map}
 use borrow.Author.Tests.{eq-eqb, ne-eqb, eqb-true, lt-ltb, le-ltb, ltb-true, ltb-false}
 use Rattle.ledger.specs.Lists.{within, any, keep, find, without, insertBy}
 use Rattle.ledger.specs.Ledger.{Message}
 use Rattle.ledger.specs.Services.{wanted}
+use Rattle.ledger.specs.Theorems.Parts.{part-keep, part-length}
 use Rattle.rows.specs.Rows.{insertAt, removeAt, map-insertAt}
 use Rattle.rows.specs.First.{firstOf, keep-insert, keep-insert-other, keep-remove, keep-remove-other, keep-at, map-removeAt, without-is, find-some, find-none, any-is, insertBy-is}
 use Rattle.rows.specs.Tab.{tab}
-use Rattle.messages.specs.Lists.{and-left, first-map, first-passes, any-map, any-keep, any-ext, keep-keep, below-any, below-tab, below-eqb}
+use Rattle.messages.specs.Lists.{and-left, first-map, first-passes, any-map, any-keep, any-ext, below-any, below-tab, below-eqb}
 use Rattle.messages.specs.Pending.{Pending, pending, for, mailboxOf, mailboxesOf, placeFor, wantedBy, placeOf}
 
 -- ---- a message is sent
@@ -81,26 +83,12 @@ module _ (t a : ℕ) (l : List Pending) where
   pub mailbox-find-none : length l ≤ placeOf t a l → find (wanted a) (mailboxOf t l) ≡ none
   mailbox-find-none h = find-none (wanted a) (mailboxOf t l) (ltb-false _ _ (reaches ∙ le-ltb _ _ h))
 
--- ---- a mailbox is emptied
-
-module _ (t : ℕ) where
-  abbrev notFor : Pending → Bool
-  notFor p = not (for t p)
-
-  pub mailbox-empty : (l : List Pending) → mailboxOf t (keep notFor l) ≡ []
-  unfolding mailboxOf keep
-  mailbox-empty [] = refl
-  mailbox-empty (p ∷ ps) = go (for t p) refl (mailbox-empty ps)
-    where
-      go : (b : Bool) → for t p ≡ b → mailboxOf t (keep notFor ps) ≡ [] → mailboxOf t (keep notFor (p ∷ ps)) ≡ []
-      go true e ih = rw e ih
-      go false e ih = rw (e, e) ih
-
-  pub mailbox-empty-other : (u : ℕ) → (t ≡ u → ⊥) → (l : List Pending) → mailboxOf u (keep notFor l) ≡ mailboxOf u l
-  unfolding mailboxOf
-  mailbox-empty-other u ne l = ap (map contents) (keep-keep (for u) notFor (λ p e. ap not (ne-eqb (p .to) t (λ q. ne (sym q ∙ eqb-true (p .to) u e)))) l)
-
 -- ---- all mailboxes
+
+-- none holds more than there are
+pub mailbox-few : (t : ℕ) (l : List Pending) → length (mailboxOf t l) ≤ length l
+unfolding mailboxOf
+mailbox-few t l = omega (arith, length-map (keep (for t) l) contents, part-length (part-keep (for t) l))
 
 -- nothing is pending
 pub mailboxes-none : (n : ℕ) → mailboxesOf n [] ≡ replicate n []

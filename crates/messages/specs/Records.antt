@@ -9,14 +9,14 @@ use native.Mathlib.Omega.{arith}
 use lib.Dec.{ltb, eqb}
 use borrow.Author.Tests.{eq-eqb, ne-eqb, le-leb}
 use lib.ListN.{length, getD, length-map, List·getD-map}
-use Rattle.ledger.specs.Lists.{within, any, all, keep, find}
+use Rattle.ledger.specs.Lists.{within, any, all, find}
 use Rattle.ledger.specs.Services.{wanted}
 use Rattle.rows.specs.Rows.{rowsOf, insertAt, removeAt, getD-row, getD-rows, length-rows, map-insertAt}
-use Rattle.rows.specs.First.{firstOf, keepFrom, keep-on, keep-out, keep-end, map-removeAt, any-is}
+use Rattle.rows.specs.First.{firstOf, map-removeAt, any-is}
 use Rattle.messages.specs.Lists.{all-insert, all-remove, any-map, any-ext}
 use Rattle.messages.specs.Pending.{Pending, toTask, addressed, letter, pending, receiver, pendingOf, pendingAt, pendingIn, letterAt, numbersIn, for, mailboxOf, mailboxesOf, numbered, behind, placeFor, wantedBy, placeOf, occurs}
-use Rattle.messages.specs.Changes.{Inserted, Found, Removed, Taken, Emptied}
-use Rattle.messages.specs.Mailboxes.{mailbox-insert, mailbox-insert-other, mailbox-remove, mailbox-remove-other, mailbox-find, mailbox-find-none, mailbox-empty, mailbox-empty-other, mailboxes-any}
+use Rattle.messages.specs.Changes.{Inserted, Found, Removed, Taken}
+use Rattle.messages.specs.Mailboxes.{mailbox-insert, mailbox-insert-other, mailbox-remove, mailbox-remove-other, mailbox-find, mailbox-find-none, mailboxes-any}
 
 -- ---- the task that a receiver's byte means
 
@@ -173,44 +173,4 @@ taken T n t a k d d' f h e =
     record {
       own = ap (mailboxOf t) q ∙ mailbox-remove t a l;
       others = λ u ne. ap (mailboxOf u) q ∙ mailbox-remove-other t a l u ne i;
-    }
-
--- ---- emptying a mailbox: the first k of m records are for others, l are all that will be left
-
-abbrev notFor : ℕ → Pending → Bool
-notFor t p = not (for t p)
-
-pub record Emptying (T t m k : ℕ) (d : List ℕ) (l : List Pending) : Type 0 where
-  pub inside : k ≤ m
-  pub so-far : keepFrom (notFor t) k (pendingIn T m d) ≡ l
-
-module _ (T t m k : ℕ) (d : List ℕ) (l : List Pending) (s : Emptying T t m k d l) where
-  module _ (h : k < m) {b : Bool} (r : b ≡ for t (pendingAt T k d)) where
-    tested-for : notFor t (getD (pendingIn T m d) k (pendingOf T [])) ≡ not b
-    tested-for = ap (notFor t) (pending-at T m k d h) ∙ ap not (sym r)
-
-    pub empty-out : (d' : List ℕ) → b ≡ true → pendingIn T (m - 1) d' ≡ removeAt k (pendingIn T m d) → Emptying T t (m - 1) k d' l
-    empty-out d' y q =
-        record {
-          inside = omega arith;
-          so-far = ap (keepFrom (notFor t) k) q ∙ keep-out (notFor t) (pendingIn T m d) k (pendingOf T []) (rw pending-length h) (tested-for ∙ ap not y) ∙ s .so-far;
-        }
-
-    pub empty-on : b ≡ false → Emptying T t m (k + 1) d l
-    empty-on y =
-        record {
-          inside = omega arith;
-          so-far = keep-on (notFor t) (pendingIn T m d) k (pendingOf T []) (rw pending-length h) (tested-for ∙ ap not y) ∙ s .so-far;
-        }
-
-  pub empty-end : m ≤ k → pendingIn T m d ≡ l
-  empty-end h = sym (keep-end (notFor t) (pendingIn T m d) k (rw pending-length h)) ∙ s .so-far
-
-pub emptied : (T n t r : ℕ) (d d' : List ℕ) → r ≤ n → pendingIn T r d' ≡ keep (notFor t) (pendingIn T n d) → (addressed T n d ≡ true → addressed T r d' ≡ true) → Emptied T n t d d' r
-emptied T n t r d d' h q a =
-    record {
-      left = h;
-      own = ap (mailboxOf t) q ∙ mailbox-empty t (pendingIn T n d);
-      others = λ u ne. ap (mailboxOf u) q ∙ mailbox-empty-other t u ne (pendingIn T n d);
-      addressed = a;
     }

@@ -12,7 +12,7 @@ ghost use lib.Bits.{bitOr};
 ghost use lib.ListN.{length};
 ghost use Rattle.ledger.specs.Lists.{within};
 ghost use Rattle.messages.specs.Pending.{letter, letterAt, pending, pendingAt, for, numbersIn, occurs, completeIn};
-ghost use Rattle.messages.specs.Changes.{Inserted, Found, Removed, Emptied};
+ghost use Rattle.messages.specs.Changes.{Inserted, Found, Removed};
 ghost use Rattle.messages.specs.Searches.{Bounded};
 
 // A message, without its receiver.
@@ -89,24 +89,6 @@ pub fn remove(b: &mut [u8], n: usize, k: usize)
     ensures { λ _. ⌜ Removed n k (now (b .entry)) (now (b .exit)) ⌝ }
 {
     rows::remove_at(b, n, 4, k);
-}
-
-// Takes every message for task `to` out. Gives the number of records that are left.
-pub fn remove_all(b: &mut [u8], n: usize, tasks: usize, to: u8) -> usize
-    requires { ⌜ (n * 4 ≤ length (now b)) × (1 ≤ to) × (to ≤ tasks) ⌝ }
-    ensures { λ r. ⌜ Emptied tasks n to (now (b .entry)) (now (b .exit)) r ⌝ }
-{
-    let mut m = n;
-    let mut k = 0;
-    while k < m {
-        if is_for(b, k, tasks, to) {
-            remove(b, m, k);
-            m -= 1;
-        } else {
-            k += 1;
-        }
-    }
-    m
 }
 
 // Whether some record has a number.

@@ -1,7 +1,7 @@
 -- A task whose blocks, outcome and request are set one after the other.
 use mathlib.Core.Path.{_≡_, sym, ap, _∙_}
 use mathlib.Core.Bool.{Bool, true}
-use mathlib.Core.List.{List, []}
+use mathlib.Core.List.{List}
 use Prim.Native.Nat.{ℕ}
 use lib.ListN.{length}
 use Rattle.tables.specs.declared.shape.Shape.{Shape}
@@ -10,8 +10,10 @@ use Rattle.tables.specs.Shows.{ShowsAs, moved}
 use Rattle.tables.specs.Stored.{task-in}
 use Rattle.tables.specs.SetTwice.{task-task, task-set}
 use Rattle.ledger.specs.Config.{Config}
-use Rattle.ledger.specs.Ledger.{Ledger, Task, Blocks, Outcome, plain, none, onlyIdle, task, setTask, setSemaphores, setMailbox, setTimers, setBlocks, setOutcome, setRequest}
-use Rattle.ledger.specs.Services.{withdrawWait, terminate}
+use Rattle.ledger.specs.Ledger.{Ledger, Task, Blocks, Outcome, plain, none, onlyIdle, task, setTask, setSemaphores, setTimers, setBlocks, setOutcome, setRequest}
+use Rattle.ledger.specs.Services.{withdrawWait, dropMessages, terminate}
+use Rattle.ledger.specs.Theorems.Untaken.{View, view, of-drop}
+use Rattle.ledger.specs.Theorems.Terminated.{ended}
 use Rattle.clock.specs.Does.{purged, removed-is}
 
 -- a task's record with no open request
@@ -37,11 +39,18 @@ pub record-set : {tidy : Bool} (c : Config) (s : Shape) (L : Ledger) (d z w : Li
     → ShowsAs tidy c s (setTask t (record { blocks = b; outcome = o (task L t .slot); slot = task L t .slot; request = none }) L) d' z w
 record-set c s L d z w h t i b o d' g = moved (merged t b o L (task-in c s L d z w h t i)) g
 
--- an idle task's record, over the wait withdrawn, the timers taken out and the mailbox emptied
+-- the slot stays
+kept-slot : (a : ℕ) (L : Ledger) → task (dropMessages a (purged a true 0 (withdrawWait a L))) a .slot ≡ task L a .slot
+unfolding view purged withdrawWait setSemaphores setTimers task
+kept-slot a L = ap (λ (v : View). v .tasks a .slot) (of-drop a (purged a true 0 (withdrawWait a L)))
+
+-- an ended task's record, over the wait withdrawn, the timers taken out and the messages dropped
 pub terminated : {tidy : Bool} (c : Config) (s : Shape) (L : Ledger) (d z w : List ℕ) (a : ℕ)
-    → (let M : Ledger = setMailbox a [] (purged a true 0 (withdrawWait a L)) in
-    ShowsAs tidy c s (setTask a (record { blocks = onlyIdle; outcome = plain; slot = task M a .slot; request = none }) M) d z w)
+    → (let M : Ledger = dropMessages a (purged a true 0 (withdrawWait a L)) in ShowsAs tidy c s (setTask a (ended (task M a)) M) d z w)
     → ShowsAs tidy c s (terminate a L) d z w
-unfolding terminate purged withdrawWait setSemaphores setMailbox setTimers task
+unfolding terminate withdrawWait setSemaphores
 terminated c s L d z w a h =
-    moved (ap (λ (M : Ledger). setTask a (record { blocks = onlyIdle; outcome = plain; slot = task L a .slot; request = none }) (setMailbox a [] M)) (sym (removed-is a 0 (withdrawWait a L)))) h
+    moved
+    (ap (λ (x : List ℕ). setTask a (anew onlyIdle plain x) (dropMessages a (purged a true 0 (withdrawWait a L)))) (kept-slot a L)
+    ∙ ap (λ (N : Ledger). setTask a (ended (task L a)) (dropMessages a N)) (sym (removed-is a 0 (withdrawWait a L))))
+    h

@@ -46,14 +46,14 @@ pub fn execute(tables: &mut [u8], shape: Shape, a: u8)
     set_record(tables, shape, a, free, Outcome::Begin);
 }
 
-// The wait is withdrawn, then the timers go, then the messages.
+// The wait is withdrawn and the timers go; then the messages are dropped, which may free their senders; last, the record of an idle task.
 pub fn terminate(tables: &mut [u8], timers: &mut [u8], shape: Shape, a: u8)
     requires { ⌜ Fits shape (length (now tables)) × Holds shape (length (now timers)) × OneOf (shape .tasks) a ⌝ }
     ensures { λ _. ⌜ DoesWithTimers shape (now (tables .entry)) (now (timers .entry)) (now (tables .exit)) (now (timers .exit)) (λ c L. ledger.terminate a L) ⌝ }
 {
     tables::semaphores::withdraw(tables, shape, a);
     clock::purge(timers, shape, a, true, 0);
-    mailboxes::clear(tables, shape, a);
+    crate::message::drop_messages(tables, shape, a);
     let idle = Blocks {
         idle: true,
         suspended: false,

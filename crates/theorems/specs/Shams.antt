@@ -1,4 +1,4 @@
--- The shams that document 01 names, those of a signal that tells whom it woke, of a start only after and of the brake module, and one in the memory, refuted: no executive that meets the contracts behaves so, whatever memory it is lent.
+-- The shams that document 01 names, those of a signal that tells whom it woke, of a start only after, of a dropped message and of the brake module, and one in the memory, refuted: no executive that meets the contracts behaves so, whatever memory it is lent.
 use Prim.Native.Nat.{ℕ}
 use mathlib.Core.Path.{_≡_, sym, ap, _∙_}
 use mathlib.Core.Bool.{true}
@@ -9,7 +9,7 @@ use lib.ListN.{getD}
 use Rattle.ledger.specs.Lists.{byte}
 use Rattle.ledger.specs.Config.{Config, Limits, brakeModule, configIn, configRefusal, isWithin, configRefusalBy}
 use Rattle.ledger.specs.Session.{run, session}
-use Rattle.ledger.specs.Shams.{twoTasks, takes, puts, delays, starts, ticks, waits, waitsOwn, signals, exits, startsOther, threeTasks, executes, suspends, terminates, itself, tooMany, seventeen, seventeenAndMore, the-answers}
+use Rattle.ledger.specs.Shams.{twoTasks, takes, puts, delays, starts, ticks, waits, waitsOwn, signals, exits, startsOther, threeTasks, executes, suspends, terminates, itself, tooMany, seventeen, seventeenAndMore, twoMessages, sends, sendsAndWaits, waitsOn, ends, the-answers}
 use Rattle.tables.specs.Layout.{regions}
 use Rattle.tables.specs.Decode.{stateAs}
 use Rattle.tables.specs.Shows.{semaphoreCount}
@@ -50,7 +50,7 @@ module _ (a : List (List ℕ)) where
   abbrev shows : (k i : ℕ) → ℕ
   shows k i = byte i (getD a k [])
 
-  of-session : {fs : List (List ℕ)} → Played twoTasks fs a → {l : List (List ℕ)} → session twoTasks fs ≡ l → (k i : ℕ) → shows k i ≡ byte i (getD l k [])
+  of-session : {g : List ℕ} {fs : List (List ℕ)} → Played g fs a → {l : List (List ℕ)} → session g fs ≡ l → (k i : ℕ) → shows k i ≡ byte i (getD l k [])
   of-session x e k i = ap (λ (l : List (List ℕ)). byte i (getD l k [])) (ledgers x ∙ e)
 
   -- it settles after the first frame, and later reports the old task
@@ -118,31 +118,56 @@ module _ (a : List (List ℕ)) where
 
   -- ---- start only after
 
-  of-three : {fs : List (List ℕ)} → Played threeTasks fs a → {l : List (List ℕ)} → session threeTasks fs ≡ l → (k i : ℕ) → shows k i ≡ byte i (getD l k [])
-  of-three x e k i = ap (λ (l : List (List ℕ)). byte i (getD l k [])) (ledgers x ∙ e)
-
   -- it starts a task while a first is idle; one that looks at the last pair alone does
   pub no-start-before-a-first : Played threeTasks (executes 3 ∷ []) a → shows 1 0 ≡ 0 → ⊥
   no-start-before-a-first x h =
-      let is : shows 1 0 ≡ 26 = of-three x (the-answers .early) 1 0 in
+      let is : shows 1 0 ≡ 26 = of-session x (the-answers .early) 1 0 in
       omega (arith, h, is)
 
   -- a first that is suspended counts as idle
   pub no-suspended-first-as-idle : Played threeTasks (executes 2 ∷ suspends 2 ∷ executes 3 ∷ []) a → shows 3 0 ≡ 26 → ⊥
   no-suspended-first-as-idle x h =
-      let is : shows 3 0 ≡ 0 = of-three x (the-answers .suspended) 3 0 in
+      let is : shows 3 0 ≡ 0 = of-session x (the-answers .suspended) 3 0 in
       omega (arith, h, is)
 
   -- it tests 26 before 5, or before 20
   pub no-26-before-5 : Played threeTasks (executes 2 ∷ executes 3 ∷ terminates 2 ∷ waits ∷ executes 3 ∷ []) a → shows 5 0 ≡ 26 → ⊥
   no-26-before-5 x h =
-      let is : shows 5 0 ≡ 5 = of-three x (the-answers .ownNumber) 5 0 in
+      let is : shows 5 0 ≡ 5 = of-session x (the-answers .ownNumber) 5 0 in
       omega (arith, h, is)
 
   pub no-26-before-20 : Played threeTasks (waits ∷ executes 3 ∷ []) a → shows 2 0 ≡ 26 → ⊥
   no-26-before-20 x h =
-      let is : shows 2 0 ≡ 20 = of-three x (the-answers .nobody) 2 0 in
+      let is : shows 2 0 ≡ 20 = of-session x (the-answers .nobody) 2 0 in
       omega (arith, h, is)
+
+  -- ---- a dropped message
+
+  -- the mailbox is emptied, and the sender hangs: nobody runs
+  pub no-hanging-sender : Played twoMessages (sendsAndWaits 1 ∷ ends ∷ []) a → shows 2 1 ≡ 0 → ⊥
+  no-hanging-sender x h =
+      let is : shows 2 1 ≡ 1 = of-session x (the-answers .freed) 2 1 in
+      omega (arith, h, is)
+
+  -- only the first message signals
+  pub no-message-left-out : Played twoMessages (sends 1 1 ∷ sendsAndWaits 2 ∷ ends ∷ []) a → shows 3 1 ≡ 0 → ⊥
+  no-message-left-out x h =
+      let is : shows 3 1 ≡ 1 = of-session x (the-answers .freedSecond) 3 1 in
+      omega (arith, h, is)
+
+  -- one semaphore in two messages is signalled once: the next wait on it does wait
+  pub no-semaphore-signalled-once : Played twoMessages (sends 1 0 ∷ sendsAndWaits 2 ∷ ends ∷ waitsOwn ∷ []) a → shows 4 1 ≡ 0 → ⊥
+  no-semaphore-signalled-once x h =
+      let is : shows 4 1 ≡ 1 = of-session x (the-answers .freedTwice) 4 1 in
+      omega (arith, h, is)
+
+  -- it signals before the ended task's own wait is withdrawn: that signal is lost, and the next wait does wait
+  pub no-wait-withdrawn-late : Played twoMessages (sends 1 3 ∷ waits ∷ waitsOwn ∷ exits ∷ terminates 2 ∷ waitsOn 3 ∷ []) a → shows 6 1 ≡ 0 → ⊥
+  no-wait-withdrawn-late x h =
+      let is : shows 6 1 ≡ 1 = of-session x (the-answers .withdrawn) 6 1 in
+      omega (arith, h, is)
+
+  -- ---- the memory
 
   -- it keeps another byte for DONE than 255
   abbrev firstSemaphore : Memory → ℕ

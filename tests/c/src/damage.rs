@@ -11,6 +11,7 @@ use plain_executive::semaphore::Semaphore;
 use plain_executive::tasks::Block;
 
 use crate::decided::decided;
+use crate::dropped::dropped;
 use crate::lent::{
     ends, kept_length, pairs_at, parts, timer_row, Lent, Regions, COUNT, FRAME, MARKS, PART, PLANE, PLANES, TICKS,
 };
@@ -35,6 +36,8 @@ pub struct Counts {
     pub told_without_wait: u64,
     /// Executes that a pair decides which no configuration has: refused with 26 by it, or accepted in spite of it.
     pub decided: BTreeMap<&'static str, u64>,
+    /// Accepted terminates that drop a message which no session leaves, or signal what no session has.
+    pub dropped: BTreeMap<&'static str, u64>,
 }
 
 /// Feeds frames to damaged memory by a given call, and watches each.
@@ -79,6 +82,7 @@ impl<Call: FnMut(&mut Lent, &[u8]) -> Number> Watch<Call> {
         let found = strange(&before, other.configuration());
         let without_wait = signals_without_wait(other, frame);
         let decided = decided(memory, other, frame);
+        let dropped = dropped(other, frame);
         let answer = other.frame(frame);
         let number = self.frame(memory, frame);
         assert_eq!(number, answer.refusal(), "the number; {}", told());
@@ -102,6 +106,7 @@ impl<Call: FnMut(&mut Lent, &[u8]) -> Number> Watch<Call> {
             self.counts.reissues += u64::from(answer.reissues());
             self.counts.told_without_wait += u64::from(without_wait);
             found.into_iter().for_each(|name| *self.counts.strange.entry(name).or_default() += 1);
+            dropped.into_iter().for_each(|name| *self.counts.dropped.entry(name).or_default() += 1);
         }
     }
 
@@ -125,10 +130,10 @@ fn signals_without_wait(executive: &Executive, frame: &[u8]) -> bool {
     }
 }
 
-/// Damages memory that frames left: a bit, some bytes, a field, all messages, a whole block, a length, a mark, the pairs. `another`
-/// is another session's.
+/// Damages memory that frames left: a bit, some bytes, a field, messages, a whole block, a length, a mark, the pairs. `another` is
+/// another session's.
 pub fn damage(random: &mut Random, memory: &mut Lent, configuration: &Configuration, another: &Lent) {
-    match random.below(26) {
+    match random.below(28) {
         0..=3 => bit(random, memory, configuration),
         4..=6 => bytes(random, memory, configuration),
         7..=15 => {
@@ -142,6 +147,7 @@ pub fn damage(random: &mut Random, memory: &mut Lent, configuration: &Configurat
         19 | 20 => nearly_full(random, memory, configuration),
         21 => mark(random, memory),
         22 => exchanged(random, memory, another),
+        23 | 24 => letters(random, memory, configuration),
         _ => pairs(random, memory, configuration),
     }
 }
@@ -301,10 +307,42 @@ fn nearly_full(random: &mut Random, memory: &mut Lent, configuration: &Configura
     }
     let first = Regions::of(configuration).messages;
     for (record, number) in memory.tables[first..].chunks_exact_mut(4).zip(1..=messages) {
-        record.copy_from_slice(&[random.between(1, tasks), number, random.between(1, tasks), 0]);
+        let semaphore = a_semaphore(random, configuration);
+        record.copy_from_slice(&[random.between(1, tasks), number, random.between(1, tasks), semaphore]);
     }
     memory.tables[COUNT] = messages - random.between(0, 1);
     memory.tables[first + 4 * random.below(messages.into()) + random.below(2)] = a_value(random, configuration);
+}
+
+/// Some messages lie, most of them for one task, with any semaphores, of which some are in any state.
+fn letters(random: &mut Random, memory: &mut Lent, configuration: &Configuration) {
+    let Configuration { tasks, messages, .. } = *configuration;
+    let regions = Regions::of(configuration);
+    let [to, waiter] = [(); 2].map(|()| random.between(1, tasks));
+    let mut states = Vec::new();
+    for (record, number) in memory.tables[regions.messages..].chunks_exact_mut(4).zip(1..=messages) {
+        let other = random.between(1, tasks);
+        let semaphore = a_semaphore(random, configuration);
+        record.copy_from_slice(&[if random.percent(70) { to } else { other }, number, other, semaphore]);
+        if (1..=configuration.semaphores()).contains(&semaphore) && random.percent(60) {
+            states.push((semaphore, random.pick(&[0, 255, to, waiter, waiter, other])));
+        }
+    }
+    for (semaphore, state) in states {
+        memory.tables[regions.semaphores + usize::from(semaphore) - 1] = state;
+    }
+    memory.tables[COUNT] = random.between(0, messages);
+}
+
+/// Of a message: one that there is, also a queue's, or 0, or one above them all.
+fn a_semaphore(random: &mut Random, configuration: &Configuration) -> u8 {
+    let most = configuration.semaphores();
+    match random.below(8) {
+        0 => 0,
+        1 => random.between(most.saturating_add(1), 255),
+        2 | 3 => random.between(configuration.nameable_semaphores().saturating_add(1).min(most), most),
+        _ => random.between(1, most),
+    }
 }
 
 fn exchanged(random: &mut Random, memory: &mut Lent, another: &Lent) {
@@ -319,11 +357,21 @@ pub fn frames(random: &mut Random, memory: &Lent, next: &[Frame]) -> Vec<Frame> 
     let mut next = next.iter();
     let count = 1 + random.below(4);
     let mut one = || match (&configuration, random.below(10)) {
-        (Some(configuration), 0..=4) => service(random, configuration),
+        (Some(configuration), 0) => terminate(random, memory, configuration),
+        (Some(configuration), 1..=4) => service(random, configuration),
         (_, 5 | 6) => vec![TICK, 0, 0, 0, 0],
         _ => next.next().cloned().unwrap_or_else(|| random.bytes(5)),
     };
     (0..count).map(|_| one()).collect()
+}
+
+/// Of a task for which a message lies, if one does, else of the running one.
+fn terminate(random: &mut Random, memory: &Lent, configuration: &Configuration) -> Frame {
+    let lying = memory.tables.get(COUNT).map_or(0, |&count| count.min(configuration.messages));
+    let records = memory.tables.get(Regions::of(configuration).messages..).unwrap_or(&[]).chunks_exact(4);
+    let receivers: Vec<u8> = records.take(lying.into()).map(|record| record[0]).collect();
+    let task = random.pick_if(&receivers).map_or(0, |task| if task <= configuration.tasks { task } else { 1 });
+    vec![TERMINATE, task, 0, 0, 0]
 }
 
 fn service(random: &mut Random, configuration: &Configuration) -> Frame {

@@ -5,6 +5,7 @@ pub mod caller;
 pub mod compare;
 pub mod damage;
 pub mod decided;
+pub mod dropped;
 pub mod fence;
 pub mod lent;
 pub mod rules;

@@ -13,7 +13,7 @@ use crate::lent::{Lent, Regions, COUNT, PART, PLANE, PLANES, TICKS};
 
 type Situation = (&'static str, fn(&Seen) -> bool);
 
-pub const STRANGE: [Situation; 33] = [
+pub const STRANGE: [Situation; 35] = [
     ("ticks left: 0", |seen| seen.lent.tables[TICKS] == 0),
     ("ticks left: above K", |seen| seen.lent.tables[TICKS] > seen.configuration.ticks_per_tock),
     ("messages: above G", |seen| seen.lent.tables[COUNT] > seen.configuration.messages),
@@ -50,6 +50,14 @@ pub const STRANGE: [Situation; 33] = [
     ("message: for a task that there is not", |seen| seen.lying().any(|record| !seen.is_task(record[0]))),
     ("message: a number that there is not", |seen| {
         seen.lying().any(|record| !(1..=seen.configuration.messages).contains(&record[1]))
+    }),
+    ("message: a semaphore that there is not", |seen| {
+        let numbers = 1..=seen.configuration.semaphores();
+        seen.lying().any(|record| !numbers.contains(&record[3]))
+    }),
+    ("message: a queue's semaphore", |seen| {
+        let named = seen.configuration.nameable_semaphores();
+        seen.lying().any(|record| named < record[3] && record[3] <= seen.configuration.semaphores())
     }),
     ("message: twice", |seen| {
         let numbers: Vec<u8> = seen.lying().map(|record| record[1]).collect();

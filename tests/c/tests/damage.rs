@@ -6,8 +6,9 @@ use std::process::Command;
 
 use c::caller::{Blocks, Caller};
 use c::damage::{damage, frames, Counts, Watch};
+use c::dropped::DROPPED;
 use c::fence::{now, Fences, Side};
-use c::lent::{parts, Lent, FRAME, PART, SIZES};
+use c::lent::{parts, Lent, Regions, COUNT, FRAME, PART, PLANE, PLANES, SIZES};
 use c::rules::{self, Rule};
 use c::strange::STRANGE;
 use plain_executive::executive::Executive;
@@ -23,6 +24,7 @@ c::for_each_caller!(
     every_bit_of_the_largest_memory,
     every_value_of_every_byte_of_the_pairs,
     every_kept_length,
+    every_semaphore_of_a_dropped_message,
     every_length_of_every_block,
     configurations_over_damaged_memory,
 );
@@ -88,10 +90,11 @@ fn any_damage(caller: Caller) {
 
 /// Each rule was broken, each service accepted, each number given, and each strange memory met by an accepted frame.
 fn all_met(counts: &Counts) {
-    let Counts { broken, filled, accepted, refused, strange, reissues, told_without_wait, decided, .. } = counts;
+    let Counts { broken, filled, accepted, refused, strange, reissues, told_without_wait, decided, dropped, .. } =
+        counts;
     let all = format!(
         "{broken:?}, {filled} by frames, accepted {accepted:?}, refused {refused:?}, {reissues} reissues, \
-         {told_without_wait} told without wait, {decided:?}, {strange:#?}"
+         {told_without_wait} told without wait, {decided:?}, {dropped:?}, {strange:#?}"
     );
     println!("{} calls: {all}", counts.calls);
     for rule in [Rule::Sizes, Rule::Marks, Rule::Configuration, Rule::Messages] {
@@ -105,6 +108,9 @@ fn all_met(counts: &Counts) {
     }
     for (name, _) in STRANGE {
         assert!(strange.get(name) > Some(&50), "{name}: {all}");
+    }
+    for (name, _) in DROPPED {
+        assert!(dropped.get(name) > Some(&50), "{name}: {all}");
     }
     assert!(*reissues > 1000, "{all}");
     assert!(*filled > 20, "{all}");
@@ -224,6 +230,38 @@ fn every_kept_length(caller: Caller) {
     let refused: usize =
         (0..=400).filter(|length| !lengths.contains(length)).map(|length| 4 * places(length).count()).sum();
     assert_eq!(watch.counts.broken, [(Rule::Configuration, refused as u64)].into());
+}
+
+/// T 3, S 2, Q 2: nine semaphores. Task 1 terminates task 2, for which a message lies with each number as its semaphore, that in each
+/// state. By the bytes alone: a number that there is not signals nothing, a queue's is signalled as the others are.
+fn every_semaphore_of_a_dropped_message(caller: Caller) {
+    let mut random = Random::new(26);
+    let mut watch = fenced();
+    let configuration = vec![3, 2, 2, 0, 2, 1, 0, 1, 0, 0, 0, 1, 1, 1, 1];
+    let script = Script { configuration, frames: Vec::new() };
+    let memory = after(caller, &script, 0, &mut random);
+    let regions = Regions::of(&rules::configuration_of(&memory).expect("accepted"));
+    let (semaphores, event_waits) = (regions.semaphores..regions.waiting, PLANES + 2 * PLANE);
+    assert_eq!(semaphores.len(), 9);
+    for (number, state) in (0..=u8::MAX).flat_map(|number| (0..=u8::MAX).map(move |state| (number, state))) {
+        let mut damaged = memory.clone();
+        damaged.tables[COUNT] = 1;
+        damaged.tables[regions.messages..][..4].copy_from_slice(&[2, 1, 3, number]);
+        let mut expected = vec![0; 9];
+        if let Some(place) = (1..=9).contains(&number).then(|| usize::from(number) - 1) {
+            damaged.tables[semaphores.start + place] = state;
+            damaged.tables[event_waits] = if state == 2 || state == 3 { 1 << (state - 1) } else { 0 };
+            expected[place] = if state == 1 || state == 3 { 0 } else { 255 };
+        } else if state > 0 {
+            continue;
+        }
+        now([number.into(), state.into(), 0]);
+        watch.feed(damaged.clone(), &[vec![0x0B, 2, 0, 0, 0]], &|| told(&script, 0, &memory, &damaged));
+        assert_eq!(damaged.frame(&[0x0B, 2, 0, 0, 0]), 0);
+        assert_eq!(damaged.tables[semaphores.clone()], expected, "semaphore {number} in state {state}");
+        assert_eq!((damaged.tables[COUNT], damaged.tables[event_waits]), (0, 0), "semaphore {number} in state {state}");
+    }
+    assert_eq!(watch.counts.accepted[&0x0B], 9 * 256 + 247);
 }
 
 /// Every length of every block, from none to some bytes more than its size, for frames and for configurations.

@@ -7,7 +7,7 @@ use c::lent::{slot, timer_row, Lent, Regions, COUNT, FRAME, PART, PLANES, TICKS}
 use plain_executive::configuration::Configuration;
 use plain_executive::coverage::Coverage;
 use plain_executive::executive::Executive;
-use plain_executive::generator::{cascade, Generator, Script};
+use plain_executive::generator::{prepared, Generator, Script};
 use plain_executive::numbers::{Number, MEMORY};
 use plain_executive::random::Random;
 use plain_executive::session;
@@ -25,7 +25,7 @@ c::for_each_caller!(
 );
 
 /// Situations that the module has no room for.
-const TOO_LARGE: [&str; 2] = ["answers: task 126 runs", "settling: 90 reissues or more"];
+const TOO_LARGE: [&str; 3] = ["answers: task 126 runs", "dropped: 64 tasks freed", "settling: 90 reissues or more"];
 
 fn first_seed() -> u64 {
     let given = std::env::var("SEED").ok();
@@ -36,15 +36,16 @@ fn engine(memory: &mut Lent, frame: &[u8]) -> Number {
     memory.frame(frame)
 }
 
-/// The cascade, where the caller has room for it, and random sessions.
+/// The prepared ones that the caller has room for, and random sessions.
 fn sessions(caller: Caller) -> impl Iterator<Item = (String, Script)> {
-    let fits = |script: &Script| Configuration::read_within(caller.limits(), &script.configuration).is_ok();
-    let cascade = Some(cascade()).filter(fits).map(|script| ("the cascade".to_string(), script));
+    let fits = move |script: &Script| Configuration::read_within(caller.limits(), &script.configuration).is_ok();
+    let prepared = prepared().into_iter().filter(fits).enumerate();
+    let prepared = prepared.map(|(place, script)| (format!("prepared session {place}"), script));
     let random = (first_seed()..first_seed() + 750).map(move |seed| {
         let tasks = TASKS[seed as usize % TASKS.len()];
         (format!("seed {seed}"), Generator::within(caller.limits(), seed).script(tasks..=tasks, 300))
     });
-    cascade.into_iter().chain(random)
+    prepared.chain(random)
 }
 
 fn sessions_of_every_size(caller: Caller) {

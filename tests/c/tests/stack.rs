@@ -7,7 +7,7 @@ use c::caller::Caller;
 use c::lent::{Lent, SIZES};
 use c::stack;
 use plain_executive::configuration::Configuration;
-use plain_executive::generator::{cascade, largest, Generator, Script};
+use plain_executive::generator::{largest, prepared, Generator, Script};
 use plain_executive::line;
 use tools::{frames_of, stories, text};
 
@@ -27,7 +27,7 @@ fn sessions(caller: Caller) -> impl Iterator<Item = Script> {
         Generator::within(caller.limits(), seed).script(tasks..=tasks, 300)
     });
     let large = Generator::new(200).script_of(largest(caller.limits()), 300);
-    let all = stories().into_iter().map(story).chain(random).chain([large, cascade()]);
+    let all = stories().into_iter().map(story).chain(random).chain([large]).chain(prepared());
     all.filter(move |script| Configuration::read_within(caller.limits(), &script.configuration).is_ok())
 }
 

@@ -2,6 +2,7 @@
 
 mod answers;
 mod clock;
+mod dropped;
 mod messages;
 mod pairs;
 mod queues;
@@ -14,11 +15,12 @@ use super::Step;
 
 type Situation = (&'static str, fn(&Step) -> bool);
 
-const TABLES: [(&str, &[Situation]); 9] = [
+const TABLES: [(&str, &[Situation]); 10] = [
     ("answers", answers::TABLE),
     ("pairs", pairs::TABLE),
     ("semaphores", semaphores::TABLE),
     ("messages", messages::TABLE),
+    ("dropped", dropped::TABLE),
     ("queues", queues::TABLE),
     ("settling", settling::TABLE),
     ("tasks", tasks::TABLE),

@@ -45,11 +45,11 @@ fn taker_of(queue: u8) -> u8 {
     1 + queue
 }
 
-fn service(code: u8, a: u8, b: u8) -> Vec<u8> {
+pub fn service(code: u8, a: u8, b: u8) -> Vec<u8> {
     vec![code, a, b, 0, 0]
 }
 
-fn put(queue: u8) -> Vec<u8> {
+pub fn put(queue: u8) -> Vec<u8> {
     vec![ENQUEUE, queue, 0, 0, 0, queue]
 }
 

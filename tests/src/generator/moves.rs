@@ -20,10 +20,21 @@ pub enum Mood {
     Gathering,
     /// Time passes.
     Timing,
+    /// A mailbox is filled, and then its task is terminated.
+    Dropping,
 }
 
-const MOODS: [Mood; 8] =
-    [Mood::Any, Mood::Any, Mood::Blocking, Mood::Waking, Mood::Stealing, Mood::Stealing, Mood::Gathering, Mood::Timing];
+const MOODS: [Mood; 9] = [
+    Mood::Any,
+    Mood::Any,
+    Mood::Blocking,
+    Mood::Waking,
+    Mood::Stealing,
+    Mood::Stealing,
+    Mood::Gathering,
+    Mood::Timing,
+    Mood::Dropping,
+];
 
 /// Terminate, suspend and pend come less often than the rest, so that sessions stay alive.
 const CODES: [u8; 27] = [
@@ -33,7 +44,11 @@ const CODES: [u8; 27] = [
 
 impl Generator {
     pub(super) fn frame(&mut self, executive: &Executive) -> Vec<u8> {
-        let change = if matches!(self.mood, Mood::Gathering) { 3 } else { 10 };
+        let change = match self.mood {
+            Mood::Gathering => 3,
+            Mood::Dropping => 8,
+            _ => 10,
+        };
         if self.random.percent(change) {
             self.mood = self.random.pick(&MOODS);
         }
@@ -53,6 +68,7 @@ impl Generator {
             Mood::Stealing => self.stealing(executive, own),
             Mood::Gathering => self.gathering(executive, own),
             Mood::Timing => Some(self.timing(executive)),
+            Mood::Dropping => Some(self.dropping(executive, own)),
         };
         intended.unwrap_or_else(|| self.any_service(executive))
     }
@@ -143,7 +159,12 @@ impl Generator {
         if self.random.percent(15) {
             return Some([vec![DELAY, victim, 0], self.tocks().to_vec()].concat());
         }
-        match executive.tasks().get(victim).request {
+        self.as_asked(executive, executive.tasks().get(victim).request)
+    }
+
+    /// The same at the queue as a task asked for with this request.
+    pub(super) fn as_asked(&mut self, executive: &Executive, request: Request) -> Option<Vec<u8>> {
+        match request {
             Request::Dequeue(queue) => Some(vec![DEQUEUE, queue, 0, 0, 0]),
             Request::Enqueue(queue, _) => Some(self.put(executive, queue)),
             Request::None | Request::Receive(_) => None,
@@ -174,7 +195,7 @@ impl Generator {
     }
 
     /// What ends the task's wait.
-    fn wake(&mut self, executive: &Executive, task: u8) -> Option<Vec<u8>> {
+    pub(super) fn wake(&mut self, executive: &Executive, task: u8) -> Option<Vec<u8>> {
         let record = executive.tasks().get(task);
         if record.blocks().has(Block::MessageWait) {
             return self.message_that(executive, false).map(|message| vec![SEND, task, 0, 0, message]);

@@ -10,7 +10,7 @@ use std::iter::once;
 
 use facts::{Fact, Results};
 use plain_executive::coverage::Coverage;
-use plain_executive::generator::{cascade, largest, Generator, Script};
+use plain_executive::generator::{largest, prepared, Generator, Script};
 use plain_executive::limits::Limits;
 use plain_executive::random::Random;
 use scratch::File;
@@ -25,10 +25,10 @@ fn seed() -> u64 {
     given.map_or(1, |seed| seed.parse().expect("SEED is a number")) << 32
 }
 
-/// Sessions of 126 tasks, the one with the most reissues, and small ones that together reach every situation.
+/// Sessions of 126 tasks, the prepared ones, and small ones that together reach every situation.
 fn scripts() -> Vec<Script> {
     let large = (0..4).map(|session| Generator::new(seed() + session).script(126..=126, FRAMES));
-    let mut scripts: Vec<Script> = large.chain([cascade()]).collect();
+    let mut scripts: Vec<Script> = large.chain(prepared()).collect();
     scripts.extend(small(&scripts));
     scripts
 }

@@ -197,6 +197,34 @@ fn what_a_frame_changed_is_marked_and_the_trail_told() {
     assert_eq!(since, "#9 (3 frames)");
 }
 
+/// Of the operator's terminate: what it dropped and signalled, the arrow to the task that this woke, the frames that touch a message
+/// and a semaphore; and at the end the operator is one who could wake that task.
+#[test]
+fn dropped_messages_are_told_and_whom_they_woke() {
+    let input = story("display");
+    let names = std::fs::read_to_string(crate::repository().join("examples/display.names")).expect("its names");
+    let page = page_of("dropped", &[("display.session", &input)], &names);
+    let mut opened = browser("dropped");
+    opened.browser.open(&page, "#f=12");
+    let trail =
+        opened.browser.text("[...document.querySelectorAll('.trail li')].map(line => line.textContent).join(' ')");
+    let speed = "Message speed from ride is dropped and signals semaphore shown.";
+    let picture = "Message picture from photo is dropped and signals photo's own semaphore.";
+    assert_eq!(trail, format!("{speed} {picture} Photo's own semaphore wakes photo."));
+    let changed = "[...document.querySelectorAll('.semaphores tr, .mailboxes tr')].filter(row => row.querySelector('.changed')).map(row => row.dataset.key + ' ' + row.cells[1].textContent).join('; ')";
+    assert_eq!(opened.browser.text(changed), "s3 DONE; s6 PENDING; t4 empty");
+    let arrows = "(({ frame, from, to }) => frame.map((at, i) => at === 12 ? from[i] + ' ' + to[i] : '').join(''))(page.main.session.woken)";
+    assert_eq!(opened.browser.text(arrows), "1 3");
+    for (key, due) in [("m2", "5,12,20,23"), ("s3", "3,10,12,17,18,22")] {
+        let touched = format!("(touches => Array.from({{ length: 29 }}, (_, frame) => frame).filter(touches).join())(page.main.session.toucher('{key}'))");
+        assert_eq!(opened.browser.text(&touched), due, "{key}");
+    }
+    let could = "[...document.querySelectorAll('table[data-title=\"Stuck at the end\"] tbody tr')].map(row => row.cells[0].textContent + ': ' + row.cells[3].textContent).find(row => row.startsWith('photo'))";
+    let due = "photo: a signal of photo's own semaphore; before: operator (1 time, waits itself), display (1 time); a timer will in 3 tocks";
+    assert_eq!(opened.browser.text(could), due);
+    assert_eq!(opened.browser.complaints, Vec::<String>::new());
+}
+
 /// A task that is started only after others says so beside its name, and which of them are idle.
 #[test]
 fn pairs_stand_beside_the_tasks() {

@@ -1,10 +1,12 @@
--- Messages: send, and receive issued for task t, now or again in settling.
+-- Messages: send, receive issued for task t, now or again in settling, and messages that are dropped.
 use Prim.Native.Nat.{ℕ}
 use mathlib.Core.Bool.{Bool, true, false, _||_}
+use mathlib.Core.List.{[], map}
 use mathlib.Core.Option.{Option, none as nothing, some}
 use lib.Dec.{eqb}
 use Rattle.ledger.specs.Lists.{without, insertBy}
 use Rattle.ledger.specs.Ledger.{message, semaphore, receive, Message, Ledger, mailbox, setMailbox, setOutcome, setRequest, setMessageWait}
+use Rattle.ledger.specs.Services.Semaphores.{signalAll}
 
 -- into A's mailbox, lowest sender number first, equal senders in order of sending; A loses message wait. Outcome semaphore
 unfoldable pub send : ℕ → ℕ → ℕ → ℕ → Ledger → Ledger
@@ -20,3 +22,7 @@ wanted a m = eqb a 0 || eqb a (m .sender)
 unfoldable pub received : ℕ → ℕ → Option Message → Ledger → Ledger
 received t a nothing l = setRequest t (receive a) (setMessageWait t true l)
 received t a (some m) l = setOutcome t (message (m .number) (m .sender) (m .semaphore)) (setMailbox t (without (wanted a) (mailbox l t)) l)
+
+-- nobody will receive the messages in t's mailbox: the semaphore of each is signalled, in mailbox order, and the mailbox emptied
+unfoldable pub dropMessages : ℕ → Ledger → Ledger
+dropMessages t l = setMailbox t [] (signalAll (map (λ m. m .semaphore) (mailbox l t)) l)

@@ -1,7 +1,7 @@
 -- Semaphores: wait, signal, and the wait that is withdrawn.
 use Prim.Native.Nat.{ℕ}
 use mathlib.Core.Bool.{true, false, cond}
-use mathlib.Core.List.{map}
+use mathlib.Core.List.{List, [], _∷_, map}
 use lib.Dec.{eqb}
 use Rattle.ledger.specs.Ledger.{Semaphore, PENDING, DONE, WAITING, semaphore, Ledger, semaphoreOf, setSemaphores, setSemaphore, setOutcome, setEventWait}
 
@@ -22,6 +22,11 @@ signalled (WAITING t) b l = record { ledger = setEventWait t false (setSemaphore
 
 unfoldable pub signal : ℕ → Ledger → Signalled
 signal b l = signalled (semaphoreOf l b) b l
+
+-- one after the other, in the list's order
+unfoldable pub signalAll : List ℕ → Ledger → Ledger
+signalAll [] l = l
+signalAll (b ∷ bs) l = signalAll bs (signal b l .ledger)
 
 -- the waiter, if there is one, is woken as by signal: a queue's semaphores are never DONE
 unfoldable pub woken : Semaphore → ℕ → Ledger → Ledger

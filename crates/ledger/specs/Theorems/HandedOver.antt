@@ -169,14 +169,23 @@ closed-step : (c : Config) (f : List ℕ) (l : Ledger) → length (l .tasks) ≡
 unfolding step
 closed-step c f l h o = cond-both (λ (s : Stepped). isOpen (openRequest (s .ledger)) ≡ false) (eqb (refusal c l f) 0) _ _ (ends-closed (step-settles c f l h)) o
 
-pub ready-step : (c : Config) (f : List ℕ) (l : Ledger) → Ready c l → Ready c (step c f l .ledger)
+ready-step : (c : Config) (f : List ℕ) (l : Ledger) → Ready c l → Ready c (step c f l .ledger)
 ready-step c f l r =
     let k = step-kept c (λ x. Unit {0}) (SoundQueues c) queues-kept f l tt (r .named, r .queues) in
     record { named = k .0; queues = k .1; closed = closed-step c f l (r .named .tasks) (r .closed) }
 
-pub ready-fresh : (c : Config) → length (c .states) ≡ c .T → Ready c (fresh c)
+ready-fresh : (c : Config) → length (c .states) ≡ c .T → Ready c (fresh c)
 unfolding openRequest isOpen
 ready-fresh c h = record { named = fresh-named c h; queues = queues-fresh c; closed = fresh-task (λ t. isOpen (t .request) ≡ false) refl refl c (running (fresh c)) (λ z. refl) }
+
+ready-from : (c : Config) (l : Ledger) (fs : List (List ℕ)) → Ready c l → Ready c (runFrom c l fs .0)
+unfolding runFrom
+ready-from c l [] r = r
+ready-from c l (f ∷ fs) r = ready-from c (step c f l .ledger) fs (ready-step c f l r)
+
+pub ready-run : (c : Config) → length (c .states) ≡ c .T → (fs : List (List ℕ)) → Ready c (run c fs .0)
+unfolding run
+ready-run c h fs = ready-from c (fresh c) fs (ready-fresh c h)
 
 from : (c : Config) (l : Ledger) (fs : List (List ℕ)) (f : List ℕ) → Ready c l
     → let m = runFrom c l fs .0 in Hands c (running m) m (accept c f m) (runFrom c l (fs ++ (f ∷ [])) .0)

@@ -34,6 +34,42 @@ module _ {A : Type 0} where
   put-put xs zero v w = refl
   put-put xs (suc n) v w = set-set xs n v w
 
+  -- in its place lies the new item, or the place is none
+  set-here : (P : A → Type 0) (xs : List A) (n : ℕ) (v d : A) → P v → P d → P (getD (set xs n v) n d)
+  set-here P [] n v d p q = q
+  set-here P (x ∷ xs) zero v d p q = p
+  set-here P (x ∷ xs) (suc n) v d p q = set-here P xs n v d p q
+
+  pub put-here : (P : A → Type 0) (xs : List A) (n : ℕ) (v d : A) → P v → P d → P (at (put xs n v) n d)
+  unfolding at put
+  put-here P xs zero v d p q = q
+  put-here P xs (suc n) v d p q = set-here P xs n v d p q
+
+  -- an item put in its own place
+  set-getD : (xs : List A) (n : ℕ) (d : A) → set xs n (getD xs n d) ≡ xs
+  set-getD [] n d = refl
+  set-getD (x ∷ xs) zero d = refl
+  set-getD (x ∷ xs) (suc n) d = ap (λ ys. x ∷ ys) (set-getD xs n d)
+
+  pub put-at : (xs : List A) (n : ℕ) (d : A) → put xs n (at xs n d) ≡ xs
+  unfolding at put
+  put-at xs zero d = refl
+  put-at xs (suc n) d = set-getD xs n d
+
+  -- to change one item by f and to set one to what f leaves as it is are two changes whose order is free
+  set-fixed : (f : A → A) (xs : List A) (n m : ℕ) (v d : A) → f v ≡ v → set (set xs n v) m (f (getD (set xs n v) m d)) ≡ set (set xs m (f (getD xs m d))) n v
+  set-fixed f [] n m v d e = refl
+  set-fixed f (x ∷ xs) zero zero v d e = ap (λ y. y ∷ xs) e
+  set-fixed f (x ∷ xs) zero (suc m) v d e = refl
+  set-fixed f (x ∷ xs) (suc n) zero v d e = refl
+  set-fixed f (x ∷ xs) (suc n) (suc m) v d e = ap (λ ys. x ∷ ys) (set-fixed f xs n m v d e)
+
+  pub put-fixed : (f : A → A) (xs : List A) (n m : ℕ) (v d : A) → f v ≡ v → put (put xs n v) m (f (at (put xs n v) m d)) ≡ put (put xs m (f (at xs m d))) n v
+  unfolding at put
+  put-fixed f xs zero m v d e = refl
+  put-fixed f xs (suc n) zero v d e = refl
+  put-fixed f xs (suc n) (suc m) v d e = set-fixed f xs n m v d e
+
   -- what holds of every item by its number still does if it holds of the new one
   getD-set-each : (P : ℕ → A → Type 0) (xs : List A) (n : ℕ) (v d : A) → ((m : ℕ) → P m (getD xs m d)) → P n v → (m : ℕ) → P m (getD (set xs n v) m d)
   getD-set-each P [] n v d h p m = h m

@@ -1,6 +1,6 @@
 -- A rule that every change keeps is kept by every step; if it holds of the fresh ledger, it holds after every list of frames.
 use Prim.Native.Nat.{ℕ, zero, suc, _*_}
-use mathlib.Core.Path.{_≡_, refl, _∙_, ap}
+use mathlib.Core.Path.{_≡_, refl, sym, _∙_, ap, subst}
 use mathlib.Core.Bool.{Bool, true, false}
 use mathlib.Core.List.{List}
 use borrow.Author.Tests.{eqb-true}
@@ -8,14 +8,14 @@ use lib.Dec.{eqb}
 use lib.ListN.{length}
 use Rattle.ledger.specs.Lists.{word}
 use Rattle.ledger.specs.Config.{Config}
-use Rattle.ledger.specs.Ledger.{Ledger, task, fresh}
+use Rattle.ledger.specs.Ledger.{Ledger, task, mailbox, fresh}
 use Rattle.ledger.specs.Refusals.{refusal}
 use Rattle.ledger.specs.Session.{openRequest, isOpen, reissue, settle, accept, step, runFrom, run}
 use Rattle.ledger.specs.Theorems.Parts.{Every, nil, cons}
 use Rattle.ledger.specs.Theorems.Sizes.{sizes, sizesOf, of-accept, of-reissue, of-fresh}
-use Rattle.ledger.specs.Theorems.Fresh.{fresh-task}
-use Rattle.ledger.specs.Theorems.Changes.{Asks, Change, Changes, start, _⨾_}
-use Rattle.ledger.specs.Theorems.Named.{Timed, Named, requests-kept, timed-kept}
+use Rattle.ledger.specs.Theorems.Fresh.{fresh-task, fresh-mailbox}
+use Rattle.ledger.specs.Theorems.Changes.{Asks, Sent, Change, Changes, start, _⨾_}
+use Rattle.ledger.specs.Theorems.Named.{Timed, Named, requests-kept, timed-kept, sent-kept}
 use Rattle.ledger.specs.Theorems.Steps.{accepts, reissues}
 
 pub fresh-named : (c : Config) → length (c .states) ≡ c .T → Named c (fresh c)
@@ -24,6 +24,7 @@ fresh-named c h = record {
   tasks = ap (λ s. s .tasks) (of-fresh c h);
   requests = λ t. fresh-task (λ u. Asks c (u .request)) tt tt c t (λ z. tt);
   timers = nil;
+  messages = λ t. subst (Every (Sent c)) (sym (fresh-mailbox c t)) nil;
 }
 
 pub through : {c : Config} {X : ℕ → Type 0} (P : Ledger → Type 0) → ((l l′ : Ledger) → Change c X l l′ → P l → P l′) → {l l′ : Ledger} → Changes c X l l′ → P l → P l′
@@ -36,6 +37,7 @@ named-through {c} k e n = record {
   tasks = ap (λ s. s .tasks) e ∙ n .tasks;
   requests = through (λ l. (t : ℕ) → Asks c (task l t .request)) (λ l l′ s. requests-kept s) k (n .requests);
   timers = through (λ l. Every (Timed c) (l .timers)) (λ l l′ s. timed-kept s) k (n .timers);
+  messages = through (λ l. (t : ℕ) → Every (Sent c) (mailbox l t)) (λ l l′ s. sent-kept s) k (n .messages);
 }
 
 module _ (c : Config) (X : ℕ → Type 0) (P : Ledger → Type 0) (change : (l l′ : Ledger) → Change c X l l′ → P l → P l′) where

@@ -1,13 +1,14 @@
--- What is stored names what exists: the open requests, and the tasks and semaphores of the timers. Every change keeps it, and the steps rely on it.
+-- What is stored names what exists: the open requests, and the tasks and semaphores of the timers and of the messages. Every change keeps it, and the steps rely on it.
 use Prim.Native.Nat.{ℕ, suc, _+_}
 use mathlib.Core.Path.{_≡_, sym, subst}
+use mathlib.Core.List.{List, []}
 use lib.ListN.{length}
 use Rattle.ledger.specs.Config.{Config}
-use Rattle.ledger.specs.Ledger.{Task, Timer, Ledger, nullTask, task}
+use Rattle.ledger.specs.Ledger.{Task, Message, Timer, Ledger, nullTask, task, mailbox}
 use Rattle.ledger.specs.Theorems.Items.{Numbered, at-put-each}
 use Rattle.ledger.specs.Theorems.Parts.{Every, part-keep, every-to, every-part, every-insert}
 use Rattle.ledger.specs.Theorems.Tocks.{renewed-every}
-use Rattle.ledger.specs.Theorems.Changes.{Asks, Change, alters, restarts, pends, finishes, wakes, waits, delivers, removes, putsEntry, takesEntry, startsTimer, stopsTimers, ticks, tocks, updates}
+use Rattle.ledger.specs.Theorems.Changes.{Asks, Sent, Change, alters, restarts, pends, finishes, wakes, waits, delivers, removes, putsEntry, takesEntry, startsTimer, stopsTimers, ticks, tocks, updates}
 
 -- a timer's task and semaphore
 pub record Timed (c : Config) (t : Timer) : Type 0 where
@@ -18,6 +19,7 @@ pub record Named (c : Config) (l : Ledger) : Type 0 where
   pub tasks : length (l .tasks) ≡ c .T
   pub requests : (t : ℕ) → Asks c (task l t .request)
   pub timers : Every (Timed c) (l .timers)
+  pub messages : (t : ℕ) → Every (Sent c) (mailbox l t)
 
 -- ---- requests
 
@@ -59,3 +61,25 @@ timed-kept {l} (startsTimer a b x n s k z f) h = every-insert _ _ (l .timers) (r
 timed-kept (stopsTimers v p) h = every-part p h
 timed-kept (ticks n) h = h
 timed-kept {c} {l} tocks h = renewed-every (Timed c) (suc (l .N)) (l .timers) (every-to (λ t p z. record { task = p .task; semaphore = p .semaphore }) (every-part (part-keep _ _) h)) (every-part (part-keep _ _) h)
+
+-- ---- messages
+
+abbrev Lie : Config → ℕ → List Message → Type 0
+Lie c t box = Every (Sent c) box
+
+pub sent-kept : {c : Config} {X : ℕ → Type 0} {l l′ : Ledger} → Change c X l l′ → ((t : ℕ) → Every (Sent c) (mailbox l t)) → (t : ℕ) → Every (Sent c) (mailbox l′ t)
+unfolding updates
+sent-kept (alters t v a) h = h
+sent-kept (restarts t v a) h = h
+sent-kept (pends b w) h = h
+sent-kept (finishes b u w) h = h
+sent-kept (wakes b t e) h = h
+sent-kept (waits t b n w e) h = h
+sent-kept {c} (delivers t m s n) h = at-put-each (Lie c) _ t _ [] h (every-insert _ m _ s (h t))
+sent-kept {c} (removes t v p) h = at-put-each (Lie c) _ t _ [] h (every-part p (h t))
+sent-kept (putsEntry q e w f) h = h
+sent-kept (takesEntry t q e es n k) h = h
+sent-kept (startsTimer a b x n s k z f) h = h
+sent-kept (stopsTimers v p) h = h
+sent-kept (ticks n) h = h
+sent-kept tocks h = h

@@ -1,5 +1,5 @@
 -- No message lies in the mailboxes twice, and each is one of 1 to G. Every step keeps this, whatever else the ledger holds and whatever the frame:
--- the part of `SoundMessages` that memory of which nothing else is known can be asked for.
+-- the part of the rules about messages (`Named`, `SoundMessages`) that memory of which nothing else is known can be asked for.
 use Prim.Native.Nat.{ℕ, zero, suc, _+_, _*_, _≤_}
 use mathlib.Core.Path.{_≡_, refl, sym, _∙_, subst}
 use mathlib.Core.Bool.{Bool, true, false, cond}
@@ -11,13 +11,15 @@ use lib.Dec.{ltb, eqb}
 use Rattle.ledger.specs.Lists.{at, put, any, insertBy}
 use Rattle.ledger.specs.Config.{Config}
 use Rattle.ledger.specs.Ledger.{Semaphore, PENDING, DONE, WAITING, plain, refused, Request, none, receive, dequeue, enqueue, Message, Timer, Ledger, semaphoreOf, running, setOutcome, setRequest, setSuspended, setMessageWait, fresh}
-use Rattle.ledger.specs.Services.{signalled, signal, woken, wakeWaiter, waited, wait, send, wanted, notEmpty, notFull, takeEntry, putEntry, received, dequeued, enqueued, issue, terminate, execute, purge, insertAgain, expire, expireAll, tock, tick, Code, WAIT, SIGNAL, PEND, SEND, SENDW, RECEIVE, DEQUEUE, ENQUEUE, RESUME, SUSPEND, TERMINATE, EXECUTE, DELAY, TIMER, PURGE, TICK, EXIT, effect}
+use Rattle.ledger.specs.Services.{signal, signalAll, woken, wakeWaiter, waited, wait, send, wanted, notEmpty, notFull, takeEntry, putEntry, received, dropMessages, dequeued, enqueued, issue, terminate, execute, purge, insertAgain, expire, expireAll, tock, tick, Code, WAIT, SIGNAL, PEND, SEND, SENDW, RECEIVE, DEQUEUE, ENQUEUE, RESUME, SUSPEND, TERMINATE, EXECUTE, DELAY, TIMER, PURGE, TICK, EXIT, effect}
 use Rattle.ledger.specs.Refusals.{fields, call, isMessage, inAMailbox, fromInput, fromState, refusal}
 use Rattle.ledger.specs.Session.{openRequest, isOpen, refused21, issueAgain, reissue, settle, accept, step}
 use Rattle.ledger.specs.Theorems.Items.{Numbered}
 use Rattle.ledger.specs.Theorems.Checks.{asked, within-numbered, cond-both, passes}
 use Rattle.ledger.specs.Theorems.Parts.{Part, part-nil, part-without}
 use Rattle.ledger.specs.Theorems.Changes.{updates}
+use Rattle.ledger.specs.Theorems.Signals.{signals-keep}
+use Rattle.ledger.specs.Theorems.Dropped.{signal-boxes}
 use Rattle.ledger.specs.Theorems.Sound.Messages.{copies, deliver-more, deliver-once, remove-less, copies-empty}
 
 pub record Once (c : Config) (boxes : List (List Message)) : Type 0 where
@@ -50,21 +52,14 @@ once-more {c} boxes t m g n h = record {
 abbrev boxes : Ledger → List (List Message)
 boxes l = l .mailboxes
 
-of-signalled : (s : Semaphore) (b : ℕ) (l : Ledger) → boxes (signalled s b l .ledger) ≡ boxes l
-unfolding updates signalled
-of-signalled PENDING b l = refl
-of-signalled DONE b l = refl
-of-signalled (WAITING t) b l = refl
-
-of-signal : (b : ℕ) (l : Ledger) → boxes (signal b l .ledger) ≡ boxes l
-unfolding signal
-of-signal b l = of-signalled (semaphoreOf l b) b l
+of-signalAll : (bs : List ℕ) (l : Ledger) → boxes (signalAll bs l) ≡ boxes l
+of-signalAll bs l = signals-keep (λ m. boxes m ≡ boxes l) (λ b m e. signal-boxes b m ∙ e) bs l refl
 
 of-woken : (s : Semaphore) (b : ℕ) (l : Ledger) → boxes (woken s b l) ≡ boxes l
 unfolding woken
 of-woken PENDING b l = refl
 of-woken DONE b l = refl
-of-woken (WAITING t) b l = of-signal b l
+of-woken (WAITING t) b l = signal-boxes b l
 
 of-wakeWaiter : (b : ℕ) (l : Ledger) → boxes (wakeWaiter b l) ≡ boxes l
 unfolding wakeWaiter
@@ -76,12 +71,12 @@ of-waited PENDING t b l = refl
 of-waited DONE t b l = refl
 of-waited (WAITING u) t b l = refl
 
-of-dequeued : (c : Config) (t q : ℕ) (es : List (List ℕ)) (l : Ledger) → boxes (dequeued c t q es l) ≡ boxes l
+pub of-dequeued : (c : Config) (t q : ℕ) (es : List (List ℕ)) (l : Ledger) → boxes (dequeued c t q es l) ≡ boxes l
 unfolding updates setRequest dequeued
 of-dequeued c t q [] l = refl
 of-dequeued c t q (e ∷ es) l = of-wakeWaiter (notFull c q) (takeEntry c t q e l)
 
-of-enqueued : (c : Config) (t q : ℕ) (e : List ℕ) (b : Bool) (l : Ledger) → boxes (enqueued c t q e b l) ≡ boxes l
+pub of-enqueued : (c : Config) (t q : ℕ) (e : List ℕ) (b : Bool) (l : Ledger) → boxes (enqueued c t q e b l) ≡ boxes l
 unfolding updates setRequest enqueued
 of-enqueued c t q e true l = refl
 of-enqueued c t q e false l = of-wakeWaiter (notEmpty c q) (putEntry q e l)
@@ -92,7 +87,7 @@ of-again t l = cond-both (λ m. boxes m ≡ boxes l) (eqb (t .period) 0) l _ ref
 
 of-expire : (t : Timer) (l : Ledger) → boxes (expire t l) ≡ boxes l
 unfolding expire
-of-expire t l = of-signal (t .semaphore) (insertAgain t l) ∙ of-again t l
+of-expire t l = signal-boxes (t .semaphore) (insertAgain t l) ∙ of-again t l
 
 of-expireAll : (ts : List Timer) (l : Ledger) → boxes (expireAll ts l) ≡ boxes l
 unfolding expireAll
@@ -130,9 +125,9 @@ module _ (c : Config) where
   once-send t a b x l (g, n) h = once-more (boxes l) a (record { number = x; sender = t; semaphore = b }) g n h
 
   once-effect : (k : Code) (s a b x : ℕ) (e : List ℕ) (l : Ledger) → Sends k x l → Once c (boxes l) → Once c (boxes (effect k c s a b x e l))
-  unfolding updates effect wait terminate execute purge setSuspended fields isMessage
+  unfolding updates effect wait dropMessages terminate execute purge setSuspended fields isMessage
   once-effect WAIT s a b x e l g h = as-before (of-waited (semaphoreOf l b) s b l) h
-  once-effect SIGNAL s a b x e l g h = as-before (of-signal b l) h
+  once-effect SIGNAL s a b x e l g h = as-before (signal-boxes b l) h
   once-effect PEND s a b x e l g h = h
   once-effect SEND s a b x e l g h = once-send s a b x l (g refl) h
   once-effect SENDW s a b x e l g h = once-send s a b x l (g refl) h
@@ -141,13 +136,13 @@ module _ (c : Config) where
   once-effect ENQUEUE s a b x e l g h = once-issue s (enqueue a e) l h
   once-effect RESUME s a b x e l g h = h
   once-effect SUSPEND s a b x e l g h = h
-  once-effect TERMINATE s a b x e l g h = once-less (boxes l) a (part-nil _) h
+  once-effect TERMINATE s a b x e l g h = once-less _ a (part-nil _) (as-before (of-signalAll _ _) h)
   once-effect EXECUTE s a b x e l g h = h
   once-effect DELAY s a b x e l g h = h
   once-effect TIMER s a b x e l g h = h
   once-effect PURGE s a b x e l g h = h
   once-effect TICK s a b x e l g h = as-before (of-tick c l) h
-  once-effect EXIT s a b x e l g h = as-before (cond-both (λ m. boxes m ≡ boxes l) (eqb b 0) l (signal b l .ledger) refl (of-signal b l)) h
+  once-effect EXIT s a b x e l g h = as-before (cond-both (λ m. boxes m ≡ boxes l) (eqb b 0) l (signal b l .ledger) refl (signal-boxes b l)) h
 
   -- ---- a frame
 

@@ -2,7 +2,7 @@
 use Prim.Native.Nat.{ℕ, zero, suc, _+_, _<_, _≤_}
 use mathlib.Core.Path.{_≡_, refl}
 use mathlib.Core.Bool.{Bool, true, false, cond, not}
-use mathlib.Core.List.{List, [], _∷_, _++_}
+use mathlib.Core.List.{List, [], _∷_, _++_, map}
 use native.Mathlib.Nat.{le-trans}
 use native.Mathlib.Omega.{arith}
 use borrow.Author.Tests.{ltb-true, ltb-false}
@@ -144,3 +144,11 @@ module _ {A : Type 0} where
           → length (cond b (x ∷ keep p xs) (keep p xs)) + length (cond (not b) (x ∷ keep (λ x. not (p x)) xs) (keep (λ x. not (p x)) xs)) ≡ suc (length xs)
       go true h = omega arith
       go false h = omega arith
+
+pub every-map : {A B : Type 0} {P : B → Type 0} (f : A → B) {xs : List A} → Every (λ x. P (f x)) xs → Every P (map f xs)
+every-map f nil = nil
+every-map f (cons p h) = cons p (every-map f h)
+
+pub every-unmap : {A B : Type 0} {P : B → Type 0} (f : A → B) (xs : List A) → Every P (map f xs) → Every (λ x. P (f x)) xs
+every-unmap f [] nil = nil
+every-unmap f (x ∷ xs) (cons p h) = cons p (every-unmap f xs h)

@@ -9,12 +9,13 @@ use lib.Dec.{ltb, eqb}
 use lib.ListN.{length, length-map, length-replicate}
 use Rattle.ledger.specs.Config.{Config}
 use Rattle.ledger.specs.Ledger.{Semaphore, PENDING, DONE, WAITING, Outcome, plain, refused, woke, Request, none, receive, dequeue, enqueue, Task, Message, Queue, Timer, Ledger, semaphoreOf, running, setTask, setSemaphores, setSemaphore, setMailbox, setQueue, setTimers, setClock, setBlocks, setOutcome, setSlot, setRequest, setSuspended, setEventWait, setMessageWait, fresh}
-use Rattle.ledger.specs.Services.{waitFor, signalled, signal, woken, wakeWaiter, waited, wait, withdrawWait, send, takeEntry, putEntry, received, dequeued, enqueued, issue, terminate, execute, insertTimer, startTimer, purge, insertAgain, expire, expireAll, tock, tick, Code, WAIT, SIGNAL, PEND, SEND, SENDW, RECEIVE, DEQUEUE, ENQUEUE, RESUME, SUSPEND, TERMINATE, EXECUTE, DELAY, TIMER, PURGE, TICK, EXIT, effect}
+use Rattle.ledger.specs.Services.{waitFor, signalled, signal, signalAll, woken, wakeWaiter, waited, wait, withdrawWait, send, takeEntry, putEntry, received, dropMessages, dequeued, enqueued, issue, terminate, execute, insertTimer, startTimer, purge, insertAgain, expire, expireAll, tock, tick, Code, WAIT, SIGNAL, PEND, SEND, SENDW, RECEIVE, DEQUEUE, ENQUEUE, RESUME, SUSPEND, TERMINATE, EXECUTE, DELAY, TIMER, PURGE, TICK, EXIT, effect}
 use Rattle.ledger.specs.Lists.{byte}
 use Rattle.ledger.specs.Refusals.{fields, call, refusal}
 use Rattle.ledger.specs.Session.{Settles, openRequest, isOpen, refused21, issueAgain, reissue, settle, answer, accept, Stepped, step, runFrom, run}
 use Rattle.ledger.specs.Theorems.Items.{put-length}
 use Rattle.ledger.specs.Theorems.Checks.{cond-both}
+use Rattle.ledger.specs.Theorems.Signals.{signals-keep}
 use Rattle.ledger.specs.Theorems.Settling.{settles}
 
 pub record Sizes : Type 0 where
@@ -90,6 +91,9 @@ of-signal : (b : ℕ) (l : Ledger) → sizes (signal b l .ledger) ≡ sizes l
 unfolding signal
 of-signal b l = of-signalled (semaphoreOf l b) b l
 
+of-signalAll : (bs : List ℕ) (l : Ledger) → sizes (signalAll bs l) ≡ sizes l
+of-signalAll bs l = signals-keep (λ m. sizes m ≡ sizes l) (λ b m e. of-signal b m ∙ e) bs l refl
+
 of-woken : (s : Semaphore) (b : ℕ) (l : Ledger) → sizes (woken s b l) ≡ sizes l
 unfolding woken
 of-woken PENDING b l = refl
@@ -150,7 +154,7 @@ unfolding tick tock
 of-tick c l = cond-both (λ m. sizes m ≡ sizes l) (ltb (suc (l .ticks)) (c .K)) _ _ (of-clock _ _ l) (simp (of-expireAll, items))
 
 of-effect : (k : Code) (c : Config) (s a b x : ℕ) (e : List ℕ) (l : Ledger) → sizes (effect k c s a b x e l) ≡ sizes l
-unfolding effect wait terminate execute startTimer insertTimer purge
+unfolding effect wait dropMessages terminate execute startTimer insertTimer purge
 of-effect WAIT c s a b x e l = simp (of-outcome, of-waited)
 of-effect SIGNAL c s a b x e l = of-outcome s (woke (signal b l .woke)) (signal b l .ledger) ∙ of-signal b l
 of-effect PEND c s a b x e l = simp items
@@ -161,7 +165,7 @@ of-effect DEQUEUE c s a b x e l = of-issue c s _ l
 of-effect ENQUEUE c s a b x e l = of-issue c s _ l
 of-effect RESUME c s a b x e l = of-suspended a false l
 of-effect SUSPEND c s a b x e l = of-suspended a true l
-of-effect TERMINATE c s a b x e l = simp (of-withdraw, items)
+of-effect TERMINATE c s a b x e l = simp (of-signalAll, of-withdraw, items)
 of-effect EXECUTE c s a b x e l = simp (of-withdraw, items)
 of-effect DELAY c s a b x e l = simp (of-waitFor, items)
 of-effect TIMER c s a b x e l = simp items

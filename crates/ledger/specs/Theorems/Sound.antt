@@ -29,7 +29,7 @@ use Slots.{SoundSlots, slots-kept, slots-fresh}
 pub record Sound (c : Config) (l : Ledger) : Type 0 where
   -- T tasks and mailboxes, S + T + 2Q semaphores, Q queues
   pub sized : sizes l ≡ sizesOf c
-  -- open requests and timers name what exists, and an enqueue's bytes have its queue's width
+  -- open requests, timers and messages name what exists, and an enqueue's bytes have its queue's width
   pub named : Named c l
   -- fewer than K ticks in the present tock
   pub ticks : l .ticks < c .K
@@ -37,8 +37,8 @@ pub record Sound (c : Config) (l : Ledger) : Type 0 where
   pub timers : SoundTimers c (l .N) (l .timers)
   -- entries have the queue's width, at most depth are held, and handed out followed by held is put
   pub queues : SoundQueues c l
-  -- messages 1 to G from and for what exists, none twice, each mailbox in order
-  pub messages : SoundMessages c (l .mailboxes)
+  -- no message twice, each mailbox in order
+  pub messages : SoundMessages (l .mailboxes)
   -- WAITING only for a task with event wait, one semaphore a task; queue semaphores never DONE
   pub waits : SoundWaits c (l .tasks) (l .semaphores)
   -- slots of 16 bytes, an entry outcome is the slot's front
@@ -83,7 +83,7 @@ sound-step c g f b l s =
       ticks = step-kept c Word (λ l. l .ticks < c .K) (ticks-kept (g .ticks .from)) f l x (s .named, s .ticks) .1;
       timers = step-kept c Word (λ l. SoundTimers c (l .N) (l .timers)) timers-kept f l x (s .named, s .timers) .1;
       queues = t .1 .1;
-      messages = step-kept c Word (λ l. SoundMessages c (l .mailboxes)) messages-kept f l x (s .named, s .messages) .1;
+      messages = step-kept c Word (λ l. SoundMessages (l .mailboxes)) messages-kept f l x (s .named, s .messages) .1;
       waits = t .1 .0;
       slots = t .1 .2;
     }

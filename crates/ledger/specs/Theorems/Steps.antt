@@ -9,16 +9,17 @@ use borrow.Author.Tests.{ltb-true, not-true}
 use lib.Dec.{ltb, eqb}
 use Rattle.ledger.specs.Lists.{at, find, word}
 use Rattle.ledger.specs.Config.{Config}
-use Rattle.ledger.specs.Ledger.{Semaphore, PENDING, DONE, WAITING, Outcome, plain, begin, message, entry, refused, semaphore, woke, Request, none, receive, dequeue, enqueue, Task, Message, Timer, Ledger, nullTask, task, semaphoreOf, mailbox, queue, held, runnable, running, setTask, setSemaphores, setMailbox, setTimers, setClock, setBlocks, setOutcome, setRequest, setSuspended, setMessageWait}
-use Rattle.ledger.specs.Services.{signalled, signal, woken, wakeWaiter, waited, wait, withdrawWait, send, wanted, notEmpty, notFull, empty, full, received, dequeued, enqueued, issue, terminate, execute, insertTimer, startTimer, purge, tock, tick, Code, WAIT, SIGNAL, PEND, SEND, SENDW, RECEIVE, DEQUEUE, ENQUEUE, RESUME, SUSPEND, TERMINATE, EXECUTE, DELAY, TIMER, PURGE, TICK, EXIT, effect}
+use Rattle.ledger.specs.Ledger.{Semaphore, PENDING, DONE, WAITING, Outcome, plain, begin, message, entry, refused, semaphore, woke, Request, none, receive, dequeue, enqueue, Task, Message, Ledger, nullTask, task, semaphoreOf, mailbox, queue, held, runnable, running, setTask, setSemaphores, setMailbox, setTimers, setClock, setBlocks, setOutcome, setRequest, setSuspended, setMessageWait}
+use Rattle.ledger.specs.Services.{signalled, signal, signalAll, woken, wakeWaiter, waited, wait, withdrawWait, send, wanted, notEmpty, notFull, empty, full, received, dropMessages, dequeued, enqueued, issue, terminate, execute, insertTimer, startTimer, purge, tock, tick, Code, WAIT, SIGNAL, PEND, SEND, SENDW, RECEIVE, DEQUEUE, ENQUEUE, RESUME, SUSPEND, TERMINATE, EXECUTE, DELAY, TIMER, PURGE, TICK, EXIT, effect}
 use Rattle.ledger.specs.Refusals.{Follows, xAlone, xAndEntry, Call, fields, valueX, meets25, wouldWaitOn, isWaiting, meets21, inAMailbox, idleOrWaiting, onNotEmpty, onNotFull, call, refusal}
 use Rattle.ledger.specs.Session.{openRequest, isOpen, refused21, issueAgain, reissue, accept}
 use Rattle.ledger.specs.Theorems.Items.{Numbered, at-put-part}
 use Rattle.ledger.specs.Theorems.Checks.{and-left, and-right, or-left, or-right}
-use Rattle.ledger.specs.Theorems.Parts.{Every, nil, cons, part-nil, part-keep, part-without, every-part}
-use Rattle.ledger.specs.Theorems.Tocks.{signalAll, tock-is}
+use Rattle.ledger.specs.Theorems.Parts.{Every, nil, cons, part-nil, part-keep, part-without, every-to, every-part, every-map}
+use Rattle.ledger.specs.Theorems.Tocks.{tock-is}
 use Rattle.ledger.specs.Theorems.Accepted.{Accepted, accepted}
 use Rattle.ledger.specs.Theorems.Named.{Timed, Named}
+use Rattle.ledger.specs.Theorems.Terminated.{ended, terminate-is}
 use Rattle.ledger.specs.Theorems.Settling.{running-named, running-runs}
 use Rattle.ledger.specs.Theorems.Changes.{Asks, Sent, alters, restarts, pends, finishes, wakes, waits, delivers, removes, putsEntry, takesEntry, startsTimer, stopsTimers, ticks, tocks, Changes, start, _⨾_}
 
@@ -128,10 +129,20 @@ module _ {c : Config} {X : ℕ → Type 0} {l₀ : Ledger} where
   issues t (dequeue q) l a s w m k = dequeues t q (held (queue l q)) l refl a s w m k
   issues t (enqueue q e) l a s w m k = enqueues t q e (full c l q) l refl a s w m k
 
-  signals-all : (ts : List Timer) (l : Ledger) → Every (Timed c) ts → Changes c X l₀ l → Changes c X l₀ (signalAll ts l)
+  signals-all : (bs : List ℕ) (l : Ledger) → Every (λ b. b ≤ c .S + c .T) bs → Changes c X l₀ l → Changes c X l₀ (signalAll bs l)
   unfolding signalAll
   signals-all [] l nil k = k
-  signals-all (t ∷ ts) l (cons n ns) k = signals-all ts (signal (t .semaphore) l .ledger) ns (signals (t .semaphore) l (n .semaphore .upto) k)
+  signals-all (b ∷ bs) l (cons n ns) k = signals-all bs (signal b l .ledger) ns (signals b l n k)
+
+  drops : (t : ℕ) (l : Ledger) → Every (Sent c) (mailbox l t) → Changes c X l₀ l → Changes c X l₀ (dropMessages t l)
+  unfolding dropMessages
+  drops t l h k = signals-all _ l (every-map (λ m. m .semaphore) (every-to (λ m s. s .semaphore .upto) h)) k ⨾ removes t [] (part-nil _)
+
+  terminates : (a : ℕ) (l : Ledger) → Every (Sent c) (mailbox l a) → Changes c X l₀ l → Changes c X l₀ (terminate a l)
+  unfolding setTimers setTask withdrawWait setSemaphores mailbox
+  terminates a l h k =
+      subst (Changes c X l₀) (sym (terminate-is a l))
+      (drops a _ h (k ⨾ restarts a (ended (task l a)) (record { slot = refl; outcome = λ e o. no-entry plain e refl o; request = refl }) ⨾ stopsTimers _ (part-keep _ _)))
 
   ticked : (l : Ledger) → Every (Timed c) (l .timers) → Changes c X l₀ l → Changes c X l₀ (tick c l)
   unfolding tick setClock
@@ -139,7 +150,7 @@ module _ {c : Config} {X : ℕ → Type 0} {l₀ : Ledger} where
     where
       go : (b : Bool) → ltb (suc (l .ticks)) (c .K) ≡ b → Changes c X l₀ (cond b (setClock (l .N) (suc (l .ticks)) l) (tock (setClock (suc (l .N)) 0 l)))
       go true e = k ⨾ ticks (ltb-true (suc (l .ticks)) (c .K) e)
-      go false e = rw (tock-is (setClock (suc (l .N)) 0 l)) (signals-all _ _ (every-part (part-keep _ _) h) (k ⨾ tocks))
+      go false e = rw (tock-is (setClock (suc (l .N)) 0 l)) (signals-all _ _ (every-map (λ t. t .semaphore) (every-to (λ t s. s .semaphore .upto) (every-part (part-keep _ _) h))) (k ⨾ tocks))
 
 -- ---- an accepted frame
 
@@ -165,7 +176,7 @@ module _ (c : Config) (X : ℕ → Type 0) (self a b x : ℕ) (e : List ℕ) (l 
   unless-0 false h = signals b l h start
 
   effects : (k : Code) → X x → Named c l → Accepted c l (called k) → Effect k
-  unfolding effect fields meets25 wait terminate execute withdrawWait setSemaphores setTimers setMailbox setTask setOutcome semaphoreOf startTimer insertTimer purge meets21 wouldWaitOn refused21 empty full queue inAMailbox send setMessageWait setBlocks task
+  unfolding effect fields meets25 wait execute withdrawWait setSemaphores setTimers setMailbox setTask setOutcome semaphoreOf mailbox startTimer insertTimer purge meets21 wouldWaitOn refused21 empty full queue inAMailbox send setMessageWait setBlocks task
   effects WAIT h n g = shows self (semaphore b) _ refl (waited-by (semaphoreOf l b) self b _ refl (g .self refl .number) (self-unwaiting WAIT refl g) plainly)
   effects SIGNAL h n g = shows self (woke _) _ refl (signals b _ (g .B .upto) plainly)
   effects PEND h n g = plainly ⨾ pends b (g .not21)
@@ -178,8 +189,7 @@ module _ (c : Config) (X : ℕ → Type 0) (self a b x : ℕ) (e : List ℕ) (l 
   effects ENQUEUE h n g = issues self (enqueue a e) _ (g .A, g .entry) (g .self refl .number) (self-unwaiting ENQUEUE refl g) (g .not21) plainly
   effects RESUME h n g = suspends a false _ plainly
   effects SUSPEND h n g = suspends a true _ plainly
-  effects TERMINATE h n g =
-      plainly ⨾ restarts a _ (record { slot = refl; outcome = λ e o. no-entry plain e refl o; request = refl }) ⨾ removes a [] (part-nil _) ⨾ stopsTimers _ (part-keep _ _)
+  effects TERMINATE h n g = terminates a _ (n .messages a) plainly
   effects EXECUTE h n g = plainly ⨾ restarts a _ (record { slot = refl; outcome = λ e o. no-entry begin e refl o; request = refl })
   effects DELAY h n g =
       plainly ⨾ startsTimer a b x (g .A) (g .B) h (g .X .some) (g .X .free) ⨾ waits a b (g .A) (unwaiting a (idle-unwaiting l a (g .not25))) (g .not21)

@@ -2,12 +2,12 @@
 use Prim.Native.Nat.{ℕ, _+_}
 use mathlib.Core.Path.{_≡_, refl, sym, _∙_, ap}
 use mathlib.Core.Bool.{Bool, true, false, cond, not}
-use mathlib.Core.List.{List, [], _∷_}
+use mathlib.Core.List.{List, [], _∷_, map}
 use borrow.Author.Tests.{eqb-false}
 use lib.Dec.{eqb, leb}
 use Rattle.ledger.specs.Lists.{keep, insertBy}
 use Rattle.ledger.specs.Ledger.{Semaphore, PENDING, DONE, WAITING, Timer, Ledger, task, semaphoreOf, setTask, setSemaphores, setSemaphore, setTimers, setBlocks, setEventWait}
-use Rattle.ledger.specs.Services.{signalled, signal, insertTimer, insertAgain, expire, expireAll, due, tock}
+use Rattle.ledger.specs.Services.{signalled, signal, signalAll, insertTimer, insertAgain, expire, expireAll, due, tock}
 use Rattle.ledger.specs.Theorems.Parts.{Every, nil, cons, every-insert}
 
 -- a cyclic timer as it is inserted again at tock n, and the timers after one that was due
@@ -28,9 +28,9 @@ dueAt n t = leb (t .due) n
 unfoldable pub renewed : ℕ → List Timer → List Timer
 renewed n ts = renewAll n (keep (dueAt n) ts) (keep (λ t. not (dueAt n t)) ts)
 
-unfoldable pub signalAll : List Timer → Ledger → Ledger
-signalAll [] l = l
-signalAll (t ∷ ts) l = signalAll ts (signal (t .semaphore) l .ledger)
+-- the semaphores that timers signal
+abbrev pub signalledBy : List Timer → List ℕ
+signalledBy ts = map (λ t. t .semaphore) ts
 
 signalled-timers : (s : Semaphore) (b : ℕ) (v : List Timer) (l : Ledger) → signalled s b (setTimers v l) .ledger ≡ setTimers v (signalled s b l .ledger)
 unfolding signalled setSemaphore setSemaphores setTimers setEventWait setBlocks setTask task
@@ -64,16 +64,16 @@ expire-is : (t : Timer) (l : Ledger) → expire t l ≡ setTimers (renew (l .N) 
 unfolding expire
 expire-is t l = ap (λ m. signal (t .semaphore) m .ledger) (insertAgain-is t l) ∙ signal-timers (t .semaphore) (renew (l .N) t (l .timers)) l
 
-expireAll-is : (ts : List Timer) (l : Ledger) → expireAll ts l ≡ signalAll ts (setTimers (renewAll (l .N) ts (l .timers)) l)
+expireAll-is : (ts : List Timer) (l : Ledger) → expireAll ts l ≡ signalAll (signalledBy ts) (setTimers (renewAll (l .N) ts (l .timers)) l)
 unfolding expireAll signalAll renewAll setTimers
 expireAll-is [] l = refl
 expireAll-is (t ∷ ts) l =
     let s = signal (t .semaphore) l .ledger in
     let v = renew (l .N) t (l .timers) in
-    ap (expireAll ts) (expire-is t l) ∙ expireAll-is ts (setTimers v s) ∙ ap (λ n. signalAll ts (setTimers (renewAll n ts v) s)) (signal-N (t .semaphore) l)
-    ∙ ap (signalAll ts) (sym (signal-timers (t .semaphore) (renewAll (l .N) ts v) l))
+    ap (expireAll ts) (expire-is t l) ∙ expireAll-is ts (setTimers v s) ∙ ap (λ n. signalAll (signalledBy ts) (setTimers (renewAll n ts v) s)) (signal-N (t .semaphore) l)
+    ∙ ap (signalAll (signalledBy ts)) (sym (signal-timers (t .semaphore) (renewAll (l .N) ts v) l))
 
-pub tock-is : (l : Ledger) → tock l ≡ signalAll (keep (dueAt (l .N)) (l .timers)) (setTimers (renewed (l .N) (l .timers)) l)
+pub tock-is : (l : Ledger) → tock l ≡ signalAll (signalledBy (keep (dueAt (l .N)) (l .timers))) (setTimers (renewed (l .N) (l .timers)) l)
 unfolding tock renewed due dueAt setTimers
 tock-is l = expireAll-is (keep (due l) (l .timers)) (setTimers (keep (λ t. not (due l t)) (l .timers)) l)
 

@@ -20,7 +20,7 @@ use Rattle.ledger.specs.Theorems.Sizes.{sizes, of-accept}
 use Rattle.ledger.specs.Theorems.Sound.{Sound}
 use Rattle.ledger.specs.Theorems.Sound.Waits.{SoundWaits, put-waits}
 
-abbrev waits : Ledger → ℕ → Bool
+abbrev pub waits : Ledger → ℕ → Bool
 waits l t = task l t .blocks .eventWait
 
 -- between two ledgers task t, and no other, lost its event wait; or t is 0 and none did
@@ -94,7 +94,7 @@ pub record Told (c : Config) (f : List ℕ) (l : Ledger) : Type 0 where
   pub request : task (accept c f l) (running l) .request ≡ task l (running l) .request
 
 -- the accepted frame, by its code
-abbrev acceptAs : Config → List ℕ → Ledger → Code → Ledger
+abbrev pub acceptAs : Config → List ℕ → Ledger → Code → Ledger
 acceptAs c f l k =
     let self = running l in
     let u = fields k in

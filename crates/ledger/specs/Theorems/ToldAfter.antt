@@ -1,16 +1,15 @@
 -- Whom a signal request tells, after its frame: settling leaves the caller's outcome, since the caller has no open request.
 use Prim.Native.Nat.{ℕ}
-use mathlib.Core.Path.{_≡_, sym, _∙_, ap}
+use mathlib.Core.Path.{_≡_, _∙_, ap}
 use mathlib.Core.Bool.{false}
-use mathlib.Core.List.{List, [], _∷_}
-use lib.Dec.{eqb}
+use mathlib.Core.List.{List}
 use borrow.Author.Tests.{eq-eqb}
 use Rattle.ledger.specs.Lists.{byte}
 use Rattle.ledger.specs.Config.{Config, configIn, configRefusal}
-use Rattle.ledger.specs.Ledger.{plain, woke, Task, Ledger, nullTask, task, running, setOutcome, fresh}
+use Rattle.ledger.specs.Ledger.{woke, Ledger, task, running}
 use Rattle.ledger.specs.Services.{SIGNAL}
 use Rattle.ledger.specs.Refusals.{codeAt, refusal}
-use Rattle.ledger.specs.Session.{openRequest, isOpen, accept, step, runFrom, run}
+use Rattle.ledger.specs.Session.{openRequest, isOpen, accept, step, run}
 use Rattle.ledger.specs.Theorems.Parts.{Every}
 use Rattle.ledger.specs.Theorems.Configured.{configured}
 use Rattle.ledger.specs.Theorems.Settling.{settles}
@@ -19,9 +18,9 @@ use Rattle.ledger.specs.Theorems.Steps.{accepts}
 use Rattle.ledger.specs.Theorems.Kept.{through, named-through}
 use Rattle.ledger.specs.Theorems.Sound.{Bytes, Sound, sound}
 use Rattle.ledger.specs.Theorems.Sound.Queues.{SoundQueues, queues-kept}
-use Rattle.ledger.specs.Theorems.Untaken.{Beside, beside}
-use Rattle.ledger.specs.Theorems.HandedOver.{settling, Ready, ready-step, ready-fresh}
-use Rattle.ledger.specs.Theorems.Told.{Lost, Told, request-tells}
+use Rattle.ledger.specs.Theorems.Untaken.{Beside}
+use Rattle.ledger.specs.Theorems.HandedOver.{settling, Ready, ready-run}
+use Rattle.ledger.specs.Theorems.Told.{Lost, request-tells}
 
 -- the caller's outcome after the frame is the task that lost its event wait by the signal, before settling, or 0 if none did
 pub record Tells (c : Config) (f : List ℕ) (l : Ledger) : Type 0 where
@@ -39,15 +38,10 @@ tells c f l r h z e =
     let shut : isOpen (task (accept c f l) (running l) .request) ≡ false = ap isOpen (t .request) ∙ r .closed in
     record { whom = t .whom; outcome = rw (eq-eqb (refusal c l f) 0 z) (ap (λ (b : Beside). b .outcome) (s .still (running l) shut)) ∙ t .outcome; lost = t .lost }
 
-ready-from : (c : Config) (l : Ledger) (fs : List (List ℕ)) → Ready c l → Ready c (runFrom c l fs .0)
-unfolding runFrom
-ready-from c l [] r = r
-ready-from c l (f ∷ fs) r = ready-from c (step c f l .ledger) fs (ready-step c f l r)
-
 -- behind every list of frames of bytes
 pub signal-tells : (g : List ℕ) → configRefusal g ≡ 0 → {fs : List (List ℕ)} → Every Bytes fs → (f : List ℕ)
     → let c = configIn g in let l = run c fs .0 in refusal c l f ≡ 0 → codeAt (byte 0 f) ≡ SIGNAL → Tells c f l
 unfolding run
 signal-tells g h {fs} bytes f z e =
     let c = configIn g in
-    tells c f (run c fs .0) (ready-from c (fresh c) fs (ready-fresh c (configured g h .states))) (sound g h bytes) z e
+    tells c f (run c fs .0) (ready-run c (configured g h .states) fs) (sound g h bytes) z e

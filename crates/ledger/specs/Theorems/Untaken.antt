@@ -8,9 +8,10 @@ use mathlib.Core.Option.{Option, none as nothing, some}
 use lib.Dec.{ltb, eqb}
 use Rattle.ledger.specs.Config.{Config}
 use Rattle.ledger.specs.Ledger.{Semaphore, PENDING, DONE, WAITING, Outcome, Request, Task, Message, Timer, Ledger, nullTask, emptyQueue, task, semaphoreOf, queue, setTask, setSemaphores, setSemaphore, setMailbox, setTimers, setClock, setBlocks, setOutcome, setRequest, setSuspended, setEventWait, setMessageWait}
-use Rattle.ledger.specs.Services.{waitFor, signalled, signal, woken, wakeWaiter, waited, wait, withdrawWait, send, notEmpty, notFull, putEntry, received, enqueued, issue, terminate, execute, insertTimer, startTimer, purge, insertAgain, expire, expireAll, tock, tick, Code, WAIT, SIGNAL, PEND, SEND, SENDW, RECEIVE, DEQUEUE, ENQUEUE, RESUME, SUSPEND, TERMINATE, EXECUTE, DELAY, TIMER, PURGE, TICK, EXIT, effect}
+use Rattle.ledger.specs.Services.{waitFor, signalled, signal, signalAll, woken, wakeWaiter, waited, wait, withdrawWait, send, notEmpty, notFull, putEntry, received, dropMessages, enqueued, issue, terminate, execute, insertTimer, startTimer, purge, insertAgain, expire, expireAll, tock, tick, Code, WAIT, SIGNAL, PEND, SEND, SENDW, RECEIVE, DEQUEUE, ENQUEUE, RESUME, SUSPEND, TERMINATE, EXECUTE, DELAY, TIMER, PURGE, TICK, EXIT, effect}
 use Rattle.ledger.specs.Theorems.Items.{at-put-part}
 use Rattle.ledger.specs.Theorems.Checks.{cond-both}
+use Rattle.ledger.specs.Theorems.Signals.{signals-keep}
 use Rattle.ledger.specs.Theorems.Changes.{updates}
 
 -- a task beside its blocks
@@ -95,6 +96,13 @@ of-signal : (b : ℕ) (l : Ledger) → view (signal b l .ledger) ≡ view l
 unfolding signal
 of-signal b l = of-signalled (semaphoreOf l b) b l
 
+of-signalAll : (bs : List ℕ) (l : Ledger) → view (signalAll bs l) ≡ view l
+of-signalAll bs l = signals-keep (λ m. view m ≡ view l) (λ b m e. of-signal b m ∙ e) bs l refl
+
+pub of-drop : (t : ℕ) (l : Ledger) → view (dropMessages t l) ≡ view l
+unfolding dropMessages
+of-drop t l = of-mailbox t _ _ ∙ of-signalAll _ l
+
 of-woken : (s : Semaphore) (b : ℕ) (l : Ledger) → view (woken s b l) ≡ view l
 unfolding woken
 of-woken PENDING b l = refl
@@ -173,7 +181,7 @@ slots-effect DEQUEUE c s a b x e l = inl refl
 slots-effect ENQUEUE c s a b x e l = inr (slots-enqueued c s a e _ l)
 slots-effect RESUME c s a b x e l = inr (ap slotsOf (of-suspended a false l))
 slots-effect SUSPEND c s a b x e l = inr (ap slotsOf (of-suspended a true l))
-slots-effect TERMINATE c s a b x e l = inr (restarted a _ l _ (simp items) refl)
+slots-effect TERMINATE c s a b x e l = inr (restarted a _ l _ (simp (of-drop, items)) refl)
 slots-effect EXECUTE c s a b x e l = inr (restarted a _ l _ (simp items) refl)
 slots-effect DELAY c s a b x e l = inr (ap slotsOf (of-waitFor a b _ ∙ of-timers _ l))
 slots-effect TIMER c s a b x e l = inr (ap slotsOf (of-timers _ l))

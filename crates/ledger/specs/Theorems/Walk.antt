@@ -10,11 +10,12 @@ use borrow.Author.Tests.{eqb-true}
 use Rattle.ledger.specs.Lists.{at, put, byte, find}
 use Rattle.ledger.specs.Config.{Config}
 use Rattle.ledger.specs.Ledger.{Semaphore, PENDING, DONE, WAITING, Outcome, plain, begin, message, entry, refused, semaphore, woke, Request, none, receive, dequeue, enqueue, Task, Message, Timer, Ledger, nullTask, task, semaphoreOf, mailbox, queue, held, running, setOutcome, setRequest, setSuspended, setMessageWait}
-use Rattle.ledger.specs.Services.{signalled, signal, woken, wakeWaiter, waited, wait, send, wanted, notEmpty, notFull, full, takeEntry, putEntry, received, dequeued, enqueued, issue, terminate, execute, purge, insertAgain, expire, expireAll, tock, tick, Code, WAIT, SIGNAL, PEND, SEND, SENDW, RECEIVE, DEQUEUE, ENQUEUE, RESUME, SUSPEND, TERMINATE, EXECUTE, DELAY, TIMER, PURGE, TICK, EXIT, effect}
+use Rattle.ledger.specs.Services.{signalled, signal, signalAll, woken, wakeWaiter, waited, wait, send, wanted, notEmpty, notFull, full, takeEntry, putEntry, received, dropMessages, dequeued, enqueued, issue, terminate, execute, purge, insertAgain, expire, expireAll, tock, tick, Code, WAIT, SIGNAL, PEND, SEND, SENDW, RECEIVE, DEQUEUE, ENQUEUE, RESUME, SUSPEND, TERMINATE, EXECUTE, DELAY, TIMER, PURGE, TICK, EXIT, effect}
 use Rattle.ledger.specs.Refusals.{fields, codeAt, call, refusal}
 use Rattle.ledger.specs.Session.{openRequest, isOpen, refused21, issueAgain, reissue, settle, accept, step}
 use Rattle.ledger.specs.Theorems.Items.{at-put-each}
 use Rattle.ledger.specs.Theorems.Checks.{cond-both}
+use Rattle.ledger.specs.Theorems.Signals.{signals-keep}
 use Rattle.ledger.specs.Theorems.Changes.{updates}
 
 abbrev pub isWoke : Outcome → Bool
@@ -68,6 +69,9 @@ module _ (u : ℕ) (P : Task → Type 0) (bears : Bears P) where
   of-signal : (b : ℕ) (l : Ledger) → Of u P (signal b l .ledger .tasks) → Of u P (l .tasks)
   unfolding signal
   of-signal b l h = of-signalled (semaphoreOf l b) b l h
+
+  of-signalAll : (bs : List ℕ) (l : Ledger) → Of u P (signalAll bs l .tasks) → Of u P (l .tasks)
+  of-signalAll bs l = signals-keep (λ m. Of u P (m .tasks) → Of u P (l .tasks)) (λ b m k h. k (of-signal b m h)) bs l (λ h. h)
 
   of-woken : (s : Semaphore) (b : ℕ) (l : Ledger) → Of u P (woken s b l .tasks) → Of u P (l .tasks)
   unfolding woken
@@ -129,7 +133,7 @@ module _ (u : ℕ) (P : Task → Type 0) (bears : Bears P) where
   -- ---- a frame
 
   of-effect : (k : Code) (c : Config) (self a b x : ℕ) (e : List ℕ) (l : Ledger) → (k ≡ SIGNAL → Tells u P self) → (k ≡ EXECUTE → Begins u P a) → Of u P (effect k c self a b x e l .tasks) → Of u P (l .tasks)
-  unfolding updates setSuspended effect wait terminate execute purge
+  unfolding updates setSuspended effect wait dropMessages terminate execute purge
   of-effect WAIT c self a b x e l tells begins h = of-waited (semaphoreOf l b) self b l (sets self _ _ refl refl h)
   of-effect SIGNAL c self a b x e l tells begins h = of-signal b l (tells refl _ _ refl h)
   of-effect PEND c self a b x e l tells begins h = h
@@ -140,7 +144,7 @@ module _ (u : ℕ) (P : Task → Type 0) (bears : Bears P) where
   of-effect ENQUEUE c self a b x e l tells begins h = of-issue c self (enqueue a e) l h
   of-effect RESUME c self a b x e l tells begins h = keeps a _ _ refl refl h
   of-effect SUSPEND c self a b x e l tells begins h = keeps a _ _ refl refl h
-  of-effect TERMINATE c self a b x e l tells begins h = terminates a _ _ refl refl h
+  of-effect TERMINATE c self a b x e l tells begins h = of-signalAll _ _ (terminates a _ _ refl refl h)
   of-effect EXECUTE c self a b x e l tells begins h = begins refl _ _ refl h
   of-effect DELAY c self a b x e l tells begins h = keeps a _ _ refl refl h
   of-effect TIMER c self a b x e l tells begins h = h

@@ -27,7 +27,7 @@ part-find-end c = lies (c .before .before .before .before .pre .0) .within
 find-requires : tie.Need-find-requires
 find-requires c κs =
     let s = c .before .before .before .before .before in
-    (bytes-bounded (now (s .args .tables)) (s .pre .0) (c .before .before .count .ensures .1), s .pre .1 .0, s .pre .1 .1)
+    (bytes-bounded (now (s .args .tables)) (s .pre .0) (c .before .before .count .ensures .1), omega (arith, s .pre .1 .0, s .pre .1 .1), omega (arith, s .pre .1 .0, s .pre .1 .1))
 
 same-length : tie.Need-same-length
 same-length c = search needs

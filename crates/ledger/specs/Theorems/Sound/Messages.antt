@@ -1,4 +1,4 @@
--- Messages: each has a number of 1 to G, a sender and a semaphore that exist; each mailbox is ordered by sender; and no message lies in the mailboxes twice.
+-- Messages: each mailbox is ordered by sender, and no message lies in the mailboxes twice. (What they name exists: Named.)
 -- To send one, it must lie in none (22), and every other change only takes messages out.
 use Prim.Native.Nat.{ℕ, zero, suc, _+_, _<_, _≤_}
 use mathlib.Core.Path.{_≡_, refl, sym, subst}
@@ -14,9 +14,9 @@ use Rattle.ledger.specs.Ledger.{Message, Ledger, mailbox, fresh}
 use Rattle.ledger.specs.Refusals.{inAMailbox}
 use Rattle.ledger.specs.Theorems.Items.{Numbered, at-put-each}
 use Rattle.ledger.specs.Theorems.Checks.{or-left, or-right}
-use Rattle.ledger.specs.Theorems.Parts.{Every, nil, Part, skip, both, Ordered, every-part, every-insert, ordered-part, ordered-insert}
+use Rattle.ledger.specs.Theorems.Parts.{nil, Part, skip, both, Ordered, ordered-part, ordered-insert}
 use Rattle.ledger.specs.Theorems.Fresh.{fresh-mailbox}
-use Rattle.ledger.specs.Theorems.Changes.{Sent, Change, alters, restarts, pends, finishes, wakes, waits, delivers, removes, putsEntry, takesEntry, startsTimer, stopsTimers, ticks, tocks, updates}
+use Rattle.ledger.specs.Theorems.Changes.{Change, alters, restarts, pends, finishes, wakes, waits, delivers, removes, putsEntry, takesEntry, startsTimer, stopsTimers, ticks, tocks, updates}
 
 -- how many messages with a number lie in a mailbox, and in all
 is : ℕ → Message → ℕ
@@ -31,8 +31,7 @@ unfolding is count
 copies x [] = 0
 copies x (box ∷ boxes) = count x box + copies x boxes
 
-pub record SoundMessages (c : Config) (boxes : List (List Message)) : Type 0 where
-  pub each : (t : ℕ) → Every (Sent c) (at boxes t [])
+pub record SoundMessages (boxes : List (List Message)) : Type 0 where
   pub ordered : (t : ℕ) → Ordered (λ m. m .sender) (at boxes t [])
   pub once : (x : ℕ) → copies x boxes ≤ 1
 
@@ -113,13 +112,10 @@ unfolding put at
 front-more x boxes zero m h = absurd (omega arith)
 front-more x boxes (suc n) m h = copies-front x boxes n m (omega arith)
 
-abbrev EachAt : Config → ℕ → List Message → Type 0
-EachAt c t box = Every (Sent c) box
-
 abbrev OrderedAt : ℕ → List Message → Type 0
 OrderedAt t box = Ordered (λ m. m .sender) box
 
-pub messages-kept : {c : Config} {X : ℕ → Type 0} (l l′ : Ledger) → Change c X l l′ → SoundMessages c (l .mailboxes) → SoundMessages c (l′ .mailboxes)
+pub messages-kept : {c : Config} {X : ℕ → Type 0} (l l′ : Ledger) → Change c X l l′ → SoundMessages (l .mailboxes) → SoundMessages (l′ .mailboxes)
 unfolding updates inAMailbox
 messages-kept l l′ (alters t v a) h = h
 messages-kept l l′ (restarts t v a) h = h
@@ -127,13 +123,11 @@ messages-kept l l′ (pends b w) h = h
 messages-kept l l′ (finishes b u w) h = h
 messages-kept l l′ (wakes b t e) h = h
 messages-kept l l′ (waits t b n w e) h = h
-messages-kept {c} l l′ (delivers t m s n) h = record {
-  each = at-put-each (EachAt c) (l .mailboxes) t _ [] (h .each) (every-insert _ m _ s (h .each t));
+messages-kept l l′ (delivers t m s n) h = record {
   ordered = at-put-each OrderedAt (l .mailboxes) t _ [] (h .ordered) (ordered-insert _ m _ (h .ordered t));
   once = λ x. deliver-once x (l .mailboxes) t m (h .once x) n;
 }
-messages-kept {c} l l′ (removes t v p) h = record {
-  each = at-put-each (EachAt c) (l .mailboxes) t v [] (h .each) (every-part p (h .each t));
+messages-kept l l′ (removes t v p) h = record {
   ordered = at-put-each OrderedAt (l .mailboxes) t v [] (h .ordered) (ordered-part p (h .ordered t));
   once = λ x. omega (arith, copies-put x (l .mailboxes) t v, count-part x p, h .once x);
 }
@@ -149,10 +143,9 @@ unfolding copies count
 copies-empty x zero = refl
 copies-empty x (suc n) = omega (arith, copies-empty x n)
 
-pub messages-fresh : (c : Config) → SoundMessages c (fresh c .mailboxes)
+pub messages-fresh : (c : Config) → SoundMessages (fresh c .mailboxes)
 unfolding fresh mailbox
 messages-fresh c = record {
-  each = λ t. subst (Every (Sent c)) (sym (fresh-mailbox c t)) nil;
   ordered = λ t. subst (Ordered (λ m. m .sender)) (sym (fresh-mailbox c t)) nil;
   once = λ x. omega (arith, copies-empty x (c .T));
 }

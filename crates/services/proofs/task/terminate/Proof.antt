@@ -1,11 +1,9 @@
--- `terminate` withdraws the wait, takes out the timers, empties the mailbox, and sets the record of an idle task.
+-- `terminate` withdraws the wait, takes out the timers, drops the messages, and sets the record of an idle task.
 use native.Mathlib.Omega.{arith}
 use mathlib.Core.Bool.{true}
-use mathlib.Core.List.{[]}
 use Rattle.tables.specs.Layout.{still-fits}
 use Rattle.tables.specs.Decode.{viewBlocks, viewOutcome}
 use Rattle.clock.specs.Does.{purged}
-use Rattle.ledger.specs.Ledger.{setMailbox}
 use Rattle.ledger.specs.Services as ledger
 use Rattle.services.specs.Tasks.{terminated}
 use borrow.Author.Needs.{needs}
@@ -18,8 +16,8 @@ withdraw-requires c κs = search needs
 purge-requires : tie.Need-purge-requires
 purge-requires c κs = search needs
 
-clear-requires : tie.Need-clear-requires
-clear-requires c κs = let s = c .before .before .before .before .before .before .before .before .before .before .before in (still-fits (s .pre .0) (omega arith), s .pre .2)
+drop-messages-requires : tie.Need-drop-messages-requires
+drop-messages-requires c κs = let s = c .before .before .before .before .before .before .before .before .before .before .before in (still-fits (s .pre .0) (omega arith), s .pre .2)
 
 set-record-requires : tie.Need-set-record-requires
 set-record-requires c κs = let s = c .before .before .before .before .before .before .before .before .before .before .before .before .before .before .before in (still-fits (s .pre .0) (omega arith), s .pre .2, tt)
@@ -37,8 +35,8 @@ returns c =
     λ tidy g L z h.
     let L₁ = ledger.withdrawWait (a .a) L in
     let L₂ = purged (a .a) true 0 L₁ in
-    let L₃ = setMailbox (a .a) [] L₂ in
-    terminated g (a .shape) L _ z _ (a .a) (c .before .before .set-record .ensures tidy g L₃ z _ (c .before .before .before .before .before .before .clear .ensures tidy g L₂ z _ (c .before .before .before .before .before .before .before .before .before .before .purge .ensures tidy g L₁ _ z (c .before .before .before .before .before .before .before .before .before .before .before .before .before .before .withdraw .ensures tidy g L z _ h))))
+    let L₃ = ledger.dropMessages (a .a) L₂ in
+    terminated g (a .shape) L _ z _ (a .a) (c .before .before .set-record .ensures tidy g L₃ z _ (c .before .before .before .before .before .before .drop-messages .ensures tidy g L₂ z _ (c .before .before .before .before .before .before .before .before .before .before .purge .ensures tidy g L₁ _ z (c .before .before .before .before .before .before .before .before .before .before .before .before .before .before .withdraw .ensures tidy g L z _ h))))
 
 pub terminate-spec : {M : Type 1} → statement M
 terminate-spec =
@@ -46,7 +44,7 @@ terminate-spec =
     (tie.spec
     withdraw-requires
     purge-requires
-    clear-requires
+    drop-messages-requires
     set-record-requires
     same-length
     same-length-2

@@ -1,0 +1,113 @@
+-- Semaphores: a signal leaves PENDING or DONE, and settling lets a task wait on a queue's semaphore alone.
+use Prim.Native.Nat.{ℕ, _+_, _≤_}
+use mathlib.Core.Path.{_≡_, refl, _∙_, ap}
+use mathlib.Core.Bool.{Bool, true, false}
+use mathlib.Core.List.{List, [], _∷_}
+use mathlib.Core.Option.{Option, none as nothing, some}
+use native.Mathlib.Omega.{arith}
+use Rattle.ledger.specs.Lists.{at, put, find}
+use Rattle.ledger.specs.Config.{Config}
+use Rattle.ledger.specs.Ledger.{Semaphore, PENDING, DONE, WAITING, refused, Request, none, receive, dequeue, enqueue, Message, Ledger, semaphoreOf, mailbox, queue, held, running, setOutcome, setRequest, setMessageWait}
+use Rattle.ledger.specs.Services.{signalled, signal, signalAll, woken, wakeWaiter, wanted, notEmpty, notFull, full, takeEntry, putEntry, received, dequeued, enqueued, issue}
+use Rattle.ledger.specs.Refusals.{isWaiting}
+use Rattle.ledger.specs.Session.{Settles, stops, goesOn, openRequest, refused21, issueAgain, reissue}
+use Rattle.ledger.specs.Theorems.Items.{Numbered, at-put-other, at-put-each, put-here}
+use Rattle.ledger.specs.Theorems.Checks.{cond-both}
+use Rattle.ledger.specs.Theorems.Parts.{Every, nil, cons}
+use Rattle.ledger.specs.Theorems.Sizes.{of-reissue}
+use Rattle.ledger.specs.Theorems.Signals.{signals-keep}
+use Rattle.ledger.specs.Theorems.Changes.{Asks, updates}
+use Rattle.ledger.specs.Theorems.Named.{Named}
+use Rattle.ledger.specs.Theorems.Steps.{reissues}
+use Rattle.ledger.specs.Theorems.Kept.{named-through}
+
+-- ---- a semaphore that is WAITING for nobody
+
+abbrev pub Unwaited : Ledger → ℕ → Type 0
+Unwaited l b = isWaiting (semaphoreOf l b) ≡ false
+
+of-signalled : (s : Semaphore) (d b : ℕ) (l : Ledger) → Unwaited l b → Unwaited (signalled s d l .ledger) b
+unfolding updates signalled isWaiting
+of-signalled PENDING d b l h = at-put-each (λ i x. isWaiting (at (l .semaphores) i PENDING) ≡ false → isWaiting x ≡ false) (l .semaphores) d DONE PENDING (λ i q. q) (λ q. refl) b h
+of-signalled DONE d b l h = at-put-each (λ i x. isWaiting (at (l .semaphores) i PENDING) ≡ false → isWaiting x ≡ false) (l .semaphores) d DONE PENDING (λ i q. q) (λ q. refl) b h
+of-signalled (WAITING t) d b l h = at-put-each (λ i x. isWaiting (at (l .semaphores) i PENDING) ≡ false → isWaiting x ≡ false) (l .semaphores) d PENDING PENDING (λ i q. q) (λ q. refl) b h
+
+of-signal : (d b : ℕ) (l : Ledger) → Unwaited l b → Unwaited (signal d l .ledger) b
+unfolding signal
+of-signal d b l h = of-signalled (semaphoreOf l d) d b l h
+
+of-signalAll : (ds : List ℕ) (b : ℕ) (l : Ledger) → Unwaited l b → Unwaited (signalAll ds l) b
+of-signalAll ds b l h = signals-keep (λ m. Unwaited m b) (λ d m k. of-signal d b m k) ds l h
+
+here-signalled : (s : Semaphore) (b : ℕ) (l : Ledger) → Unwaited (signalled s b l .ledger) b
+unfolding updates signalled isWaiting
+here-signalled PENDING b l = put-here (λ x. isWaiting x ≡ false) (l .semaphores) b DONE PENDING refl refl
+here-signalled DONE b l = put-here (λ x. isWaiting x ≡ false) (l .semaphores) b DONE PENDING refl refl
+here-signalled (WAITING t) b l = put-here (λ x. isWaiting x ≡ false) (l .semaphores) b PENDING PENDING refl refl
+
+here-signal : (b : ℕ) (l : Ledger) → Unwaited (signal b l .ledger) b
+unfolding signal
+here-signal b l = here-signalled (semaphoreOf l b) b l
+
+-- those that were signalled
+pub all-unwaited : (bs : List ℕ) (l : Ledger) → Every (Unwaited (signalAll bs l)) bs
+unfolding signalAll
+all-unwaited [] l = nil
+all-unwaited (b ∷ bs) l = cons (of-signalAll bs b (signal b l .ledger) (here-signal b l)) (all-unwaited bs (signal b l .ledger))
+
+-- ---- settling
+
+-- b is no queue's semaphore
+module _ (c : Config) (b : ℕ) (low : b ≤ c .S + c .T) where
+  of-woken : (s : Semaphore) (d : ℕ) (l : Ledger) → Unwaited l b → Unwaited (woken s d l) b
+  unfolding woken
+  of-woken PENDING d l h = h
+  of-woken DONE d l h = h
+  of-woken (WAITING t) d l h = of-signal d b l h
+
+  of-wakeWaiter : (d : ℕ) (l : Ledger) → Unwaited l b → Unwaited (wakeWaiter d l) b
+  unfolding wakeWaiter
+  of-wakeWaiter d l h = of-woken (semaphoreOf l d) d l h
+
+  elsewhere : (d : ℕ) (v : Semaphore) (ss : List Semaphore) → (b ≡ d → ⊥) → isWaiting (at ss b PENDING) ≡ false → isWaiting (at (put ss d v) b PENDING) ≡ false
+  elsewhere d v ss n h = ap isWaiting (at-put-other ss d b v PENDING n) ∙ h
+
+  not-notEmpty : (q : ℕ) → Numbered (c .Q) q → b ≡ notEmpty c q → ⊥
+  unfolding notEmpty
+  not-notEmpty q n e = omega (arith, n .from)
+
+  not-notFull : (q : ℕ) → Numbered (c .Q) q → b ≡ notFull c q → ⊥
+  unfolding notFull
+  not-notFull q n e = omega (arith, n .from)
+
+  received-on : (t a : ℕ) (o : Option Message) (l : Ledger) → Unwaited l b → Unwaited (received t a o l) b
+  unfolding updates setRequest setMessageWait received
+  received-on t a nothing l h = h
+  received-on t a (some m) l h = h
+
+  dequeued-on : (t q : ℕ) (es : List (List ℕ)) (l : Ledger) → Numbered (c .Q) q → Unwaited l b → Unwaited (dequeued c t q es l) b
+  unfolding updates setRequest dequeued
+  dequeued-on t q [] l n h = elsewhere (notEmpty c q) (WAITING t) (l .semaphores) (not-notEmpty q n) h
+  dequeued-on t q (e ∷ es) l n h = of-wakeWaiter (notFull c q) (takeEntry c t q e l) h
+
+  enqueued-on : (t q : ℕ) (e : List ℕ) (f : Bool) (l : Ledger) → Numbered (c .Q) q → Unwaited l b → Unwaited (enqueued c t q e f l) b
+  unfolding updates setRequest enqueued
+  enqueued-on t q e true l n h = elsewhere (notFull c q) (WAITING t) (l .semaphores) (not-notFull q n) h
+  enqueued-on t q e false l n h = of-wakeWaiter (notEmpty c q) (putEntry q e l) h
+
+  issue-on : (t : ℕ) (r : Request) (l : Ledger) → Asks c r → Unwaited l b → Unwaited (issue c t r l) b
+  unfolding issue
+  issue-on t none l a h = h
+  issue-on t (receive f) l a h = received-on t f (find (wanted f) (mailbox l t)) l h
+  issue-on t (dequeue q) l a h = dequeued-on t q (held (queue l q)) l a h
+  issue-on t (enqueue q e) l a h = enqueued-on t q e (full c l q) l (a .0) h
+
+  reissue-on : (l : Ledger) → Named c l → Unwaited l b → Unwaited (reissue c l) b
+  unfolding updates setRequest reissue issueAgain openRequest
+  reissue-on l n h =
+      let m = setRequest (running l) none l in
+      cond-both (λ k. Unwaited k b) (refused21 c (openRequest l) m) (setOutcome (running l) (refused 21) m) (issue c (running l) (openRequest l) m) h (issue-on (running l) (openRequest l) m (n .requests (running l)) h)
+
+  pub unwaited-on : {l l′ : Ledger} {n : ℕ} → Settles c l n l′ → Named c l → Unwaited l b → Unwaited l′ b
+  unwaited-on (stops e) n h = h
+  unwaited-on {l} (goesOn o s) n h = unwaited-on s (named-through (reissues c (λ x. Unit {0}) l n o) (of-reissue c l) n) (reissue-on l n h)
