@@ -24,12 +24,12 @@ use moves::Mood;
 pub use cascade::cascade;
 pub use configurations::largest;
 pub use damage::LONGEST;
-pub use release::{release, Release, RELEASES};
+pub use release::{freed_with_a_request, release, Release, RELEASES};
 
 /// Sessions that random ones hardly lead to.
 pub fn prepared() -> Vec<Script> {
     let releases = RELEASES.into_iter().map(release);
-    [cascade()].into_iter().chain(releases).chain(release::freed_with_a_request()).collect()
+    [cascade()].into_iter().chain(releases).chain(freed_with_a_request()).collect()
 }
 
 /// A configuration and the frames behind it.

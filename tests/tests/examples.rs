@@ -1,6 +1,7 @@
 //! The marked examples of the paper, and the session that it lists.
 
 use plain_executive::executive::Executive;
+use plain_executive::generator::{freed_with_a_request, Script};
 use plain_executive::items::{Items, OutcomeItem, RequestItem};
 use plain_executive::limits::Limits;
 use plain_executive::line;
@@ -19,12 +20,16 @@ fn configured(digits: &str) -> Executive {
     Executive::configure(&frame(digits)).expect("an accepted configuration")
 }
 
+fn answer(executive: &mut Executive, frame: &[u8]) -> String {
+    let answer = executive.frame(frame);
+    String::from_utf8(line::write(answer.bytes()).expect("an answer")).expect("digits")
+}
+
 /// The answer to the last of the frames.
 fn after(executive: &mut Executive, frames: &[&str]) -> String {
     let mut last = String::new();
     for digits in frames {
-        let answer = executive.frame(&frame(digits));
-        last = String::from_utf8(line::write(answer.bytes()).expect("an answer")).expect("digits");
+        last = answer(executive, &frame(digits));
     }
     last
 }
@@ -410,8 +415,7 @@ fn every_other_number_comes_before_27() {
 
 // ---- document 02, W6: a dropped message frees its sender
 
-/// Four tasks, two named semaphores, a queue of width and depth 1, a timer, four messages. The semaphore of task t is 2 + t, and 7
-/// is the queue's not-empty.
+/// Four tasks, two named semaphores, a queue of width and depth 1, a timer, four messages. The semaphore of task t is 2 + t.
 const FOUR: &str = "0402010104010001000000000101";
 
 /// After these frames, each of which is answered so.
@@ -650,39 +654,43 @@ fn other_mailboxes_stay() {
 }
 
 /// A task waits with an open request on a semaphore that can be named if it was woken at a queue and then delayed, before it ran.
-/// Task 2 is such a one, on semaphore 1, and task 4 has a message with it. Task 1 runs.
-const DELAYED_WITH_A_REQUEST: [(&str, &str); 6] = [
-    ("0100010000", "00020001"),   // task 1 waits on semaphore 1
-    ("0701000000", "00030001"),   // task 2 waits on the empty queue
-    ("1100010000", "0001000501"), // the interrupt exit wakes task 1
-    ("080100000041", "00010000"), // which puts, and so wakes task 2
-    ("0D02010005", "00010000"),   // delays it
-    ("0404010001", "0001000501"), // and sends message 1 to task 4
+/// Task 2 is such a one, on semaphore 1, and task 4 has a message with it. Task 1 runs. So are the first frames answered.
+const DELAYED_WITH_A_REQUEST: [&str; 6] = [
+    "00020001",   // task 1 waits on semaphore 1
+    "00030001",   // task 2 waits on the empty queue
+    "0001000501", // the interrupt exit wakes task 1
+    "00010000",   // which puts 1, and so wakes task 2
+    "00010000",   // delays it
+    "0001000501", // and sends message 1 to task 4
 ];
 
+/// What is there after a session that begins so, and whose other frames are answered with the rest.
+fn settled(Script { configuration, frames }: Script, rest: &[&str]) -> Items {
+    let mut executive = Executive::configure(&configuration).expect("an accepted configuration");
+    let answers: Vec<String> = frames.iter().map(|frame| answer(&mut executive, frame)).collect();
+    assert_eq!(answers, [&DELAYED_WITH_A_REQUEST, rest].concat());
+    executive.items()
+}
+
+/// Semaphores have the numbers that FOUR gives them, and 7 is the queue's not-empty.
 #[test]
 fn a_freed_task_settles() {
-    // It completes.
-    let mut executive = four(&DELAYED_WITH_A_REQUEST);
-    go_on(&mut executive, &[("0100020000", "00030001"), ("0B04000000", "0002010341")]);
-    // It waits again, for the entry is gone: on the queue's semaphore, and no longer on 1.
-    let mut executive = four(&DELAYED_WITH_A_REQUEST);
-    go_on(&mut executive, &[("0701000000", "0001000341"), ("0100020000", "00030001"), ("0B04000000", "00030100")]);
-    let items = executive.items();
+    let [completes, waits_again, meets_21, makes_room] = freed_with_a_request();
+    // It completes: task 1 waits on semaphore 2, and task 3 terminates task 4.
+    settled(completes, &["00030001", "0002010301"]);
+    // It waits again, for task 1 took the entry: on the queue's semaphore, and no longer on 1.
+    let items = settled(waits_again, &["0001000301", "00030001", "00030100"]);
     assert_eq!((items.semaphores[0], items.semaphores[6]), (Semaphore::Pending, Semaphore::Waiting(2)));
     assert_eq!(items.tasks[1].blocks, Blocks::of([Block::EventWait]));
     assert_eq!(items.tasks[1].request, RequestItem::Dequeue(1));
     // It meets 21, for task 3 waits there by now. Task 4 terminates itself.
-    let mut executive = four(&DELAYED_WITH_A_REQUEST);
-    let lines = [
-        ("0701000000", "0001000341"), // task 1 takes the entry
-        ("0100020000", "00030001"),   // and waits on semaphore 2
-        ("0701000000", "00040001"),   // task 3 waits on the empty queue
-        ("0B00000000", "0002010415"),
-    ];
-    go_on(&mut executive, &lines);
-    assert_eq!(executive.items().tasks[1].request, RequestItem::None);
-    assert_eq!(executive.semaphore(7), Semaphore::Waiting(3));
+    let items = settled(meets_21, &["0001000301", "00030001", "00040001", "0002010415"]);
+    assert_eq!(items.tasks[1].request, RequestItem::None);
+    assert_eq!(items.semaphores[6], Semaphore::Waiting(3));
+    // It completes, so task 1, which waits for room, puts and runs: neither the caller, task 3, nor the freed task does.
+    let items = settled(makes_room, &["00030001", "00010200"]);
+    assert_eq!(items.tasks[1].outcome, OutcomeItem::Entry(vec![1]));
+    assert_eq!(items.queues, [[[1]]]);
 }
 
 /// Execute drops nothing.

@@ -1,4 +1,4 @@
-//! A session whose last frame drops as many messages as there may be, each of which frees a task.
+//! Sessions whose last frame frees tasks: with as many messages as there may be, or one task that has an open request.
 
 use super::cascade::{put, service};
 use super::Script;
@@ -50,13 +50,15 @@ impl Release {
 }
 
 /// Task 2 waits at the queue, is woken there and, before it runs, delayed; task 4 has a message with the semaphore of the delay. When
-/// task 4 is terminated, task 2 is freed, and its request completes, or waits again, or meets 21.
-pub fn freed_with_a_request() -> [Script; 3] {
+/// task 4 is terminated, task 2 is freed, and its request completes, or waits again, or meets 21, or completes and makes room for that
+/// of task 1, which runs then.
+pub fn freed_with_a_request() -> [Script; 4] {
     let taken = [service(DEQUEUE, 1, 0), service(WAIT, 0, 2)];
     let completes = vec![service(WAIT, 0, 2), service(TERMINATE, 4, 0)];
     let waits_again = [&taken[..], &[service(TERMINATE, 4, 0)]].concat();
     let meets_21 = [&taken[..], &[service(DEQUEUE, 1, 0), service(TERMINATE, 0, 0)]].concat();
-    [completes, waits_again, meets_21].map(|rest| {
+    let makes_room = vec![put(1), service(TERMINATE, 4, 0)];
+    [completes, waits_again, meets_21, makes_room].map(|rest| {
         let delayed = [
             service(WAIT, 0, 1),
             service(DEQUEUE, 1, 0),

@@ -72,6 +72,10 @@ pub const TABLE: &[Situation] = &[
     ("of several freed tasks the lowest runs", |s| {
         freed(s).len() > 1 && s.answer.reissues() == 0 && freed(s).first() == Some(&s.answer.running())
     }),
+    ("a task runs that is neither the caller nor freed", |s| {
+        let runs = s.answer.running();
+        !freed(s).is_empty() && s.task() != s.own() && runs != s.own() && !freed(s).contains(&runs)
+    }),
     ("the freed task waits on a message that another sent", |s| {
         frees(s, |task| !dropped(s).iter().any(|letter| letter.sender == task))
     }),
