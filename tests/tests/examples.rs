@@ -478,7 +478,9 @@ fn terminate_makes_pending_done() {
         is(items, 4, [Block::Idle], OutcomeItem::Plain);
         state(items, 1, Semaphore::Done);
     });
-    // DONE stays DONE, of an idle task too: one wait goes on, the next one waits.
+    // The messages of an idle task signal too: the wait on semaphore 2 goes on.
+    go_on(&mut executive, &[("0404020001", "0001000502"), ("0B04000000", "00010000"), ("0100020000", "0001000502")]);
+    // DONE stays DONE: one wait goes on, the next one waits.
     go_on(
         &mut executive,
         &[
