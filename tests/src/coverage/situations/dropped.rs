@@ -50,9 +50,14 @@ fn is_done(state: Semaphore) -> bool {
     state == Semaphore::Done
 }
 
+/// The terminated task waits on the message's semaphore.
+fn waits_on(s: &Step, letter: &Letter) -> bool {
+    letter.semaphore == s.old(s.task()).waits_on
+}
+
 /// Some message that stays.
 fn stays(s: &Step, fits: impl Fn(&Letter) -> bool) -> bool {
-    drops(s) && s.some_task(|task| task != s.task() && s.mail(task).iter().any(&fits))
+    drops(s) && s.some_task(|task| task != s.task() && s.new_mail(task).iter().any(&fits))
 }
 
 pub const TABLE: &[Situation] = &[
@@ -102,11 +107,10 @@ pub const TABLE: &[Situation] = &[
     ("PENDING, in two messages, becomes DONE", |s| becomes(s, 2, is_pending, Semaphore::Done)),
     ("DONE stays DONE", |s| becomes(s, 1, is_done, Semaphore::Done)),
     ("the semaphore that the task waits on becomes DONE", |s| {
-        drops(s) && dropped(s).iter().any(|letter| letter.semaphore == s.old(s.task()).waits_on)
+        drops(s) && dropped(s).iter().any(|letter| waits_on(s, letter) && is_done(s.after.semaphore(letter.semaphore)))
     }),
     ("the task waits on its own message", |s| {
-        let waits = |letter: &Letter| letter.sender == s.task() && letter.semaphore == s.old(s.task()).waits_on;
-        drops(s) && dropped(s).iter().any(waits)
+        drops(s) && dropped(s).iter().any(|letter| waits_on(s, letter) && letter.sender == s.task())
     }),
     ("the task waits on another semaphore, and a task is freed", |s| !freed(s).is_empty() && s.had(Block::EventWait)),
     ("the task waits for a message, and a task is freed", |s| !freed(s).is_empty() && s.had(Block::MessageWait)),
