@@ -139,7 +139,7 @@ impl Executive {
         self.wake(self.configuration.not_empty(queue), notes);
     }
 
-    /// The messages that are dropped signal once the task waits for nothing, and its record is set behind them all.
+    /// When the task waits for nothing any more the dropped messages signal; its record is set behind them all.
     fn terminate(&mut self, task: u8, notes: &mut impl Notes) {
         self.end_wait(task);
         self.timers.remove_of_task(task);
