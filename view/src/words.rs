@@ -152,7 +152,7 @@ impl Words<'_> {
             said += &format!("; {} reissued", step.answer[2]);
         }
         said += &self.freed(step);
-        step.trail.iter().filter_map(|event| self.lost(event)).for_each(|lost| said += &lost);
+        step.trail.iter().filter_map(|event| self.lost(step, event)).for_each(|lost| said += &lost);
         said
     }
 
@@ -163,24 +163,28 @@ impl Words<'_> {
         semaphores.map(|semaphore| self.signalled(step, semaphore)).collect()
     }
 
-    /// Each signal of the semaphore woke a task, was lost, or made it DONE. That a woken task runs is in the answer.
+    /// Each signal of the semaphore woke a task, was lost, or made it DONE. An answer that shows the woken task with it says so itself.
     fn signalled(&self, step: &Step, semaphore: u8) -> String {
-        let signals = step.dropped.iter().filter(|letter| letter.semaphore == semaphore).count();
         let woken = step.trail.iter().find_map(|event| woken_by(semaphore, event));
-        let lost = step.trail.iter().filter(|event| **event == Event::Lost { semaphore }).count();
         let mut said = String::new();
-        if let Some(task) = woken.filter(|task| *task != step.running()) {
+        if let Some(task) = woken.filter(|task| !shows(step, *task, semaphore)) {
             said += &format!("; {} is woken by {}", self.task(task), self.semaphore_of(task, semaphore));
         }
-        if signals > lost + usize::from(woken.is_some()) {
+        if signals_of(semaphore, step) > lost_of(semaphore, step) + usize::from(woken.is_some()) {
             said += &format!("; {} is DONE", self.semaphore(semaphore));
         }
         said
     }
 
-    fn lost(&self, event: &Event) -> Option<String> {
-        let Event::Lost { semaphore } = event else { return None };
-        Some(format!("; {} was DONE, a signal is lost", self.semaphore(*semaphore)))
+    /// Of a semaphore that was DONE before the frame every signal is lost; else the frame's first one is not.
+    fn lost(&self, step: &Step, event: &Event) -> Option<String> {
+        let Event::Lost { semaphore } = *event else { return None };
+        let name = self.semaphore(semaphore);
+        Some(if signals_of(semaphore, step) > lost_of(semaphore, step) {
+            format!("; a further signal of {name} is lost")
+        } else {
+            format!("; {name} was DONE, a signal is lost")
+        })
     }
 
     fn outcome(&self, task: u8, outcome: &[u8]) -> String {
@@ -199,6 +203,23 @@ impl Words<'_> {
             _ => String::new(),
         }
     }
+}
+
+/// How often the timers and the dropped messages of a frame signal this semaphore.
+fn signals_of(semaphore: u8, step: &Step) -> usize {
+    let due = |event: &&Event| matches!(event, Event::Due { semaphore: of, .. } if *of == semaphore);
+    let dropped = step.dropped.iter().filter(|letter| letter.semaphore == semaphore);
+    step.trail.iter().filter(due).count() + dropped.count()
+}
+
+/// How many signals of this semaphore a frame loses.
+fn lost_of(semaphore: u8, step: &Step) -> usize {
+    step.trail.iter().filter(|event| **event == Event::Lost { semaphore }).count()
+}
+
+/// The answer shows the task as running, with this semaphore as its outcome.
+fn shows(step: &Step, task: u8, semaphore: u8) -> bool {
+    step.running() == task && step.answer[3..] == [answer::SEMAPHORE, semaphore]
 }
 
 /// The task whose wait for this semaphore ended.

@@ -7,7 +7,7 @@ use std::path::{Path, PathBuf};
 use std::process::{Command, Output, Stdio};
 use std::time::Instant;
 
-use plain_executive::generator::Generator;
+use plain_executive::generator::{freed_with_a_request, Generator};
 use plain_executive::limits::Limits;
 
 fn repository() -> PathBuf {
@@ -148,6 +148,9 @@ fn a_signal_says_whom_it_woke() {
     is_told("02010000000100640000", &frames);
 }
 
+/// Four tasks, two named semaphores, a queue of width and depth 1, two timers, eight messages.
+const FOUR: &str = "0402010208010064000000000101";
+
 /// Semaphore 3 wakes task 1, which runs; 1 comes with two messages and wakes task 2 first; 2 is DONE before. Then a task ends itself.
 #[test]
 fn a_terminate_says_which_messages_it_dropped_and_whom_that_woke() {
@@ -166,7 +169,7 @@ fn a_terminate_says_which_messages_it_dropped_and_whom_that_woke() {
         ("0B00000000", "task 2 runs, has semaphore 1; semaphore 3 is DONE"),
         ("0B04000000", "task 2 runs"),
     ];
-    let said = is_told("040200000801006400000000", &frames);
+    let said = is_told(FOUR, &frames);
     let asked: Vec<&str> =
         said.lines().filter_map(|line| line.split_once(" terminates ")?.1.split(": ").next()).collect();
     let due = [
@@ -176,6 +179,52 @@ fn a_terminate_says_which_messages_it_dropped_and_whom_that_woke() {
         "task 4",
     ];
     assert_eq!(asked, due);
+}
+
+/// A freed task that never ran begins, and one with a request settles: no outcome says by which semaphore it was woken.
+#[test]
+fn a_terminate_says_whom_it_woke_where_the_outcome_does_not() {
+    let frames = [
+        ("0D02010005", "task 1 runs"),
+        ("0404010001", "task 1 runs, has semaphore 1"),
+        ("0100020000", "task 3 runs, begins"),
+        ("0B04000000", "task 2 runs, begins; task 2 is woken by semaphore 1"),
+    ];
+    is_told(FOUR, &frames);
+    let due = [
+        "task 2 runs, has entry 01; 1 reissued",
+        "task 3 runs; 1 reissued",
+        "task 2 runs, its request met 21: the semaphore has a waiting task; 1 reissued",
+        "task 1 runs; 2 reissued",
+    ];
+    for (script, due) in freed_with_a_request().iter().zip(due) {
+        let said = words(&script.lines());
+        assert!(said.ends_with(&format!(": {due}; task 2 is woken by semaphore 1\n")), "{said}");
+    }
+}
+
+/// Semaphore 1 is PENDING, then DONE, and comes with two messages each time; task 1 waits on its own, which comes with three. Then two
+/// timers signal semaphore 1 in each tock.
+#[test]
+fn a_signal_that_is_lost_says_whether_the_semaphore_was_done() {
+    let frames = [
+        ("0404010001", "task 1 runs, has semaphore 1"),
+        ("0404010002", "task 1 runs, has semaphore 1"),
+        ("0B04000000", "task 1 runs; semaphore 1 is DONE; a further signal of semaphore 1 is lost"),
+        ("0404010001", "task 1 runs, has semaphore 1"),
+        ("0404010002", "task 1 runs, has semaphore 1"),
+        ("0B04000000", "task 1 runs; semaphore 1 was DONE, a signal is lost; semaphore 1 was DONE, a signal is lost"),
+        ("0404000001", "task 1 runs, has semaphore 3"),
+        ("0404000002", "task 1 runs, has semaphore 3"),
+        ("0504000003", "task 2 runs, begins"),
+        ("0B04000000", "task 1 runs, has semaphore 3; semaphore 3 is DONE; a further signal of semaphore 3 is lost"),
+        ("0300010000", "task 1 runs"),
+        ("0E0001FFFF", "task 1 runs"),
+        ("0E0201FFFF", "task 1 runs"),
+        ("1000000000", "task 1 runs; a further signal of semaphore 1 is lost"),
+        ("1000000000", "task 1 runs; semaphore 1 was DONE, a signal is lost; semaphore 1 was DONE, a signal is lost"),
+    ];
+    is_told(FOUR, &frames);
 }
 
 #[test]
