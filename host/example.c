@@ -198,6 +198,7 @@ int main(void)
     tell("task 1: terminate itself", mcx11_terminate(&ride, MCX11_SELF));
     start_the_lap();
     tell("task 2: suspend itself", mcx11_suspend(&ride, MCX11_SELF));
+    tell("task 3: pend semaphore 1, so that the gate stays shut", mcx11_pend(&ride, 1)); /* its first service: it has begun */
     tell("clock: tick", mcx11_tick(&ride));
     end_the_lap();
     return EXIT_SUCCESS;

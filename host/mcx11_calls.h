@@ -65,8 +65,8 @@ static inline uint8_t mcx11_signal(mcx11_t *m, uint8_t semaphore) { return mcx11
 /** Makes the semaphore PENDING. */
 static inline uint8_t mcx11_pend(mcx11_t *m, uint8_t semaphore) { return mcx11_call(m, MCX11_PEND, 0, semaphore, 0); }
 
-/** Puts the message into the task's mailbox, with a semaphore to signal when it was read. A terminate of the task drops the message,
- * and signals the semaphore too. */
+/** Puts the message into the task's mailbox, with a semaphore to signal when it was read. While it lies there, a terminate of the
+ * task drops it and signals the semaphore. */
 static inline uint8_t mcx11_send(mcx11_t *m, uint16_t message, uint8_t task, uint8_t semaphore)
 {
     return mcx11_call(m, MCX11_SEND, task, semaphore, message);
