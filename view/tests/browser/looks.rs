@@ -215,12 +215,12 @@ fn dropped_messages_are_told_and_whom_they_woke() {
     assert_eq!(opened.browser.text(changed), "s3 DONE; s6 PENDING; t4 empty");
     let arrows = "(({ frame, from, to }) => frame.map((at, i) => at === 12 ? from[i] + ' ' + to[i] : '').join(''))(page.main.session.woken)";
     assert_eq!(opened.browser.text(arrows), "1 3");
-    for (key, due) in [("m2", "5,12,20,23"), ("s3", "3,10,12,17,18,22")] {
-        let touched = format!("(touches => Array.from({{ length: 29 }}, (_, frame) => frame).filter(touches).join())(page.main.session.toucher('{key}'))");
+    for (key, due) in [("m2", "5,12,20,26"), ("s3", "3,10,12,17,18,25")] {
+        let touched = format!("(touches => Array.from({{ length: page.main.session.count }}, (_, frame) => frame).filter(touches).join())(page.main.session.toucher('{key}'))");
         assert_eq!(opened.browser.text(&touched), due, "{key}");
     }
     let could = "[...document.querySelectorAll('table[data-title=\"Stuck at the end\"] tbody tr')].map(row => row.cells[0].textContent + ': ' + row.cells[3].textContent).find(row => row.startsWith('photo'))";
-    let due = "photo: a signal of photo's own semaphore; before: operator (1 time, waits itself), display (1 time); a timer will in 3 tocks";
+    let due = "photo: a signal of photo's own semaphore; before: operator (1 time, waits itself), display (1 time, waits itself); a timer will in 4 tocks";
     assert_eq!(opened.browser.text(could), due);
     assert_eq!(opened.browser.complaints, Vec::<String>::new());
 }
