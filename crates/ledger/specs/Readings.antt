@@ -144,7 +144,7 @@ pub record Table : Type 0 where
   one-semaphore-in-two-messages-is-signalled-twice : Talk room ("0403000001" ▸ "0001000503" ∷ "0503000002" ▸ "00020001" ∷ "0B03000000" ▸ "0001000503" ∷ [])
       × (semaphoreOf (after room ("0403000001" ∷ "0503000002" ∷ "0B03000000" ∷ [])) 3 ≡ DONE)
   -- task 1 has a message of its own in its mailbox, and terminates itself
-  so-it-is-where-a-task-terminates-itself : let l = after room ("0401010001" ∷ "0B00000000" ∷ []) in (semaphoreOf l 1 ≡ DONE) × (mailbox l 1 ≡ []) × (task l 1 .blocks ≡ onlyIdle)
+  a-task-that-terminates-itself-drops-its-messages-too : let l = after room ("0401010001" ∷ "0B00000000" ∷ []) in (semaphoreOf l 1 ≡ DONE) × (mailbox l 1 ≡ []) × (task l 1 .blocks ≡ onlyIdle)
   -- task 2 was woken at the queue, and delayed before it ran. A message that task 1 sent to itself has task 2's semaphore; when task 1 ends, task 2 goes on with its dequeue
   a-freed-task-may-settle : Talk room ("0100010000" ▸ "00020001" ∷ "0701000000" ▸ "00030001" ∷ "1100010000" ▸ "0001000501" ∷ "080100000041" ▸ "00010000"
       ∷ "0D02000005" ▸ "00010000" ∷ "0401040001" ▸ "0001000504" ∷ "0B00000000" ▸ "0002010341" ∷ [])
@@ -308,7 +308,7 @@ the-table = record {
   the-tasks-own-wait-is-withdrawn-first = (refl, refl, refl);
   all-senders-are-freed-and-the-lowest-runs = refl;
   one-semaphore-in-two-messages-is-signalled-twice = (refl, refl);
-  so-it-is-where-a-task-terminates-itself = (refl, refl, refl);
+  a-task-that-terminates-itself-drops-its-messages-too = (refl, refl, refl);
   a-freed-task-may-settle = refl;
   messages-for-others-stay = (refl, refl);
   and-execute-drops-nothing = (refl, refl);

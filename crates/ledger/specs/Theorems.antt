@@ -22,7 +22,6 @@ pub mod Accepted
 pub mod Shown
 -- each step as a chain of changes, and what every change keeps
 pub mod Tocks
-pub mod Dropped
 pub mod Changes
 pub mod Named
 pub mod Terminated
@@ -41,7 +40,8 @@ pub mod Walk
 pub mod Told
 pub mod ToldAfter
 pub mod Callers
--- a dropped message frees its sender (dropped-frees)
+-- messages dropped one by one (drop-turn); a dropped message frees its sender (dropped-frees)
+pub mod Dropped
 pub mod Freed
 -- a task is started only after its firsts (executes-after, started-after, begins-after)
 pub mod Starts

@@ -38,8 +38,8 @@ none-counted : (box : List ledger.Message) → length box ≤ 0 → box ≡ []
 none-counted [] e = refl
 none-counted (m ∷ ms) e = absurd (omega arith)
 
-none-told : (box : List ledger.Message) → ltb 0 (length box) ≡ false → box ≡ []
-none-told box e = none-counted box (ltb-false 0 (length box) e)
+empty-told : (box : List ledger.Message) → ltb 0 (length box) ≡ false → box ≡ []
+empty-told box e = none-counted box (ltb-false 0 (length box) e)
 
 some-held : {m : ledger.Message} {ms box : List ledger.Message} → box ≡ m ∷ ms → true ≡ ltb 0 (length box)
 some-held {m} {ms} e = sym (ap (λ (b : List ledger.Message). ltb 0 (length b)) e ∙ lt-ltb 0 (length (m ∷ ms)) (omega arith))
@@ -67,19 +67,19 @@ module _ (s : Shape) (d : List ℕ) (t : ℕ) (r : Received) {d₀ : List ℕ} (
 
 -- ---- one after the other
 
--- what task t's messages come to where L was shown at first: a ledger with the same left to drop, and at most n messages
+-- where L was shown at first: the ledger reached, from which to drop task t's messages comes to the same, with at most n messages left
 pub record Left (tidy : Bool) (c : Config) (s : Shape) (t : ℕ) (L : Ledger) (d z w : List ℕ) (n : ℕ) : Type 0 where
-  pub left : Ledger
-  pub shown : ShowsAs tidy c s left d z w
-  pub same : dropMessages t left ≡ dropMessages t L
-  pub most : length (mailbox left t) ≤ n
+  pub reached : Ledger
+  pub shown : ShowsAs tidy c s reached d z w
+  pub same : dropMessages t reached ≡ dropMessages t L
+  pub most : length (mailbox reached t) ≤ n
 
 abbrev pub Dropping : Shape → (t : ℕ) (d₀ d : List ℕ) (n : ℕ) → Type 0
 Dropping s t d₀ d n = (tidy : Bool) (c : Config) (L : Ledger) (z w : List ℕ) → ShowsAs tidy c s L d₀ z w → Left tidy c s t L d z w n
 
 module _ (s : Shape) (t : ℕ) (d₀ : List ℕ) where
   pub none-dropped : OneOf (s .tasks) t → Dropping s t d₀ d₀ (s .messages)
-  none-dropped i tidy c L z w h = record { left = L; shown = h; same = refl; most = mailbox-most c s L d₀ z w h t i }
+  none-dropped i tidy c L z w h = record { reached = L; shown = h; same = refl; most = mailbox-most c s L d₀ z w h t i }
 
   module _ (d : List ℕ) (n : ℕ) (h : Dropping s t d₀ d n) where
     -- the turn, where there was a message
@@ -87,22 +87,22 @@ module _ (s : Shape) (t : ℕ) (d₀ : List ℕ) where
     one-dropped d' r k e tidy c L z w g =
         let l = h tidy c L z w g in
         record {
-          left = dropFirst t (mailbox (l .left) t) (l .left);
-          shown = k .0 tidy c (l .left) z w (l .shown);
-          same = drop-turn t (l .left) ∙ l .same;
-          most = omega (arith, drop-fewer t (l .left) (sym (k .1 c (l .left) z w (loosely (l .shown))) ∙ e), l .most);
+          reached = dropFirst t (mailbox (l .reached) t) (l .reached);
+          shown = k .0 tidy c (l .reached) z w (l .shown);
+          same = drop-turn t (l .reached) ∙ l .same;
+          most = omega (arith, drop-fewer t (l .reached) (sym (k .1 c (l .reached) z w (loosely (l .shown))) ∙ e), l .most);
         }
 
     -- the mailbox was empty
-    pub all-told : (d' : List ℕ) (r : Bool) → Does s d d' (λ c L. dropFirst t (mailbox L t) L) × Tells s d (λ c L. ltb 0 (length (mailbox L t))) r → r ≡ false → Does s d₀ d' (λ c L. dropMessages t L)
+    pub all-dropped : (d' : List ℕ) (r : Bool) → Does s d d' (λ c L. dropFirst t (mailbox L t) L) × Tells s d (λ c L. ltb 0 (length (mailbox L t))) r → r ≡ false → Does s d₀ d' (λ c L. dropMessages t L)
     unfolding dropFirst
-    all-told d' r k e tidy c L z w g =
+    all-dropped d' r k e tidy c L z w g =
         let l = h tidy c L z w g in
-        let empty : mailbox (l .left) t ≡ [] = none-told (mailbox (l .left) t) (sym (k .1 c (l .left) z w (loosely (l .shown))) ∙ e) in
-        moved (ap (λ (b : List ledger.Message). dropFirst t b (l .left)) empty ∙ sym (drop-none t (l .left) empty) ∙ l .same) (k .0 tidy c (l .left) z w (l .shown))
+        let empty : mailbox (l .reached) t ≡ [] = empty-told (mailbox (l .reached) t) (sym (k .1 c (l .reached) z w (loosely (l .shown))) ∙ e) in
+        moved (ap (λ (b : List ledger.Message). dropFirst t b (l .reached)) empty ∙ sym (drop-none t (l .reached) empty) ∙ l .same) (k .0 tidy c (l .reached) z w (l .shown))
 
     -- no message more can be left
     pub all-counted : n ≡ 0 → Does s d₀ d (λ c L. dropMessages t L)
     all-counted e tidy c L z w g =
         let l = h tidy c L z w g in
-        moved (sym (drop-none t (l .left) (none-counted (mailbox (l .left) t) (omega (arith, l .most)))) ∙ l .same) (l .shown)
+        moved (sym (drop-none t (l .reached) (none-counted (mailbox (l .reached) t) (omega (arith, l .most)))) ∙ l .same) (l .shown)

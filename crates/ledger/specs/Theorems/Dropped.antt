@@ -1,4 +1,4 @@
--- Messages dropped one by one: to take the first message out and signal for it leaves the same to be dropped, and to drop those of an empty mailbox changes nothing.
+-- Messages dropped one by one: to take the first message out, signal for it and then drop the rest comes to the same as to drop all, and to drop those of an empty mailbox changes nothing.
 use Prim.Native.Nat.{ℕ, suc}
 use mathlib.Core.Path.{_≡_, refl, sym, _∙_, ap}
 use mathlib.Core.Bool.{true}
@@ -9,10 +9,10 @@ use lib.ListN.{length}
 use Rattle.ledger.specs.Lists.{at, put}
 use Rattle.ledger.specs.Ledger.{Semaphore, PENDING, DONE, WAITING, Message, Ledger, task, semaphoreOf, mailbox, setTask, setSemaphores, setSemaphore, setMailbox, setBlocks, setEventWait}
 use Rattle.ledger.specs.Services.{signalled, signal, signalAll, dropMessages}
-use Rattle.ledger.specs.Theorems.Signals.{signals-commute}
+use Rattle.ledger.specs.Theorems.Signals.{signals-commute, signal-boxes}
 use Rattle.ledger.specs.Theorems.Items.{at-put-same, at-there, put-put, put-at}
 
--- ---- signals and mailboxes don't touch each other
+-- ---- to set a mailbox before a signal is to set it after
 
 module _ (t : ℕ) (v : List Message) where
   signalled-mailbox : (s : Semaphore) (b : ℕ) (l : Ledger) → signalled s b (setMailbox t v l) .ledger ≡ setMailbox t v (signalled s b l .ledger)
@@ -24,16 +24,6 @@ module _ (t : ℕ) (v : List Message) where
   signal-mailbox : (b : ℕ) (l : Ledger) → signal b (setMailbox t v l) .ledger ≡ setMailbox t v (signal b l .ledger)
   unfolding signal semaphoreOf setMailbox
   signal-mailbox b l = signalled-mailbox (semaphoreOf l b) b l
-
-signalled-boxes : (s : Semaphore) (b : ℕ) (l : Ledger) → signalled s b l .ledger .mailboxes ≡ l .mailboxes
-unfolding signalled setSemaphore setSemaphores setEventWait setBlocks setTask
-signalled-boxes PENDING b l = refl
-signalled-boxes DONE b l = refl
-signalled-boxes (WAITING w) b l = refl
-
-pub signal-boxes : (b : ℕ) (l : Ledger) → signal b l .ledger .mailboxes ≡ l .mailboxes
-unfolding signal
-signal-boxes b l = signalled-boxes (semaphoreOf l b) b l
 
 -- ---- one message
 
@@ -64,7 +54,7 @@ module _ (t : ℕ) (l : Ledger) where
       ∙ twice ms (signalAll bs (signal (m .semaphore) l .ledger))
       ∙ ap (λ (v : List Message). setMailbox t [] (signalAll (map (λ m. m .semaphore) v) l)) (sym e)
 
-  -- the turn: what is then left to drop is the same
+  -- the turn: to drop the rest then comes to the same as to drop all
   pub drop-turn : dropMessages t (dropFirst t (mailbox l t) l) ≡ dropMessages t l
   drop-turn = turn (mailbox l t) refl
 

@@ -4,7 +4,7 @@ use mathlib.Core.Path.{_≡_, refl, sym, _∙_, ap}
 use mathlib.Core.List.{List, [], _∷_, map}
 use native.Mathlib.Omega.{arith}
 use lib.ListN.{length, getD, set, length-set, List·getD-map}
-use lib.Seq.{getD-set-same, getD-set-other, set-set}
+use lib.Seq.{getD-set-same, getD-set-other, set-set, set-getD}
 use Rattle.ledger.specs.Lists.{at, put}
 
 -- a number from 1 to n
@@ -46,11 +46,6 @@ module _ {A : Type 0} where
   put-here P xs (suc n) v d p q = set-here P xs n v d p q
 
   -- an item put in its own place
-  set-getD : (xs : List A) (n : ℕ) (d : A) → set xs n (getD xs n d) ≡ xs
-  set-getD [] n d = refl
-  set-getD (x ∷ xs) zero d = refl
-  set-getD (x ∷ xs) (suc n) d = ap (λ ys. x ∷ ys) (set-getD xs n d)
-
   pub put-at : (xs : List A) (n : ℕ) (d : A) → put xs n (at xs n d) ≡ xs
   unfolding at put
   put-at xs zero d = refl

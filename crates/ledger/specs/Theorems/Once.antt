@@ -18,8 +18,7 @@ use Rattle.ledger.specs.Theorems.Items.{Numbered}
 use Rattle.ledger.specs.Theorems.Checks.{asked, within-numbered, cond-both, passes}
 use Rattle.ledger.specs.Theorems.Parts.{Part, part-nil, part-without}
 use Rattle.ledger.specs.Theorems.Changes.{updates}
-use Rattle.ledger.specs.Theorems.Signals.{signals-keep}
-use Rattle.ledger.specs.Theorems.Dropped.{signal-boxes}
+use Rattle.ledger.specs.Theorems.Signals.{signals-keep, signal-boxes}
 use Rattle.ledger.specs.Theorems.Sound.Messages.{copies, deliver-more, deliver-once, remove-less, copies-empty}
 
 pub record Once (c : Config) (boxes : List (List Message)) : Type 0 where

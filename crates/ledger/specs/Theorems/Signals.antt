@@ -1,9 +1,9 @@
--- What every signal keeps, a list of signals keeps; and what may be done before a signal as well as after it, may be so with a list of signals.
+-- What every signal keeps, a list of signals keeps; what may be done before a signal as well as after it, may be so with a list of signals; and no signal touches a mailbox.
 use Prim.Native.Nat.{ℕ}
 use mathlib.Core.Path.{_≡_, refl, _∙_, ap}
 use mathlib.Core.List.{List, [], _∷_}
-use Rattle.ledger.specs.Ledger.{Ledger}
-use Rattle.ledger.specs.Services.{signal, signalAll}
+use Rattle.ledger.specs.Ledger.{Semaphore, PENDING, DONE, WAITING, Ledger, semaphoreOf, setTask, setSemaphores, setSemaphore, setBlocks, setEventWait}
+use Rattle.ledger.specs.Services.{signalled, signal, signalAll}
 
 pub signals-keep : (P : Ledger → Type 0) → ((b : ℕ) (l : Ledger) → P l → P (signal b l .ledger)) → (bs : List ℕ) (l : Ledger) → P l → P (signalAll bs l)
 unfolding signalAll
@@ -14,3 +14,13 @@ pub signals-commute : (f : Ledger → Ledger) → ((b : ℕ) (l : Ledger) → si
 unfolding signalAll
 signals-commute f e [] l = refl
 signals-commute f e (b ∷ bs) l = ap (signalAll bs) (e b l) ∙ signals-commute f e bs (signal b l .ledger)
+
+signalled-boxes : (s : Semaphore) (b : ℕ) (l : Ledger) → signalled s b l .ledger .mailboxes ≡ l .mailboxes
+unfolding signalled setSemaphore setSemaphores setEventWait setBlocks setTask
+signalled-boxes PENDING b l = refl
+signalled-boxes DONE b l = refl
+signalled-boxes (WAITING w) b l = refl
+
+pub signal-boxes : (b : ℕ) (l : Ledger) → signal b l .ledger .mailboxes ≡ l .mailboxes
+unfolding signal
+signal-boxes b l = signalled-boxes (semaphoreOf l b) b l

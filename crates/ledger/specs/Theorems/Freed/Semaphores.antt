@@ -26,11 +26,14 @@ use Rattle.ledger.specs.Theorems.Kept.{named-through}
 abbrev pub Unwaited : Ledger → ℕ → Type 0
 Unwaited l b = isWaiting (semaphoreOf l b) ≡ false
 
+put-unwaited : (ss : List Semaphore) (d b : ℕ) (v : Semaphore) → isWaiting v ≡ false → isWaiting (at ss b PENDING) ≡ false → isWaiting (at (put ss d v) b PENDING) ≡ false
+put-unwaited ss d b v e h = at-put-each (λ i x. isWaiting (at ss i PENDING) ≡ false → isWaiting x ≡ false) ss d v PENDING (λ i q. q) (λ q. e) b h
+
 of-signalled : (s : Semaphore) (d b : ℕ) (l : Ledger) → Unwaited l b → Unwaited (signalled s d l .ledger) b
 unfolding updates signalled isWaiting
-of-signalled PENDING d b l h = at-put-each (λ i x. isWaiting (at (l .semaphores) i PENDING) ≡ false → isWaiting x ≡ false) (l .semaphores) d DONE PENDING (λ i q. q) (λ q. refl) b h
-of-signalled DONE d b l h = at-put-each (λ i x. isWaiting (at (l .semaphores) i PENDING) ≡ false → isWaiting x ≡ false) (l .semaphores) d DONE PENDING (λ i q. q) (λ q. refl) b h
-of-signalled (WAITING t) d b l h = at-put-each (λ i x. isWaiting (at (l .semaphores) i PENDING) ≡ false → isWaiting x ≡ false) (l .semaphores) d PENDING PENDING (λ i q. q) (λ q. refl) b h
+of-signalled PENDING d b l h = put-unwaited (l .semaphores) d b DONE refl h
+of-signalled DONE d b l h = put-unwaited (l .semaphores) d b DONE refl h
+of-signalled (WAITING t) d b l h = put-unwaited (l .semaphores) d b PENDING refl h
 
 of-signal : (d b : ℕ) (l : Ledger) → Unwaited l b → Unwaited (signal d l .ledger) b
 unfolding signal

@@ -116,7 +116,7 @@ other-signal : (b d : ℕ) (l : Ledger) → (d ≡ b → ⊥) → semaphoreOf (s
 unfolding signal
 other-signal b d l n = other-signalled (semaphoreOf l b) b d l n
 
--- what each semaphore of a list that is signalled was WAITING for
+-- the task that semaphore b was WAITING for has no event wait once all of bs are signalled
 abbrev pub Woken : List ℕ → Ledger → ℕ → Type 0
 Woken bs l b = (t : ℕ) → semaphoreOf l b ≡ WAITING t → waits (signalAll bs l) t ≡ false
 

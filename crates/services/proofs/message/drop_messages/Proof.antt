@@ -1,11 +1,11 @@
--- `drop_messages` drops one message a turn: what is left to drop stays the same, until the mailbox is empty or as many turns are done as there are messages.
+-- `drop_messages` drops one message a turn: to drop the rest comes to the same as to drop all, until the mailbox is empty or as many turns are done as there are messages.
 use native.Mathlib.Omega.{arith}
 use mathlib.Core.Path.{_≡_, refl}
 use borrow.Author.Tests.{not-true, not-false}
 use lib.ListN.{length}
 use denote.Ref.{now}
 use Rattle.tables.specs.Layout.{still-fits}
-use Rattle.services.specs.Dropped.{Dropping, none-dropped, one-dropped, all-told, all-counted}
+use Rattle.services.specs.Dropped.{Dropping, none-dropped, one-dropped, all-dropped, all-counted}
 use Rattle.services.proofs.message.drop_messages.Statement.{statement}
 use Rattle.services.proofs.message.drop_messages.Tie as tie
 
@@ -29,7 +29,7 @@ returns c =
     let a = c .before .before .before .before .before .before .before .before .args in
     let l = c .before .before .before .before .before .before .loop in
     let f = c .before .before .before .drop-first in
-    all-told (a .shape) (a .t) (now (a .tables)) (l .tables) (l .left) (l .inv .1) (f .last .0) (f .result) (f .ensures) (not-true (f .result) (c .if1 .taken))
+    all-dropped (a .shape) (a .t) (now (a .tables)) (l .tables) (l .left) (l .inv .1) (f .last .0) (f .result) (f .ensures) (not-true (f .result) (c .if1 .taken))
 
 sub-left : tie.Need-sub-left Inv-loop μ-loop
 sub-left c = omega arith
