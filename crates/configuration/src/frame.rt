@@ -102,10 +102,10 @@ fn bytes_or_none(size: u16) -> u32
     ensures { λ r. ⌜ (r ≡ bytesOrNone (size % 256) (size / 256)) × (r ≤ 4097) ⌝ }
 {
     let bytes = bytes_of(size);
-    if size % 256 > 16 {
+    if bytes == 0 {
         return 4097;
     }
-    if bytes == 0 {
+    if size % 256 > 16 {
         return 4097;
     }
     bytes

@@ -81,3 +81,6 @@ asked-put {Q} e w = subst (AsksFor Q) e w
 
 pub entry-long : (x : List ℕ) (width : ℕ) → length x ≡ 16 → width ≤ 16 → length (take (width - 0) x) ≡ width
 entry-long x width e l = simp length-take (omega arith)
+
+pub entry-short : (x : List ℕ) (width : ℕ) → length x ≡ 16 → width ≤ 16 → length (take (width - 0) x) ≤ 16
+entry-short x width e l = omega (arith, entry-long x width e l)

@@ -24,6 +24,29 @@ fn prepare(tables: &mut [u8], shape: Shape, me: u8, service: bool)
     }
 }
 
+// The shape once more. Lent to a family whose code the compiler leaves apart, the shape itself would have to lie in memory in every frame;
+// the copy has to in that family's frames alone.
+fn copied(shape: Shape) -> Shape
+    ensures { λ r. ⌜ r ≡ shape ⌝ }
+{
+    Shape {
+        tasks: shape.tasks,
+        named: shape.named,
+        semaphores: shape.semaphores,
+        queues: shape.queues,
+        timers: shape.timers,
+        messages: shape.messages,
+        ticks: shape.ticks,
+        recordat: shape.recordat,
+        semaphoreat: shape.semaphoreat,
+        waitingat: shape.waitingat,
+        ringat: shape.ringat,
+        messageat: shape.messageat,
+        bodyat: shape.bodyat,
+        end: shape.end,
+    }
+}
+
 // The effect of a code, by its family; `a` and `b` are the meant task or queue and semaphore. No code is 0.
 fn by_family(
     code: u8,
@@ -47,10 +70,14 @@ fn by_family(
         0x04..=0x06 => crate::message::serve(tables, shape, code, me, a, b, frame[3], frame[4]),
         0x07..=0x08 => crate::queue::serve(tables, slots, config, shape, code, me, a, frame),
         0x09..=0x0C => crate::task::serve(tables, timers, shape, code, a),
-        0x0D..=0x0F => crate::timer::serve(tables, timers, shape, code, a, b, frame[3], frame[4]),
+        0x0D..=0x0F => {
+            let here = copied(shape);
+            crate::timer::serve(tables, timers, here, code, a, b, frame[3], frame[4]);
+        }
         0x10 => services::timer::tick(tables, timers, shape),
         _ => {
-            services::semaphore::signal(tables, shape, b);
+            let here = copied(shape);
+            services::semaphore::signal(tables, here, b);
         }
     }
 }

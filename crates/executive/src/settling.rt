@@ -39,11 +39,15 @@ fn dequeue_again(tables: &mut [u8], slots: &mut [u8], config: &[u8], shape: Shap
 {
     let r = ring(config, shape, q);
     tables::tasks::store_request(tables, shape, t, Request::None);
+    if queues::count(tables, shape, r, q) != 0 {
+        services::queue::complete_dequeue(tables, slots, shape, r, t, q);
+        return;
+    }
     if queues::take_waits(tables, shape, r, q) {
         tables::tasks::store_outcome(tables, shape, t, Outcome::Refused(21));
         return;
     }
-    services::queue::dequeue(tables, slots, shape, r, t, q);
+    services::queue::wait_to_dequeue(tables, shape, t, q);
 }
 
 fn enqueue_again(tables: &mut [u8], config: &[u8], shape: Shape, t: u8, q: u8)
@@ -57,11 +61,15 @@ fn enqueue_again(tables: &mut [u8], config: &[u8], shape: Shape, t: u8, q: u8)
     let mut entry = [0u8; 16];
     tables::tasks::load_waiting(tables, shape, t, &mut entry);
     tables::tasks::store_request(tables, shape, t, Request::None);
+    if queues::count(tables, shape, r, q) < r.depth {
+        services::queue::complete_enqueue(tables, shape, r, t, q, &entry[0..width]);
+        return;
+    }
     if queues::put_waits(tables, shape, r, q) {
         tables::tasks::store_outcome(tables, shape, t, Outcome::Refused(21));
         return;
     }
-    services::queue::enqueue(tables, shape, r, t, q, &entry[0..width]);
+    services::queue::wait_to_enqueue(tables, shape, t, q, &entry[0..width]);
 }
 
 // Whether task t has an open request; the null task has none.

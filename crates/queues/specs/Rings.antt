@@ -188,6 +188,10 @@ DoesRingWithSlots s d z d' z' r q f = DoesWithSlotsIf s d z d' z' (λ c L. r ≡
 abbrev pub HasRoom : Shape → Ring → ℕ → Config → Ledger → Type 0
 HasRoom s r q c L = (r ≡ ringOf c s q) × (length (held (queue L q)) < r .depth)
 
+-- it is not empty
+abbrev pub HoldsSome : Shape → Ring → ℕ → Config → Ledger → Type 0
+HoldsSome s r q c L = (r ≡ ringOf c s q) × (1 ≤ length (held (queue L q)))
+
 -- the oldest entry of queue q is taken into the slot of task t, where the queue has one
 abbrev pub Takes : Shape → (d z d' z' : List ℕ) → Ring → (t q : ℕ) → Type 0
 Takes s d z d' z' r t q = (e : List ℕ) (es : List (List ℕ)) → DoesWithSlotsIf s d z d' z' (λ c L. (r ≡ ringOf c s q) × (held (queue L q) ≡ e ∷ es)) (λ c L. takeEntry c t q e L)

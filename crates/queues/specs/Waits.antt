@@ -25,9 +25,8 @@ pub not-full-in : {s : Shape} {n : ℕ} → Fits s n → (q : ℕ) → OneOf (s 
     → OneOf (s .semaphores) (notFullOf s q) × OneOf (s .semaphores) (notFullOf s q - 1) × (s .semaphores ≤ 255)
 not-full-in (fitting l r) q o = ((omega arith, omega arith), (omega arith, omega arith), l .sum)
 
--- ---- the queue's semaphores and what it holds
-module _ {tidy : Bool} (c : Config) (s : Shape) (L : Ledger) (d z w : List ℕ) (h : ShowsAs tidy c s L d z w) (q : ℕ) (one : OneOf (s .queues) q) (r : Ring) (er : r ≡ ringOf c s q)
-    (b many : ℕ) (eb : b ≡ notFullOf s q) (em : many ≡ countIn s r d (q - 1)) where
+-- ---- the queue's semaphores
+module _ {tidy : Bool} (c : Config) (s : Shape) (L : Ledger) (d z w : List ℕ) (h : ShowsAs tidy c s L d z w) (q b : ℕ) (eb : b ≡ notFullOf s q) where
   pub full-is : b ≡ notFull c q
   unfolding notFull
   full-is = omega (arith, h .of .named, h .of .tasks)
@@ -36,21 +35,24 @@ module _ {tidy : Bool} (c : Config) (s : Shape) (L : Ledger) (d z w : List ℕ) 
   unfolding notEmpty
   empty-is = omega (arith, h .of .named, h .of .tasks)
 
+-- ---- what it holds
+module _ {tidy : Bool} (c : Config) (s : Shape) (L : Ledger) (d z w : List ℕ) (h : ShowsAs tidy c s L d z w) (q : ℕ) (one : OneOf (s .queues) q) (r : Ring) (er : r ≡ ringOf c s q)
+    (many : ℕ) (em : many ≡ countIn s r d (q - 1)) where
   pub holding : length (held (queue L q)) ≡ many
   holding = held-length c s L d z w h q one r er ∙ sym em
 
-  pub deep : r .depth ≡ shape c q .depth
+  deep : r .depth ≡ shape c q .depth
   deep = ap (λ (x : Ring). x .depth) er ∙ depth-is c s q (one .0)
 
-  pub not-empty : (many ≡ 0 → ⊥) → empty L q ≡ false
+  not-empty : (many ≡ 0 → ⊥) → empty L q ≡ false
   unfolding empty
   not-empty n = ne-eqb (length (held (queue L q))) 0 (λ e. n (sym holding ∙ e))
 
-  pub is-empty : many ≡ 0 → empty L q ≡ true
+  is-empty : many ≡ 0 → empty L q ≡ true
   unfolding empty
   is-empty e = eq-eqb (length (held (queue L q))) 0 (holding ∙ e)
 
-  pub has-room : many < r .depth → full c L q ≡ false
+  has-room : many < r .depth → full c L q ≡ false
   unfolding full
   has-room l = lt-leb (shape c q .depth) (length (held (queue L q))) (omega (arith, holding, deep))
 
@@ -59,23 +61,23 @@ module _ {tidy : Bool} (c : Config) (s : Shape) (L : Ledger) (d z w : List ℕ) 
   is-full l = le-leb (shape c q .depth) (length (held (queue L q))) (omega (arith, holding, deep))
 
 -- ---- as the code asks
-module _ (s : Shape) (d : List ℕ) (q : ℕ) (one : OneOf (s .queues) q) (r : Ring) (b many : ℕ) (eb : b ≡ notFullOf s q) (em : many ≡ countIn s r d (q - 1)) where
+module _ (s : Shape) (d : List ℕ) (q : ℕ) (one : OneOf (s .queues) q) (r : Ring) (many : ℕ) (em : many ≡ countIn s r d (q - 1)) where
   pub take-goes : (many ≡ 0 → ⊥) → TellsRing s d r q (λ c L. meets21 c L onNotEmpty q 0) false
   unfolding meets21 wouldWaitOn semaphoreOf isWaiting at
-  take-goes n c L z w er h = rw (not-empty c s L d z w h q one r er b many eb em n)
+  take-goes n c L z w er h = rw (not-empty c s L d z w h q one r er many em n)
 
-  pub take-waits : many ≡ 0 → (x : Bool) → Tells s d (λ c L. isWaiting (semaphoreOf L (b - 1))) x → TellsRing s d r q (λ c L. meets21 c L onNotEmpty q 0) x
+  pub take-waits : (b : ℕ) → b ≡ notFullOf s q → many ≡ 0 → (x : Bool) → Tells s d (λ c L. isWaiting (semaphoreOf L (b - 1))) x → TellsRing s d r q (λ c L. meets21 c L onNotEmpty q 0) x
   unfolding meets21 wouldWaitOn
-  take-waits e x f c L z w er h =
-      f c L z w h ∙ ap (λ (k : ℕ). isWaiting (semaphoreOf L k)) (empty-is c s L d z w h q one r er b many eb em)
-      ∙ ap (λ (v : Bool). isWaiting (semaphoreOf L (cond v (notEmpty c q) 0))) (sym (is-empty c s L d z w h q one r er b many eb em e))
+  take-waits b eb e x f c L z w er h =
+      f c L z w h ∙ ap (λ (k : ℕ). isWaiting (semaphoreOf L k)) (empty-is c s L d z w h q b eb)
+      ∙ ap (λ (v : Bool). isWaiting (semaphoreOf L (cond v (notEmpty c q) 0))) (sym (is-empty c s L d z w h q one r er many em e))
 
   pub put-goes : many < r .depth → TellsRing s d r q (λ c L. meets21 c L onNotFull q 0) false
   unfolding meets21 wouldWaitOn semaphoreOf isWaiting at
-  put-goes l c L z w er h = rw (has-room c s L d z w h q one r er b many eb em l)
+  put-goes l c L z w er h = rw (has-room c s L d z w h q one r er many em l)
 
-  pub put-waits : r .depth ≤ many → (x : Bool) → Tells s d (λ c L. isWaiting (semaphoreOf L b)) x → TellsRing s d r q (λ c L. meets21 c L onNotFull q 0) x
+  pub put-waits : (b : ℕ) → b ≡ notFullOf s q → r .depth ≤ many → (x : Bool) → Tells s d (λ c L. isWaiting (semaphoreOf L b)) x → TellsRing s d r q (λ c L. meets21 c L onNotFull q 0) x
   unfolding meets21 wouldWaitOn
-  put-waits l x f c L z w er h =
-      f c L z w h ∙ ap (λ (k : ℕ). isWaiting (semaphoreOf L k)) (full-is c s L d z w h q one r er b many eb em)
-      ∙ ap (λ (v : Bool). isWaiting (semaphoreOf L (cond v (notFull c q) 0))) (sym (is-full c s L d z w h q one r er b many eb em l))
+  put-waits b eb l x f c L z w er h =
+      f c L z w h ∙ ap (λ (k : ℕ). isWaiting (semaphoreOf L k)) (full-is c s L d z w h q b eb)
+      ∙ ap (λ (v : Bool). isWaiting (semaphoreOf L (cond v (notFull c q) 0))) (sym (is-full c s L d z w h q one r er many em l))

@@ -25,7 +25,7 @@ pub fn put(body: &mut [u8], head: usize, count: usize, w: usize, depth: usize, e
 {
     let i = wrap(head + count, depth);
     let at = i * w;
-    rows::copy_in(entry, body, at);
+    rows::copy_short(entry, body, at);
 }
 
 // Copies the oldest entry to the front of out, and gives the place of the next one.
@@ -43,6 +43,6 @@ pub fn take_out(
 {
     let from = head * w;
     let to = from + w;
-    rows::copy_in(&body[from..to], out, 0);
+    rows::copy_short(&body[from..to], out, 0);
     wrap(head + 1, depth)
 }

@@ -5,3 +5,4 @@ pub mod First
 pub mod Tab
 pub mod Bytes
 pub mod Four
+pub mod Short

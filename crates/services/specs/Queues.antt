@@ -1,20 +1,21 @@
--- Dequeue and enqueue issued: by what the queue holds, the task waits or the entry moves.
+-- Dequeue and enqueue issued: by what the queue holds, the entry moves or the task waits.
 use mathlib.Core.Path.{_≡_, refl, sym, ap, _∙_}
 use mathlib.Core.Bool.{Bool, true, false}
 use mathlib.Core.List.{List, [], _∷_}
 use Prim.Native.Nat.{ℕ, _-_, _<_, _≤_}
 use native.Mathlib.Omega.{arith}
+use borrow.Author.Tests.{lt-leb}
 use lib.ListN.{length}
 use Rattle.tables.specs.declared.shape.Shape.{Shape}
 use Rattle.tables.specs.Layout.{OneOf}
 use Rattle.tables.specs.Shows.{ShowsAs, Does, moved}
 use Rattle.queues.specs.declared.Ring.{Ring}
-use Rattle.queues.specs.Rings.{ringOf, countIn}
-use Rattle.queues.specs.Waits.{notFullOf, full-is, empty-is, holding, is-full, has-room}
+use Rattle.queues.specs.Rings.{ringOf, countIn, depth-is, HasRoom, HoldsSome}
+use Rattle.queues.specs.Waits.{notFullOf, full-is, empty-is, holding}
 use Rattle.ledger.specs.Config.{Config}
 use Rattle.ledger.specs.Ledger as ledger
 use Rattle.ledger.specs.Ledger.{Ledger, queue, held, setRequest}
-use Rattle.ledger.specs.Services.{waitFor, wakeWaiter, notEmpty, notFull, shape, full, takeEntry, putEntry, dequeued, enqueued, issue}
+use Rattle.ledger.specs.Services.{waitFor, wakeWaiter, shape, full, takeEntry, putEntry, dequeued, enqueued, issue}
 
 no-entry : (l : List (List ℕ)) → length l ≡ 0 → l ≡ []
 no-entry [] h = refl
@@ -24,39 +25,53 @@ first-entry : (l : List (List ℕ)) → 1 ≤ length l → (e : List ℕ) × ((e
 first-entry [] h = absurd (omega arith)
 first-entry (x ∷ xs) h = (x, (xs, refl))
 
-module _ {tidy : Bool} (c : Config) (s : Shape) (L : Ledger) (d z w : List ℕ) (h : ShowsAs tidy c s L d z w) (q : ℕ) (one : OneOf (s .queues) q) (r : Ring) (er : r ≡ ringOf c s q)
-    (t b many : ℕ) (eb : b ≡ notFullOf s q) (em : many ≡ countIn s r d (q - 1)) where
-  pub dequeue-empty : {d₁ d' : List ℕ} → many ≡ 0 → Does s d d₁ (λ c L. waitFor t (b - 1) L) → Does s d₁ d' (λ c L. setRequest t (ledger.dequeue q) L) → ShowsAs tidy c s (issue c t (ledger.dequeue q) L) d' z w
-  unfolding issue dequeued
-  dequeue-empty e f g =
-      let n : held (queue L q) ≡ [] = no-entry (held (queue L q)) (holding c s L d z w h q one r er b many eb em ∙ e) in
-      moved (ap (λ (k : ℕ). setRequest t (ledger.dequeue q) (waitFor t k L)) (empty-is c s L d z w h q one r er b many eb em) ∙ ap (λ (y : List (List ℕ)). dequeued c t q y L) (sym n))
-      (g tidy c (waitFor t (b - 1) L) z w (f tidy c L z w h))
-
-  pub dequeue-taken : {d₁ d' z' : List ℕ} → (many ≡ 0 → ⊥)
+-- ---- as the code completes a request, or has its task wait: b is the semaphore not-full
+module _ {tidy : Bool} (c : Config) (s : Shape) (L : Ledger) (d z w : List ℕ) (h : ShowsAs tidy c s L d z w) (q t b : ℕ) (eb : b ≡ notFullOf s q) where
+  pub dequeue-completes : {d₁ d' z' : List ℕ} → 1 ≤ length (held (queue L q))
       → ((e : List ℕ) (es : List (List ℕ)) → held (queue L q) ≡ e ∷ es → ShowsAs tidy c s (takeEntry c t q e L) d₁ z' w)
       → Does s d₁ d' (λ c L. wakeWaiter b L) → ShowsAs tidy c s (issue c t (ledger.dequeue q) L) d' z' w
   unfolding issue dequeued
-  dequeue-taken {z' = z'} ne f g =
-      let p = first-entry (held (queue L q)) (omega (arith, holding c s L d z w h q one r er b many eb em)) in
+  dequeue-completes {z' = z'} some f g =
+      let p = first-entry (held (queue L q)) some in
       let e : List ℕ = p .0 in
       let es : List (List ℕ) = p .1 .0 in
       let n : held (queue L q) ≡ e ∷ es = p .1 .1 in
-      moved (ap (λ (k : ℕ). wakeWaiter k (takeEntry c t q e L)) (full-is c s L d z w h q one r er b many eb em) ∙ ap (λ (y : List (List ℕ)). dequeued c t q y L) (sym n))
+      moved (ap (λ (k : ℕ). wakeWaiter k (takeEntry c t q e L)) (full-is c s L d z w h q b eb) ∙ ap (λ (y : List (List ℕ)). dequeued c t q y L) (sym n))
       (g tidy c (takeEntry c t q e L) z' w (f e es n))
 
-  pub enqueue-full : {d₁ d' : List ℕ} (e : List ℕ) → r .depth ≤ many → Does s d d₁ (λ c L. waitFor t b L)
-      → ((tidy : Bool) (L : Ledger) → ShowsAs tidy c s L d₁ z w → ShowsAs tidy c s (setRequest t (ledger.enqueue q e) L) d' z w) → ShowsAs tidy c s (issue c t (ledger.enqueue q e) L) d' z w
-  unfolding issue enqueued
-  enqueue-full e l f g =
-      let n : true ≡ full c L q = sym (is-full c s L d z w h q one r er b many eb em l) in
-      moved (ap (λ (k : ℕ). setRequest t (ledger.enqueue q e) (waitFor t k L)) (full-is c s L d z w h q one r er b many eb em) ∙ ap (λ (y : Bool). enqueued c t q e y L) n)
-      (g tidy (waitFor t b L) (f tidy c L z w h))
+  pub dequeue-waits : {d₁ d' : List ℕ} → held (queue L q) ≡ [] → Does s d d₁ (λ c L. waitFor t (b - 1) L) → Does s d₁ d' (λ c L. setRequest t (ledger.dequeue q) L)
+      → ShowsAs tidy c s (issue c t (ledger.dequeue q) L) d' z w
+  unfolding issue dequeued
+  dequeue-waits n f g =
+      moved (ap (λ (k : ℕ). setRequest t (ledger.dequeue q) (waitFor t k L)) (empty-is c s L d z w h q b eb) ∙ ap (λ (y : List (List ℕ)). dequeued c t q y L) (sym n))
+      (g tidy c (waitFor t (b - 1) L) z w (f tidy c L z w h))
 
-  pub enqueue-put : {d₁ d' : List ℕ} (e : List ℕ) → many < r .depth → (length (held (queue L q)) < r .depth → ShowsAs tidy c s (putEntry q e L) d₁ z w)
+  pub enqueue-completes : {d₁ d' : List ℕ} (e : List ℕ) → full c L q ≡ false → ShowsAs tidy c s (putEntry q e L) d₁ z w
       → Does s d₁ d' (λ c L. wakeWaiter (b - 1) L) → ShowsAs tidy c s (issue c t (ledger.enqueue q e) L) d' z w
   unfolding issue enqueued
-  enqueue-put e l f g =
-      let n : false ≡ full c L q = sym (has-room c s L d z w h q one r er b many eb em l) in
-      moved (ap (λ (k : ℕ). wakeWaiter k (putEntry q e L)) (empty-is c s L d z w h q one r er b many eb em) ∙ ap (λ (y : Bool). enqueued c t q e y L) n)
-      (g tidy c (putEntry q e L) z w (f (omega (arith, holding c s L d z w h q one r er b many eb em))))
+  enqueue-completes e n f g =
+      moved (ap (λ (k : ℕ). wakeWaiter k (putEntry q e L)) (empty-is c s L d z w h q b eb) ∙ ap (λ (y : Bool). enqueued c t q e y L) (sym n))
+      (g tidy c (putEntry q e L) z w f)
+
+  pub enqueue-waits : {d₁ d' : List ℕ} (e : List ℕ) → full c L q ≡ true → Does s d d₁ (λ c L. waitFor t b L)
+      → ((tidy : Bool) (L : Ledger) → ShowsAs tidy c s L d₁ z w → ShowsAs tidy c s (setRequest t (ledger.enqueue q e) L) d' z w) → ShowsAs tidy c s (issue c t (ledger.enqueue q e) L) d' z w
+  unfolding issue enqueued
+  enqueue-waits e n f g =
+      moved (ap (λ (k : ℕ). setRequest t (ledger.enqueue q e) (waitFor t k L)) (full-is c s L d z w h q b eb) ∙ ap (λ (y : Bool). enqueued c t q e y L) (sym n))
+      (g tidy (waitFor t b L) (f tidy c L z w h))
+
+-- ---- what the queue's count says
+module _ {tidy : Bool} (c : Config) (s : Shape) (L : Ledger) (d z w : List ℕ) (h : ShowsAs tidy c s L d z w) (q : ℕ) (one : OneOf (s .queues) q) (r : Ring) (er : r ≡ ringOf c s q)
+    (many : ℕ) (em : many ≡ countIn s r d (q - 1)) where
+  pub holds-none : many ≡ 0 → held (queue L q) ≡ []
+  holds-none e = no-entry (held (queue L q)) (holding c s L d z w h q one r er many em ∙ e)
+
+  pub holds-some : (many ≡ 0 → ⊥) → HoldsSome s r q c L
+  holds-some n = (er, omega (arith, holding c s L d z w h q one r er many em))
+
+  pub room-left : many < r .depth → HasRoom s r q c L
+  room-left l = (er, omega (arith, holding c s L d z w h q one r er many em))
+
+pub room-is : (c : Config) (s : Shape) (L : Ledger) (q : ℕ) → OneOf (s .queues) q → (r : Ring) → HasRoom s r q c L → full c L q ≡ false
+unfolding full
+room-is c s L q one r k = lt-leb (shape c q .depth) (length (held (queue L q))) (omega (arith, k .1, ap (λ (x : Ring). x .depth) (k .0) ∙ depth-is c s q (one .0)))

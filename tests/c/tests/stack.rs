@@ -12,7 +12,7 @@ use plain_executive::line;
 use tools::{frames_of, stories, text};
 
 /// What the papers say.
-const FEWER: usize = 950;
+const FEWER: usize = 700;
 
 fn story(name: String) -> Script {
     let lines = frames_of(&name);

@@ -1,8 +1,7 @@
 -- A queue that holds something gives it; an empty one has the semaphore not-empty.
-use mathlib.Core.Path.{refl}
 use denote.Ref.{now}
 use Rattle.tables.specs.Layout.{fits-end}
-use Rattle.queues.specs.Waits.{notFullOf, take-goes, take-waits}
+use Rattle.queues.specs.Waits.{take-goes, take-waits}
 use borrow.Author.Needs.{needs}
 use Rattle.queues.proofs.take_waits.Statement.{statement}
 use Rattle.queues.proofs.take_waits.Tie as tie
@@ -14,7 +13,7 @@ returns : tie.Need-returns
 returns c =
     let s = c .before .before .before in
     let a = s .args in
-    take-goes (a .shape) (now (a .tables)) (a .q) (s .pre .1) (a .ring) (notFullOf (a .shape) (a .q)) _ refl (c .before .count .ensures) (c .if1 .taken)
+    take-goes (a .shape) (now (a .tables)) (a .q) (s .pre .1) (a .ring) _ (c .before .count .ensures) (c .if1 .taken)
 
 not-full-requires : tie.Need-not-full-requires
 not-full-requires c κs = let s = c .before .before .before in (fits-end (s .pre .0), s .pre .1)
@@ -29,7 +28,7 @@ returns-2 : tie.Need-returns-2
 returns-2 c =
     let s = c .before .before .before .before .before in
     let a = s .args in
-    take-waits (a .shape) (now (a .tables)) (a .q) (s .pre .1) (a .ring) _ _ (c .before .not-full .ensures .0) (c .before .before .before .count .ensures) (c .before .before .if1 .left) _ (c .is-waiting .ensures)
+    take-waits (a .shape) (now (a .tables)) (a .q) (s .pre .1) (a .ring) _ (c .before .before .before .count .ensures) _ (c .before .not-full .ensures .0) (c .before .before .if1 .left) _ (c .is-waiting .ensures)
 
 pub take-waits-spec : {M : Type 1} → statement M
 take-waits-spec =

@@ -1,4 +1,3 @@
-use Prim.Native.Nat.{_-_}
 use native.Mathlib.Omega.{arith}
 use denote.Ref.{now}
 use Rattle.rows.specs.Rows.{row-fits}
@@ -13,17 +12,17 @@ mul-from c = let z = c .before .before in omega (arith, row-fits (z .args .w) (z
 add-to : tie.Need-add-to
 add-to c = let z = c .before .before in omega (arith, row-fits (z .args .w) (z .args .head) (z .args .depth) (z .pre .0))
 
-sub-copy-in : tie.Need-sub-copy-in
-sub-copy-in c = search needs
+sub-copy-short : tie.Need-sub-copy-short
+sub-copy-short c = search needs
 
-part-copy-in-start : tie.Need-part-copy-in-start
-part-copy-in-start c = search needs
+part-copy-short-start : tie.Need-part-copy-short-start
+part-copy-short-start c = search needs
 
-part-copy-in-end : tie.Need-part-copy-in-end
-part-copy-in-end c = let z = c .before .before in omega (arith, row-fits (z .args .w) (z .args .head) (z .args .depth) (z .pre .0))
+part-copy-short-end : tie.Need-part-copy-short-end
+part-copy-short-end c = let z = c .before .before in omega (arith, row-fits (z .args .w) (z .args .head) (z .args .depth) (z .pre .0))
 
-copy-in-requires : tie.Need-copy-in-requires
-copy-in-requires c κs = search needs
+copy-short-requires : tie.Need-copy-short-requires
+copy-short-requires c κs = search needs
 
 add-wrap : tie.Need-add-wrap
 add-wrap c = search needs
@@ -38,7 +37,7 @@ returns : tie.Need-returns
 returns c =
     let z = c .before .before .before .before .before .before .before .before in
     let a = z .args in
-    take-done (a .w) (a .depth) (a .head) (a .count) (c .wrap .result) (now (a .body)) (now (a .out)) (c .before .before .before .copy-in .last .1 .0) (z .pre .0) (z .pre .1) (z .pre .2) (c .before .before .before .copy-in .ensures) (c .wrap .ensures)
+    take-done (a .w) (a .depth) (a .head) (a .count) (c .wrap .result) (now (a .body)) (now (a .out)) (c .before .before .before .copy-short .last .1 .0) (z .pre .0) (z .pre .1) (z .pre .2) (c .before .before .before .copy-short .ensures) (c .wrap .ensures)
 
 pub take-out-spec : {M : Type 1} → statement M
 take-out-spec =
@@ -46,10 +45,10 @@ take-out-spec =
     (tie.spec
     mul-from
     add-to
-    sub-copy-in
-    part-copy-in-start
-    part-copy-in-end
-    copy-in-requires
+    sub-copy-short
+    part-copy-short-start
+    part-copy-short-end
+    copy-short-requires
     add-wrap
     wrap-requires
     same-length

@@ -1,4 +1,4 @@
--- Too wide, or a width or depth of 0, or a queue.
+-- A width or depth of 0, or too wide, or a queue.
 use native.Mathlib.Omega.{arith}
 use mathlib.Core.Path.{sym, _∙_}
 use Prim.Native.Nat.{_/_, _%_}
@@ -11,16 +11,16 @@ bytes-of-requires : tie.Need-bytes-of-requires
 bytes-of-requires c κs = search needs
 
 returns : tie.Need-returns
-returns c = let x = c .before .before .args .size in (too-wide (x % 256) (x / 256) (omega arith), omega arith)
+returns c = let x = c .before .before .args .size in (no-bytes (x % 256) (x / 256) (sym (c .before .bytes-of .ensures .0) ∙ c .if1 .taken), omega arith)
 
 returns-2 : tie.Need-returns-2
-returns-2 c = let x = c .before .before .before .args .size in (no-bytes (x % 256) (x / 256) (sym (c .before .before .bytes-of .ensures .0) ∙ c .if2 .taken), omega arith)
+returns-2 c = let x = c .before .before .before .args .size in (too-wide (x % 256) (x / 256) (omega arith), omega arith)
 
 returns-3 : tie.Need-returns-3
 returns-3 c =
     let x = c .before .before .before .args .size in
     let e = c .before .before .bytes-of .ensures .0 in
-    let s = some-bytes (x % 256) (x / 256) (omega arith) (omega arith) (λ z. c .if2 .left (e ∙ z)) in
+    let s = some-bytes (x % 256) (x / 256) (omega arith) (omega arith) (λ z. c .before .if1 .left (e ∙ z)) in
     (e ∙ s .0, omega (arith, e, s .1))
 
 pub bytes-or-none-spec : {M : Type 1} → statement M

@@ -1,19 +1,29 @@
 -- `by_family`: each family does what the ledger does with its codes; the tick and the interrupt exit are no services.
-use mathlib.Core.Path.{_≡_}
-use Prim.Native.Nat.{_+_, _*_}
+use mathlib.Core.Path.{_≡_, subst}
+use mathlib.Core.List.{List}
+use Prim.Native.Nat.{ℕ, _+_, _*_}
 use native.Mathlib.Omega.{arith}
 use denote.Ref.{now}
 use lib.ListN.{drop}
 use Rattle.ledger.specs.Lists.{at, byte}
 use Rattle.ledger.specs.Services.{effect}
 use Rattle.ledger.specs.Refusals.{codeAt}
-use Rattle.tables.specs.Shows.{moved}
-use Rattle.ledger.specs.Config.{configIn}
+use Rattle.tables.specs.declared.shape.Shape.{Shape}
+use Rattle.tables.specs.Shows.{Does, DoesWithTimersIf, moved}
+use Rattle.ledger.specs.Config.{Config, configIn}
+use Rattle.ledger.specs.Ledger.{Ledger}
 use Rattle.executive.specs.Suits.{configuration, tables, slots, timers}
 use Rattle.executive.specs.Carried.{by-code, exit-is}
 use borrow.Author.Needs.{needs}
 use Rattle.executive.proofs.carrying.by_family.Statement.{statement}
 use Rattle.executive.proofs.carrying.by_family.Tie as tie
+
+-- what is done by a shape that is the same
+as-copied-timers : {r s : Shape} → r ≡ s → {d z d' z' : List ℕ} {P : Config → Ledger → Type 0} {f : Config → Ledger → Ledger} → DoesWithTimersIf r d z d' z' P f → DoesWithTimersIf s d z d' z' P f
+as-copied-timers e {d} {z} {d'} {z'} {P} {f} = subst (λ s. DoesWithTimersIf s d z d' z' P f) e
+
+as-copied : {r s : Shape} → r ≡ s → {d d' : List ℕ} {f : Config → Ledger → Ledger} → Does r d d' f → Does s d d' f
+as-copied e {d} {d'} {f} = subst (λ s. Does s d d' f) e
 
 tick-requires : tie.Need-tick-requires
 tick-requires c κs = let s = c .before .before .before .before .before .before .before .before in let g = configIn (now (s .args .config)) in let f = now (s .args .frame) in let l = s .pre .2 in let m = s .pre .3 in (tables l, timers l)
@@ -36,6 +46,9 @@ serve-requires-3 c κs = let s = c .before .before .before .before .before .befo
 serve-requires-4 : tie.Need-serve-requires-4
 serve-requires-4 c κs = let s = c .before .before .before .before .before .before .before .before .before .before .before .before in let g = configIn (now (s .args .config)) in let f = now (s .args .frame) in let l = s .pre .2 in let m = s .pre .3 in (tables l, timers l, omega arith, omega arith, m .task)
 
+copied-requires : tie.Need-copied-requires
+copied-requires c κs = search needs
+
 shared-slice-read-serve-3 : tie.Need-shared-slice-read-serve-3
 shared-slice-read-serve-3 c = search needs
 
@@ -43,10 +56,13 @@ shared-slice-read-serve-4 : tie.Need-shared-slice-read-serve-4
 shared-slice-read-serve-4 c = search needs
 
 serve-requires-5 : tie.Need-serve-requires-5
-serve-requires-5 c κs = let s = c .before .before .before .before .before .before .before .before .before .before .before .before .before .before .before in let g = configIn (now (s .args .config)) in let f = now (s .args .frame) in let l = s .pre .2 in let m = s .pre .3 in (tables l, timers l, omega arith, omega arith, m .task, m .semaphore)
+serve-requires-5 c κs = let s = c .before .before .before .before .before .before .before .before .before .before .before .before .before .before .before .before in let g = configIn (now (s .args .config)) in let f = now (s .args .frame) in let l = s .pre .2 in let m = s .pre .3 in rw (c .before .before .before .before .copied .ensures) (tables l, timers l, omega arith, omega arith, m .task, m .semaphore)
+
+copied-requires-2 : tie.Need-copied-requires-2
+copied-requires-2 c κs = search needs
 
 signal-requires : tie.Need-signal-requires
-signal-requires c κs = let s = c .before .before .before .before .before .before .before .before .before .before .before .before in let g = configIn (now (s .args .config)) in let f = now (s .args .frame) in let l = s .pre .2 in let m = s .pre .3 in tables l
+signal-requires c κs = let s = c .before .before .before .before .before .before .before .before .before .before .before .before .before in let g = configIn (now (s .args .config)) in let f = now (s .args .frame) in let l = s .pre .2 in let m = s .pre .3 in rw (c .before .copied2 .ensures) (tables l)
 
 same-length : tie.Need-same-length
 same-length c = search needs
@@ -95,14 +111,14 @@ same-length-10 : tie.Need-same-length-10
 same-length-10 c = search needs
 
 returns-6 : tie.Need-returns-6
-returns-6 c = let s = c .before .before .before .before .before .before .before .before .before .before .before .before .before .before .before .before .before .before .before .before in let g = configIn (now (s .args .config)) in let f = now (s .args .frame) in let l = s .pre .2 in let m = s .pre .3 in λ tidy L fr h. c .before .before .before .before .serve5 .ensures (s .args .me) (drop 5 f) tidy g L _ fr h
+returns-6 c = let s = c .before .before .before .before .before .before .before .before .before .before .before .before .before .before .before .before .before .before .before .before .before in let g = configIn (now (s .args .config)) in let f = now (s .args .frame) in let l = s .pre .2 in let m = s .pre .3 in λ tidy L fr h. as-copied-timers (c .before .before .before .before .before .before .before .before .before .copied .ensures) (c .before .before .before .before .serve5 .ensures (s .args .me) (drop 5 f)) tidy g L _ fr h
 
 same-length-11 : tie.Need-same-length-11
 same-length-11 c = search needs
 
 returns-7 : tie.Need-returns-7
 unfolding effect codeAt at
-returns-7 c = let s = c .before .before .before .before .before .before .before .before .before .before .before .before .before .before .before in let g = configIn (now (s .args .config)) in let f = now (s .args .frame) in let l = s .pre .2 in let m = s .pre .3 in let n : s .args .code ≡ 16 → ⊥ = c .before .before .before .before .before .before .before .before .before .match .rest .1 in let k : s .args .code ≡ 17 = omega (arith, c .before .before .before .before .if5 .left, s .pre .1, n) in λ tidy L fr h. by-code g (s .args .shape) (s .args .me) (s .args .a) (s .args .b) (256 * byte 3 f + byte 4 f) (drop 5 f) L (s .args .code) 17 k (moved (exit-is (s .args .b) L) (c .before .before .signal .ensures .0 tidy g L _ _ h))
+returns-7 c = let s = c .before .before .before .before .before .before .before .before .before .before .before .before .before .before .before .before in let g = configIn (now (s .args .config)) in let f = now (s .args .frame) in let l = s .pre .2 in let m = s .pre .3 in let n : s .args .code ≡ 16 → ⊥ = c .before .before .before .before .before .before .before .before .before .before .match .rest .1 in let k : s .args .code ≡ 17 = omega (arith, c .before .before .before .before .before .if5 .left, s .pre .1, n) in λ tidy L fr h. by-code g (s .args .shape) (s .args .me) (s .args .a) (s .args .b) (256 * byte 3 f + byte 4 f) (drop 5 f) L (s .args .code) 17 k (moved (exit-is (s .args .b) L) (as-copied (c .before .before .before .before .copied2 .ensures) (c .before .before .signal .ensures .0) tidy g L _ _ h))
 
 pub by-family-spec : {M : Type 1} → statement M
 by-family-spec =
@@ -115,9 +131,11 @@ by-family-spec =
     serve-requires-2
     serve-requires-3
     serve-requires-4
+    copied-requires
     shared-slice-read-serve-3
     shared-slice-read-serve-4
     serve-requires-5
+    copied-requires-2
     signal-requires
     same-length
     same-length-2
