@@ -2,30 +2,22 @@
 use mathlib.Core.Path.{_≡_, refl, sym, ap, _∙_}
 use mathlib.Core.Bool.{Bool, true, false}
 use mathlib.Core.List.{List, [], _∷_}
-use Prim.Native.Nat.{ℕ, _-_, _<_, _≤_}
+use Prim.Native.Nat.{ℕ, _-_, _≤_}
 use native.Mathlib.Omega.{arith}
-use borrow.Author.Tests.{lt-leb}
 use lib.ListN.{length}
 use Rattle.tables.specs.declared.shape.Shape.{Shape}
-use Rattle.tables.specs.Layout.{OneOf}
 use Rattle.tables.specs.Shows.{ShowsAs, Does, moved}
-use Rattle.queues.specs.declared.Ring.{Ring}
-use Rattle.queues.specs.Rings.{ringOf, countIn, depth-is, HasRoom, HoldsSome}
-use Rattle.queues.specs.Waits.{notFullOf, full-is, empty-is, holding}
+use Rattle.queues.specs.Waits.{notFullOf, full-is, empty-is}
 use Rattle.ledger.specs.Config.{Config}
 use Rattle.ledger.specs.Ledger as ledger
 use Rattle.ledger.specs.Ledger.{Ledger, queue, held, setRequest}
-use Rattle.ledger.specs.Services.{waitFor, wakeWaiter, shape, full, takeEntry, putEntry, dequeued, enqueued, issue}
-
-no-entry : (l : List (List ℕ)) → length l ≡ 0 → l ≡ []
-no-entry [] h = refl
-no-entry (x ∷ xs) h = absurd (omega arith)
+use Rattle.ledger.specs.Services.{waitFor, wakeWaiter, full, takeEntry, putEntry, dequeued, enqueued, issue}
 
 first-entry : (l : List (List ℕ)) → 1 ≤ length l → (e : List ℕ) × ((es : List (List ℕ)) × (l ≡ e ∷ es))
 first-entry [] h = absurd (omega arith)
 first-entry (x ∷ xs) h = (x, (xs, refl))
 
--- ---- as the code completes a request, or has its task wait: b is the semaphore not-full
+-- b is the semaphore not-full
 module _ {tidy : Bool} (c : Config) (s : Shape) (L : Ledger) (d z w : List ℕ) (h : ShowsAs tidy c s L d z w) (q t b : ℕ) (eb : b ≡ notFullOf s q) where
   pub dequeue-completes : {d₁ d' z' : List ℕ} → 1 ≤ length (held (queue L q))
       → ((e : List ℕ) (es : List (List ℕ)) → held (queue L q) ≡ e ∷ es → ShowsAs tidy c s (takeEntry c t q e L) d₁ z' w)
@@ -59,19 +51,3 @@ module _ {tidy : Bool} (c : Config) (s : Shape) (L : Ledger) (d z w : List ℕ) 
   enqueue-waits e n f g =
       moved (ap (λ (k : ℕ). setRequest t (ledger.enqueue q e) (waitFor t k L)) (full-is c s L d z w h q b eb) ∙ ap (λ (y : Bool). enqueued c t q e y L) (sym n))
       (g tidy (waitFor t b L) (f tidy c L z w h))
-
--- ---- what the queue's count says
-module _ {tidy : Bool} (c : Config) (s : Shape) (L : Ledger) (d z w : List ℕ) (h : ShowsAs tidy c s L d z w) (q : ℕ) (one : OneOf (s .queues) q) (r : Ring) (er : r ≡ ringOf c s q)
-    (many : ℕ) (em : many ≡ countIn s r d (q - 1)) where
-  pub holds-none : many ≡ 0 → held (queue L q) ≡ []
-  holds-none e = no-entry (held (queue L q)) (holding c s L d z w h q one r er many em ∙ e)
-
-  pub holds-some : (many ≡ 0 → ⊥) → HoldsSome s r q c L
-  holds-some n = (er, omega (arith, holding c s L d z w h q one r er many em))
-
-  pub room-left : many < r .depth → HasRoom s r q c L
-  room-left l = (er, omega (arith, holding c s L d z w h q one r er many em))
-
-pub room-is : (c : Config) (s : Shape) (L : Ledger) (q : ℕ) → OneOf (s .queues) q → (r : Ring) → HasRoom s r q c L → full c L q ≡ false
-unfolding full
-room-is c s L q one r k = lt-leb (shape c q .depth) (length (held (queue L q))) (omega (arith, k .1, ap (λ (x : Ring). x .depth) (k .0) ∙ depth-is c s q (one .0)))

@@ -1,4 +1,4 @@
-//! Milliseconds through the C function, against the other implementation; its examples are in `tests/examples.rs` there.
+//! Milliseconds through the C function, against the other implementation; its examples are in `tests/examples/marked.rs` there.
 
 use c::milliseconds;
 use plain_executive::tocks::tocks_of_milliseconds;

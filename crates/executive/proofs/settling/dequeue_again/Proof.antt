@@ -6,8 +6,7 @@ use denote.Ref.{now}
 use Rattle.tables.specs.Layout.{still-fits}
 use Rattle.tables.specs.Decode.{viewOutcome, viewRequest}
 use Rattle.tables.specs.Shows.{loosely, moved}
-use Rattle.queues.specs.Waits.{take-goes}
-use Rattle.services.specs.Queues.{holds-none, holds-some}
+use Rattle.queues.specs.Waits.{take-goes, holds-none, holds-some}
 use Rattle.ledger.specs.Config.{configIn}
 use Rattle.ledger.specs.Ledger.{setRequest, none}
 use Rattle.ledger.specs.Session.{refused21}

@@ -10,8 +10,7 @@ use Rattle.tables.specs.Layout.{still-fits}
 use Rattle.tables.specs.Decode.{viewOutcome, viewRequest}
 use Rattle.tables.specs.Shows.{loosely, moved}
 use Rattle.queues.specs.Rings.{width-is}
-use Rattle.queues.specs.Waits.{put-goes, is-full}
-use Rattle.services.specs.Queues.{room-left}
+use Rattle.queues.specs.Waits.{put-goes, is-full, room-left}
 use Rattle.ledger.specs.Config.{configIn}
 use Rattle.ledger.specs.Ledger as ledger
 use Rattle.ledger.specs.Ledger.{setRequest, none}

@@ -2,7 +2,8 @@
 use native.Mathlib.Omega.{arith}
 use denote.Ref.{now}
 use Rattle.tables.specs.Layout.{still-fits, fits-end}
-use Rattle.services.specs.Queues.{enqueue-completes, room-is}
+use Rattle.queues.specs.Waits.{room-is}
+use Rattle.services.specs.Queues.{enqueue-completes}
 use borrow.Author.Needs.{needs}
 use Rattle.services.proofs.queue.complete_enqueue.Statement.{statement}
 use Rattle.services.proofs.queue.complete_enqueue.Tie as tie

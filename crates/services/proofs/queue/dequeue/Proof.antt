@@ -1,6 +1,6 @@
 -- `dequeue` waits where the queue holds nothing, and completes where it holds something.
 use denote.Ref.{now}
-use Rattle.services.specs.Queues.{holds-none, holds-some}
+use Rattle.queues.specs.Waits.{holds-none, holds-some}
 use borrow.Author.Needs.{needs}
 use Rattle.services.proofs.queue.dequeue.Statement.{statement}
 use Rattle.services.proofs.queue.dequeue.Tie as tie

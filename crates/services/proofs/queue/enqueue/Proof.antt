@@ -2,8 +2,7 @@
 use mathlib.Core.Path.{ap, _∙_}
 use denote.Ref.{now}
 use Rattle.queues.specs.Rings.{width-is}
-use Rattle.queues.specs.Waits.{is-full}
-use Rattle.services.specs.Queues.{room-left}
+use Rattle.queues.specs.Waits.{is-full, room-left}
 use borrow.Author.Needs.{needs}
 use Rattle.services.proofs.queue.enqueue.Statement.{statement}
 use Rattle.services.proofs.queue.enqueue.Tie as tie
