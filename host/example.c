@@ -15,14 +15,14 @@ static const char *advice(uint8_t number)
 {
     switch (number) {
     case MCX11_NUMBER_LINE: return "send upper-case digits in pairs, 652 at most, and nothing else";
-    case MCX11_NUMBER_LENGTH: return "send five bytes, for an enqueue also its entry, for a configuration 8 + T + 2Q and its pairs";
+    case MCX11_NUMBER_LENGTH: return "send five bytes, for a season timer seven, for an enqueue also its entry; for a configuration 8 + T + 2Q and its pairs";
     case MCX11_NUMBER_CONFIGURATION: return "correct the configuration's values; none was started";
-    case MCX11_NUMBER_CODE: return "send a code from $01 to $11";
+    case MCX11_NUMBER_CODE: return "send a code from $01 to $12";
     case MCX11_NUMBER_TASK: return "name a task of the configuration, and 0 only for self or any";
     case MCX11_NUMBER_SEMAPHORE: return "name a semaphore from 0 to S + T";
     case MCX11_NUMBER_QUEUE: return "name a queue of the configuration";
     case MCX11_NUMBER_MESSAGE: return "name a message from 1 to G";
-    case MCX11_NUMBER_TOCK_VALUE: return "give a tock value other than 0";
+    case MCX11_NUMBER_TOCK_VALUE: return "give a tock value other than 0; more tocks than 16 bits hold take a season timer";
     case MCX11_NUMBER_MILLISECONDS: return "ask for at least one tock and at most 32,767";
     case MCX11_NUMBER_MEMORY: return "configure first; else stop, for someone wrote into the lent memory";
     case MCX11_NUMBER_NULL_TASK_RUNS: return "let tasks alone call services; the null task has none";
@@ -153,6 +153,16 @@ static void end_the_lap(void)
     tell("task 3: terminate itself, the message unread", mcx11_terminate(&ride, MCX11_SELF));
 }
 
+/* The station, task 1, has the wheels inspected every 30 days. So many tocks don't fit 16 bits: MCX11_EVERY gives 0, and the timer is
+   refused with 9. A season timer has 32 bits. */
+static void inspect_the_wheels(void)
+{
+    const int32_t tocks = (int32_t)30 * 24 * 3600 * (1000 / TOCK_MS);
+
+    tell("task 1: timer of 30 days", mcx11_timer(&ride, MCX11_SELF, MCX11_OWN, MCX11_EVERY(tocks)));
+    tell("task 1: season timer of 30 days", mcx11_season_timer(&ride, MCX11_SELF, MCX11_OWN, MCX11_SEASON_EVERY(tocks)));
+}
+
 int main(void)
 {
     static const uint8_t entry[] = {0x41};
@@ -201,5 +211,6 @@ int main(void)
     tell("task 3: pend semaphore 1, so that the gate stays shut", mcx11_pend(&ride, 1)); /* its first service: it has begun */
     tell("clock: tick", mcx11_tick(&ride));
     end_the_lap();
+    inspect_the_wheels();
     return EXIT_SUCCESS;
 }

@@ -27,9 +27,9 @@ extern "C" {
 /** @name The version: docs/CHANGES.md says what each changed for hosts
  * @{ */
 #define MCX11_VERSION_MAJOR 5 /**< a host has to be changed */
-#define MCX11_VERSION_MINOR 0 /**< something is new, or the lent memory has another layout */
+#define MCX11_VERSION_MINOR 1 /**< something is new, or the lent memory has another layout */
 #define MCX11_VERSION_PATCH 0 /**< something is mended */
-#define MCX11_VERSION "5.0.0" /**< the three as a text */
+#define MCX11_VERSION "5.1.0" /**< the three as a text */
 /** @} */
 
 /** @name The sizes of the lent blocks
@@ -90,23 +90,24 @@ typedef struct mcx11_module_t {
 
 /** The codes of frames. A, B and X are the frame's fields; one that a code does not name is ignored. */
 enum mcx11_code {
-    MCX11_WAIT = 0x01,          /**< for semaphore B */
-    MCX11_SIGNAL = 0x02,        /**< semaphore B */
-    MCX11_PEND = 0x03,          /**< semaphore B */
-    MCX11_SEND = 0x04,          /**< message X to task A, with semaphore B */
-    MCX11_SENDW = 0x05,         /**< as send, then wait for B */
-    MCX11_RECEIVE = 0x06,       /**< a message from task A, 0 is any */
-    MCX11_DEQUEUE = 0x07,       /**< an entry from queue A */
-    MCX11_ENQUEUE = 0x08,       /**< the entry behind X into queue A */
-    MCX11_RESUME = 0x09,        /**< task A */
-    MCX11_SUSPEND = 0x0A,       /**< task A, 0 is self */
-    MCX11_TERMINATE = 0x0B,     /**< task A, 0 is self; signals the semaphores of the messages in its mailbox */
-    MCX11_EXECUTE = 0x0C,       /**< task A from its start */
-    MCX11_DELAY = 0x0D,         /**< task A, 0 is self, on semaphore B by the tock value X */
-    MCX11_TIMER = 0x0E,         /**< for task A, 0 is self, on semaphore B with the tock value X */
-    MCX11_PURGE = 0x0F,         /**< task A's timers, 0 is self: all if X's low byte is 0, else the one on B */
-    MCX11_TICK = 0x10,          /**< of the clock; no service of a task */
-    MCX11_INTERRUPT_EXIT = 0x11 /**< with semaphore B signalled, 0 is none; no service of a task */
+    MCX11_WAIT = 0x01,           /**< for semaphore B */
+    MCX11_SIGNAL = 0x02,         /**< semaphore B */
+    MCX11_PEND = 0x03,           /**< semaphore B */
+    MCX11_SEND = 0x04,           /**< message X to task A, with semaphore B */
+    MCX11_SENDW = 0x05,          /**< as send, then wait for B */
+    MCX11_RECEIVE = 0x06,        /**< a message from task A, 0 is any */
+    MCX11_DEQUEUE = 0x07,        /**< an entry from queue A */
+    MCX11_ENQUEUE = 0x08,        /**< the entry behind X into queue A */
+    MCX11_RESUME = 0x09,         /**< task A */
+    MCX11_SUSPEND = 0x0A,        /**< task A, 0 is self */
+    MCX11_TERMINATE = 0x0B,      /**< task A, 0 is self; signals the semaphores of the messages in its mailbox */
+    MCX11_EXECUTE = 0x0C,        /**< task A from its start */
+    MCX11_DELAY = 0x0D,          /**< task A, 0 is self, on semaphore B by the tock value X */
+    MCX11_TIMER = 0x0E,          /**< for task A, 0 is self, on semaphore B with the tock value X */
+    MCX11_PURGE = 0x0F,          /**< task A's timers, 0 is self: all if X's low byte is 0, else the one on B */
+    MCX11_TICK = 0x10,           /**< of the clock; no service of a task */
+    MCX11_INTERRUPT_EXIT = 0x11, /**< with semaphore B signalled, 0 is none; no service of a task */
+    MCX11_SEASON_TIMER = 0x12    /**< as timer, the tock value in four bytes from X's place on: a frame of seven */
 };
 
 /** What the running task's last request ended with. */
@@ -264,7 +265,7 @@ static inline size_t mcx11_configuration_bytes(const mcx11_configuration_t *conf
 
 #define MCX11_SELF ((uint8_t)0) /**< as a task: the running task */
 #define MCX11_ANY ((uint8_t)0)  /**< as the sender in receive: whoever it is */
-#define MCX11_OWN ((uint8_t)0)  /**< as a semaphore: the running task's own; in delay, timer and purge that of the task named */
+#define MCX11_OWN ((uint8_t)0)  /**< as a semaphore: the running task's own; where timers are started or purged, the named task's */
 #define MCX11_NONE ((uint8_t)0) /**< as the semaphore of an interrupt exit: none is signalled */
 
 /** The tock value of n tocks once, 1 to 32,767. Any other n gives 0, and the call is refused with 9; so does what
@@ -277,15 +278,24 @@ static inline uint16_t mcx11_every(int32_t n) { return n >= 1 && n <= 32768 ? (u
 #define MCX11_ONCE(n) mcx11_once(n)   /**< for delay and timer: n tocks once */
 #define MCX11_EVERY(n) mcx11_every(n) /**< for delay and timer: every n tocks */
 
+/** The season timer's value of n tocks once, 1 to 2,147,483,647. Any other n gives 0, as above. */
+static inline int32_t mcx11_season_once(int64_t n) { return n >= 1 && n <= 2147483647 ? (int32_t)n : 0; }
+
+/** The season timer's value of every n tocks, 1 to 2,147,483,648. Any other n gives 0, as above. */
+static inline int32_t mcx11_season_every(int64_t n) { return n >= 1 && n - 1 <= 2147483647 ? (int32_t)(-n) : 0; }
+
+#define MCX11_SEASON_ONCE(n) mcx11_season_once(n)   /**< for season timer: n tocks once */
+#define MCX11_SEASON_EVERY(n) mcx11_season_every(n) /**< for season timer: every n tocks */
+
 /* ---- Names as texts; what has none is "unknown" */
 
 /** Of an enum mcx11_code: "wait", "interrupt exit". */
 static inline const char *mcx11_code_name(uint8_t code)
 {
     static const char *const names[] = {
-        "unknown", "wait",    "signal",    "pend",    "send",  "sendw", "receive", "dequeue", "enqueue",
-        "resume",  "suspend", "terminate", "execute", "delay", "timer", "purge",   "tick",    "interrupt exit"};
-    return code <= MCX11_INTERRUPT_EXIT ? names[code] : names[0];
+        "unknown", "wait",      "signal",  "pend",  "send",  "sendw", "receive", "dequeue",        "enqueue",     "resume",
+        "suspend", "terminate", "execute", "delay", "timer", "purge", "tick",    "interrupt exit", "season timer"};
+    return code <= MCX11_SEASON_TIMER ? names[code] : names[0];
 }
 
 /** Of an enum mcx11_outcome_kind: "plain", "entry". */

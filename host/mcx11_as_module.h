@@ -33,6 +33,7 @@
 #define mcx11_execute mcx11_module_execute
 #define mcx11_delay mcx11_module_delay
 #define mcx11_timer mcx11_module_timer
+#define mcx11_season_timer mcx11_module_season_timer
 #define mcx11_purge mcx11_module_purge
 #define mcx11_purge_all mcx11_module_purge_all
 #define mcx11_tick mcx11_module_tick
@@ -96,6 +97,7 @@
 #undef mcx11_execute
 #undef mcx11_delay
 #undef mcx11_timer
+#undef mcx11_season_timer
 #undef mcx11_purge
 #undef mcx11_purge_all
 #undef mcx11_tick

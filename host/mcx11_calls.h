@@ -39,7 +39,8 @@ static inline uint8_t mcx11_frame(mcx11_t *m, const uint8_t *bytes, size_t lengt
     return number;
 }
 
-/** The frame of five bytes: every code but enqueue, whose entry stands behind them. @return the number, 0 accepted */
+/** The frame of five bytes: every code but enqueue, whose entry stands behind them, and season timer, whose tocks have two bytes
+ * more. Those have calls of their own; by this one a season timer is refused with 2. @return the number, 0 accepted */
 static inline uint8_t mcx11_call(mcx11_t *m, uint8_t code, uint8_t a, uint8_t b, uint16_t x)
 {
     const uint8_t bytes[5] = {code, a, b, (uint8_t)(x >> 8), (uint8_t)(x & 0xFF)};
@@ -119,6 +120,16 @@ static inline uint8_t mcx11_delay(mcx11_t *m, uint8_t task, uint8_t semaphore, u
 static inline uint8_t mcx11_timer(mcx11_t *m, uint8_t task, uint8_t semaphore, uint16_t tocks)
 {
     return mcx11_call(m, MCX11_TIMER, task, semaphore, tocks);
+}
+
+/** The same with four bytes of tocks. The tocks: MCX11_SEASON_ONCE(n) or MCX11_SEASON_EVERY(n), which are n and -n. An MCX11_EVERY(n)
+ * would be 65,536 - n tocks once. */
+static inline uint8_t mcx11_season_timer(mcx11_t *m, uint8_t task, uint8_t semaphore, int32_t tocks)
+{
+    const uint32_t x = (uint32_t)tocks; /* the same bits, whatever the sign */
+    const uint8_t bytes[7] = {MCX11_SEASON_TIMER,       task,                 semaphore, (uint8_t)(x >> 24), (uint8_t)(x >> 16 & 0xFF),
+                              (uint8_t)(x >> 8 & 0xFF), (uint8_t)(x & 0xFF)};
+    return mcx11_frame(m, bytes, sizeof bytes);
 }
 
 /** Removes the task's timer on this semaphore, if there is one. */

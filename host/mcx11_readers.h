@@ -205,7 +205,8 @@ static inline uint8_t mcx11_timer_count(const mcx11_t *m)
     return (uint8_t)mcx11_timer_rows(m);
 }
 
-/** The tocks until the task's timer on this semaphore is due, as both are numbered (not 0); 0 if there is none. */
+/** The tocks until the task's timer on this semaphore is due, as both are numbered (not 0); 0 if there is none. They may be
+ * 2,147,483,648, one more than an int32_t holds. */
 static inline uint32_t mcx11_tocks_left(const mcx11_t *m, uint8_t task, uint8_t semaphore)
 {
     const size_t row = mcx11_timer_row(m, task, semaphore);
@@ -213,7 +214,7 @@ static inline uint32_t mcx11_tocks_left(const mcx11_t *m, uint8_t task, uint8_t 
     return due < now ? 0 : due - now;
 }
 
-/** The period of the task's timer on this semaphore; 0 if it is a one-shot, or there is none. */
+/** The period of the task's timer on this semaphore, up to as many; 0 if it is a one-shot, or there is none. */
 static inline uint32_t mcx11_period(const mcx11_t *m, uint8_t task, uint8_t semaphore)
 {
     const size_t row = mcx11_timer_row(m, task, semaphore);

@@ -13,6 +13,11 @@ pub fn timed(code: u8, task: u8, semaphore: u8, tocks: i16) -> Frame {
     vec![code, task, semaphore, high, low]
 }
 
+/// The same of four bytes.
+pub fn season_timer(task: u8, semaphore: u8, tocks: i32) -> Frame {
+    [&[SEASON_TIMER, task, semaphore][..], &tocks.to_be_bytes()].concat()
+}
+
 /// Send or sendw.
 pub fn message(code: u8, task: u8, semaphore: u8, message: u8) -> Frame {
     vec![code, task, semaphore, 0, message]

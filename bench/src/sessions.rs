@@ -1,6 +1,6 @@
 //! The sessions that are measured, the same in every run: frames that prepare, and the frames that count.
 
-use crate::frames::{self, take, tick, timed};
+use crate::frames::{self, season_timer, service, take, tick, timed};
 use crate::session::{Frame, Session};
 use plain_executive::command::*;
 use plain_executive::executive::Executive;
@@ -213,7 +213,8 @@ impl Held {
     }
 }
 
-/// A signal of a semaphore that is DONE, a tick that ends a tock in which no timer is due, and executes with pairs.
+/// A signal of a semaphore that is DONE, a tick that ends a tock in which no timer is due, executes with pairs, and timers that are
+/// started and purged.
 pub fn growing() -> Vec<Session> {
     let signal = |held: Held| held.session("signal", &[SIGNAL, 0, 64, 0, 0]);
     let tick = |held: Held| held.session("tick", &tick());
@@ -224,8 +225,23 @@ pub fn growing() -> Vec<Session> {
     sessions.push(signal(MUCH));
     sessions.extend([0, 16, 32, 64].map(|timers| tick(Held { timers, ..LITTLE })));
     sessions.push(tick(MUCH));
-    sessions.extend([LITTLE, Held { tasks: 126, queues: 32, ..LITTLE }].into_iter().flat_map(executing));
+    let sizes = [LITTLE, Held { tasks: 126, queues: 32, ..LITTLE }];
+    sessions.extend(sizes.into_iter().flat_map(executing));
+    sessions.extend(sizes.into_iter().flat_map(starting));
     sessions
+}
+
+/// Timers of both widths. Each is purged again, so that the next one finds the memory as it was.
+fn starting(held: Held) -> [Session; 2] {
+    const TOCKS: i16 = -1000;
+    let session = |name: &str, start: Frame| {
+        let frames = [start, service(PURGE, 0, 0)];
+        Session { frames: frames.iter().cycle().take(SAME_FRAMES).cloned().collect(), ..held.session(name, &frames[0]) }
+    };
+    [
+        session("timer, then purge", timed(TIMER, 0, 0, TOCKS)),
+        session("season timer, then purge", season_timer(0, 0, TOCKS.into())),
+    ]
 }
 
 /// Executes of the last task by the first: without a pair, with one, with 64, and with 64 of which the last refuses it.

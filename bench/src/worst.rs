@@ -11,7 +11,7 @@ use c::stack;
 use crate::dear;
 use crate::session::Session;
 
-const CODES: [&str; 17] = [
+const CODES: [&str; 18] = [
     "wait",
     "signal",
     "pend",
@@ -29,6 +29,7 @@ const CODES: [&str; 17] = [
     "purge",
     "tick",
     "interrupt exit",
+    "season timer",
 ];
 /// Of all rounds and repetitions the least time is taken, of so many calls each.
 const ROUNDS: usize = 30;

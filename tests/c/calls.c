@@ -33,9 +33,18 @@ static uint16_t tocks(uint16_t x)
     return x < 0x8000 ? MCX11_ONCE(x) : MCX11_EVERY(0x10000 - (int32_t)x);
 }
 
+/* The same of four bytes. */
+static int32_t season_tocks(const uint8_t *four)
+{
+    const int64_t x = (int64_t)four[0] << 24 | (int64_t)four[1] << 16 | (int64_t)four[2] << 8 | four[3];
+    return x <= 0x7FFFFFFF ? MCX11_SEASON_ONCE(x) : MCX11_SEASON_EVERY(0x100000000 - x);
+}
+
 static uint8_t call(const uint8_t *f, size_t length)
 {
     uint16_t x;
+    if (length == 7 && f[0] == MCX11_SEASON_TIMER)
+        return mcx11_season_timer(&ride, f[1], f[2], season_tocks(f + 3));
     if (length < 5 || (length > 5 && f[0] != MCX11_ENQUEUE))
         return mcx11_frame(&ride, f, length);
     x = (uint16_t)(f[3] << 8 | f[4]);

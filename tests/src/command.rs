@@ -5,7 +5,7 @@ use crate::executive::Executive;
 use crate::numbers::*;
 use crate::tasks::{Block, Letter};
 use crate::timers::Start;
-use crate::tocks::tock_value;
+use crate::tocks::{season_tock_value, tock_value, Tocks};
 
 pub const WAIT: u8 = 0x01;
 pub const SIGNAL: u8 = 0x02;
@@ -24,6 +24,17 @@ pub const TIMER: u8 = 0x0E;
 pub const PURGE: u8 = 0x0F;
 pub const TICK: u8 = 0x10;
 pub const INTERRUPT_EXIT: u8 = 0x11;
+pub const SEASON_TIMER: u8 = 0x12;
+
+/// All but what comes from outside the tasks.
+pub fn is_service(code: u8) -> bool {
+    !matches!(code, TICK | INTERRUPT_EXIT)
+}
+
+/// Those whose X is a tock value.
+pub fn starts_a_timer(code: u8) -> bool {
+    matches!(code, DELAY | TIMER | SEASON_TIMER)
+}
 
 #[derive(Clone, Copy, Debug, PartialEq, Eq)]
 pub enum Command<'frame> {
@@ -56,14 +67,23 @@ struct Fields {
 }
 
 pub fn read<'frame>(executive: &Executive, frame: &'frame [u8]) -> Result<Command<'frame>, Number> {
-    let &[code, a, b, high, low, ref entry @ ..] = frame else {
+    let &[code, a, b, high, low, ref behind @ ..] = frame else {
         return Err(LENGTH);
     };
-    require((WAIT..=INTERRUPT_EXIT).contains(&code), CODE)?;
-    require(code == ENQUEUE || entry.is_empty(), LENGTH)?;
+    require((WAIT..=SEASON_TIMER).contains(&code), CODE)?;
+    require(has_its_length(code, behind), LENGTH)?;
     let reader = Reader { executive, own: executive.running() };
-    require(code >= TICK || reader.own != 0, NULL_TASK_RUNS)?;
-    reader.command(Fields { code, a, b, x: u16::from_be_bytes([high, low]) }, entry)
+    require(!is_service(code) || reader.own != 0, NULL_TASK_RUNS)?;
+    reader.command(Fields { code, a, b, x: u16::from_be_bytes([high, low]) }, behind)
+}
+
+/// By what lies behind the first five bytes. How long an entry has to be depends on its queue.
+fn has_its_length(code: u8, behind: &[u8]) -> bool {
+    match code {
+        ENQUEUE => true,
+        SEASON_TIMER => behind.len() == 2,
+        _ => behind.is_empty(),
+    }
 }
 
 struct Reader<'executive> {
@@ -73,8 +93,8 @@ struct Reader<'executive> {
 }
 
 impl Reader<'_> {
-    fn command<'frame>(&self, fields: Fields, entry: &'frame [u8]) -> Result<Command<'frame>, Number> {
-        let Fields { code, a, b, .. } = fields;
+    fn command<'frame>(&self, fields: Fields, behind: &'frame [u8]) -> Result<Command<'frame>, Number> {
+        let Fields { code, a, b, x } = fields;
         match code {
             WAIT => self.free_semaphore(b).map(Command::Wait),
             SIGNAL => self.semaphore(b, self.own).map(Command::Signal),
@@ -87,16 +107,17 @@ impl Reader<'_> {
             }
             RECEIVE => self.task_or_zero(a).map(Command::Receive),
             DEQUEUE => self.dequeue(a),
-            ENQUEUE => self.enqueue(a, entry),
+            ENQUEUE => self.enqueue(a, behind),
             RESUME => self.task(a).map(Command::Resume),
             SUSPEND => self.task_or_self(a).map(Command::Suspend),
             TERMINATE => self.task_or_self(a).map(Command::Terminate),
             EXECUTE => self.execute(a),
             DELAY => self.delay(&fields),
-            TIMER => self.timer(&fields),
+            TIMER => self.timer(&fields, tock_value(x)),
             PURGE => self.purge(&fields),
             TICK => Ok(Command::Tick),
-            _ => self.interrupt_exit(b),
+            INTERRUPT_EXIT => self.interrupt_exit(b),
+            _ => self.timer(&fields, season_tock_value(four_bytes(x, behind))),
         }
     }
 
@@ -131,7 +152,7 @@ impl Reader<'_> {
     }
 
     fn delay(&self, fields: &Fields) -> Result<Command<'static>, Number> {
-        let start = self.start(fields)?;
+        let start = self.start(fields, tock_value(fields.x))?;
         let blocks = self.executive.tasks().get(start.task).blocks();
         require(!blocks.has(Block::Idle) && !blocks.waits(), IDLE_OR_WAITING)?;
         self.executive.not_waiting(start.semaphore)?;
@@ -139,17 +160,16 @@ impl Reader<'_> {
         Ok(Command::Delay(start))
     }
 
-    fn timer(&self, fields: &Fields) -> Result<Command<'static>, Number> {
-        let start = self.start(fields)?;
+    fn timer(&self, fields: &Fields, tocks: Result<Tocks, Number>) -> Result<Command<'static>, Number> {
+        let start = self.start(fields, tocks)?;
         self.free_timer(&start)?;
         Ok(Command::Timer(start))
     }
 
-    fn start(&self, fields: &Fields) -> Result<Start, Number> {
+    fn start(&self, fields: &Fields, tocks: Result<Tocks, Number>) -> Result<Start, Number> {
         let task = self.task_or_self(fields.a)?;
         let semaphore = self.semaphore(fields.b, task)?;
-        let tocks = tock_value(fields.x)?;
-        Ok(Start { task, semaphore, tocks })
+        Ok(Start { task, semaphore, tocks: tocks? })
     }
 
     fn free_timer(&self, start: &Start) -> Result<(), Number> {
@@ -202,4 +222,9 @@ impl Reader<'_> {
     fn queue(&self, a: u8) -> Result<(), Number> {
         require((1..=self.executive.configuration().queue_count()).contains(&a), QUEUE)
     }
+}
+
+/// X and the two bytes behind it, high first.
+fn four_bytes(x: u16, behind: &[u8]) -> u32 {
+    behind.iter().fold(x.into(), |value, &byte| value << 8 | u32::from(byte))
 }

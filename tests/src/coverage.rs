@@ -42,10 +42,13 @@ impl Coverage {
         self.watch_configuration(&script.configuration);
         let mut after = Executive::configure(&script.configuration).expect("an accepted configuration");
         after.keep_history();
+        let mut seasons = Vec::new();
         for frame in &script.frames {
             let before = after.clone();
             let answer = after.frame(frame);
-            self.watch(&Step { before: &before, frame, answer, after: &after });
+            let step = Step { before: &before, frame, answer, after: &after, seasons: &seasons };
+            self.watch(&step);
+            seasons = step.new_seasons();
         }
     }
 

@@ -10,6 +10,7 @@ mod fields;
 mod moves;
 mod pairs;
 mod release;
+mod season;
 
 use std::ops::RangeInclusive;
 
@@ -29,7 +30,8 @@ pub use release::{freed_with_a_request, release, Release, RELEASES};
 /// Sessions that random ones hardly lead to.
 pub fn prepared() -> Vec<Script> {
     let releases = RELEASES.into_iter().map(release);
-    [cascade()].into_iter().chain(releases).chain(freed_with_a_request()).collect()
+    let seasons = [season::together(), season::values(), season::refused()];
+    [cascade()].into_iter().chain(releases).chain(freed_with_a_request()).chain(seasons).collect()
 }
 
 /// A configuration and the frames behind it.
@@ -154,6 +156,7 @@ impl Generator {
         match self.random.below(100) {
             0..=3 => damage::frame(&mut self.random, executive),
             4 => self.random.bytes(5),
+            5 if self.random.percent(50) => self.season_of_another_length(executive),
             _ => self.frame(executive),
         }
     }

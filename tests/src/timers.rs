@@ -11,7 +11,7 @@ pub struct Timer {
     pub period: u32,
 }
 
-/// What delay and timer ask for.
+/// What delay and the timers of both widths ask for.
 #[derive(Clone, Copy, Debug, PartialEq, Eq)]
 pub struct Start {
     pub task: u8,

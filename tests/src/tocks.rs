@@ -28,8 +28,17 @@ impl Tocks {
 
 /// X as a signed 16-bit number.
 pub fn tock_value(x: u16) -> Result<Tocks, Number> {
-    let value = x as i16;
-    let tocks = u32::from(value.unsigned_abs());
+    signed((x as i16).into())
+}
+
+/// The four bytes of a season timer as a signed 32-bit number.
+pub fn season_tock_value(x: u32) -> Result<Tocks, Number> {
+    signed(x as i32)
+}
+
+/// Of either width.
+fn signed(value: i32) -> Result<Tocks, Number> {
+    let tocks = value.unsigned_abs();
     match value {
         0 => Err(TOCK_VALUE),
         1.. => Ok(Tocks::OneShot(tocks)),

@@ -3,7 +3,7 @@
 use std::cell::Cell;
 
 use plain_executive::answer::Answer;
-use plain_executive::command::{EXECUTE, SIGNAL, TERMINATE};
+use plain_executive::command::{EXECUTE, SEASON_TIMER, SIGNAL, TERMINATE, TIMER};
 use plain_executive::coverage::causes::causes;
 use plain_executive::executive::Executive;
 use plain_executive::generator::{cascade, prepared, release, Generator, Script, RELEASES};
@@ -359,10 +359,31 @@ fn lists_are_in_order() {
     each_step(|step| {
         let items = step.after.items();
         assert!(items.timers.is_sorted_by_key(|timer| timer.tocks_left));
-        assert!(items.timers.iter().all(|timer| (1..=32_768).contains(&timer.tocks_left)));
+        assert!(items.timers.iter().all(|timer| (1..=1 << 31).contains(&timer.tocks_left)));
         assert!(items.mailboxes.iter().all(|mailbox| mailbox.is_sorted_by_key(|letter| letter.sender)));
         assert!(items.ticks < step.after.configuration().ticks_per_tock);
     });
+}
+
+/// A timer of 16 bits as the season timer of the same tocks.
+fn widened(frame: &[u8]) -> Option<Vec<u8>> {
+    let &[TIMER, a, b, high, low] = frame else { return None };
+    let tocks = i32::from(i16::from_be_bytes([high, low])).to_be_bytes();
+    Some([&[SEASON_TIMER, a, b], &tocks[..]].concat())
+}
+
+#[test]
+fn a_timer_in_four_bytes_does_the_same() {
+    let (accepted, refused) = (Cell::new(0), Cell::new(0));
+    each_step(|step| {
+        let Some(season) = widened(&step.frame) else { return };
+        let mut after = step.before.clone();
+        assert_eq!(after.frame(&season).bytes(), step.answer.bytes(), "{:02X?}", step.frame);
+        assert_eq!(after.items(), step.after.items(), "{:02X?}", step.frame);
+        let counted = if step.answer.refusal() == 0 { &accepted } else { &refused };
+        counted.set(counted.get() + 1);
+    });
+    assert!(accepted.get() > 1000 && refused.get() > 1000, "{accepted:?} accepted, {refused:?} refused");
 }
 
 #[test]

@@ -45,7 +45,7 @@ fn every_kind_of_outcome_and_many_reissues() {
 fn the_ghost_train_has_every_code() {
     let frames = &stories()["ghost"][1..];
     let codes: BTreeSet<u8> = frames.iter().map(|(frame, _)| frame.as_ref().expect("a frame")[0]).collect();
-    assert_eq!(codes, (0x01..=0x11).collect());
+    assert_eq!(codes, (0x01..=0x12).collect());
     assert!(frames.iter().all(|(_, answer)| answer[0] == 0), "none is refused");
 }
 

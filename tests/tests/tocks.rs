@@ -1,7 +1,7 @@
-//! Tock values and milliseconds, over all of their numbers.
+//! Tock values and milliseconds: over all of their numbers, of four bytes over all of either half.
 
 use plain_executive::numbers::{CONFIGURATION, MILLISECONDS, TOCK_VALUE};
-use plain_executive::tocks::{tock_value, tocks_of_milliseconds, Tocks};
+use plain_executive::tocks::{season_tock_value, tock_value, tocks_of_milliseconds, Tocks};
 
 #[test]
 fn every_tock_value() {
@@ -12,6 +12,21 @@ fn every_tock_value() {
     for period in 1..=0x8000u32 {
         let x = (0x1_0000 - period) as u16;
         assert_eq!(tock_value(x), Ok(Tocks::Cyclic(period)));
+    }
+}
+
+/// Every upper half with the ends of the lower one, and every lower half with those of the upper.
+#[test]
+fn every_half_of_a_season_tock_value() {
+    const ENDS: [u32; 6] = [0, 1, 0x7FFF, 0x8000, 0x8001, 0xFFFF];
+    let values = (0..=0xFFFF).flat_map(|half| ENDS.map(|end| [half << 16 | end, end << 16 | half])).flatten();
+    for x in values {
+        let expected = match x {
+            0 => Err(TOCK_VALUE),
+            1..=0x7FFF_FFFF => Ok(Tocks::OneShot(x)),
+            _ => Ok(Tocks::Cyclic((0x1_0000_0000 - u64::from(x)) as u32)),
+        };
+        assert_eq!(season_tock_value(x), expected, "{x:08X}");
     }
 }
 

@@ -141,7 +141,8 @@ class Session {
     if (kind !== EVENT.woken) return;
     const issued = this.source && this.source[0] === frame ? this.source[1] : 0;
     this.woken.frame.push(frame);
-    this.woken.from.push(issued || (code < 0x10 ? this.callers[this.ask[frame]] : -code));
+    const service = code !== 0x10 && code !== 0x11;
+    this.woken.from.push(issued || (service ? this.callers[this.ask[frame]] : -code));
     this.woken.to.push(task);
   }
 

@@ -171,7 +171,7 @@ fn named(configuration: &Configuration, step: &Step) -> Vec<String> {
     let tasks = 1..=configuration.tasks;
     let semaphore = |of: u8| if b == 0 && tasks.contains(&of) { configuration.semaphore_of_task(of) } else { b };
     let mut named = Vec::new();
-    if (WAIT..=PURGE).contains(&code) {
+    if (WAIT..=SEASON_TIMER).contains(&code) && is_service(code) {
         named.push(format!("t{own}"));
     }
     match code {
@@ -185,7 +185,7 @@ fn named(configuration: &Configuration, step: &Step) -> Vec<String> {
                 named.extend([format!("s{}", letter.semaphore), format!("m{}", letter.message)]);
             });
         }
-        DELAY | TIMER | PURGE => named.extend([format!("t{of_a}"), format!("s{}", semaphore(of_a))]),
+        DELAY | TIMER | SEASON_TIMER | PURGE => named.extend([format!("t{of_a}"), format!("s{}", semaphore(of_a))]),
         INTERRUPT_EXIT if b != 0 => named.push(format!("s{b}")),
         _ => {}
     }

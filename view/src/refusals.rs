@@ -44,7 +44,7 @@ pub fn rule(words: &Words, step: &Step) -> String {
     let met = Met { words, executive: step.other, own: step.caller, code: field(0), a: field(1), b: field(2), frame };
     match step.refusal() {
         LENGTH => met.length(),
-        CODE => format!("there is no code {:02X} (01 to 11)", met.code),
+        CODE => format!("there is no code {:02X} (01 to 12)", met.code),
         TASK => met.no_task(),
         SEMAPHORE => met.no_semaphore(),
         QUEUE => none_of("queue", met.a.into(), words.configuration.queue_count()),
@@ -226,7 +226,8 @@ impl Met<'_> {
             let (width, entry) = (self.words.configuration.width(self.a), bytes - 5);
             return format!("an entry of {} has {}, not {entry}", self.words.queue(self.a), counted(width, "byte"));
         }
-        format!("a frame of code {:02X} has 5 bytes, not {bytes}", self.code)
+        let due = if self.code == SEASON_TIMER { 7 } else { 5 };
+        format!("a frame of code {:02X} has {due} bytes, not {bytes}", self.code)
     }
 
     fn no_task(&self) -> String {

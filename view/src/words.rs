@@ -6,8 +6,9 @@ use c::caller::Caller;
 use plain_executive::answer;
 use plain_executive::command::*;
 use plain_executive::configuration::Configuration;
+use plain_executive::numbers::Number;
 use plain_executive::tasks::Letter;
-use plain_executive::tocks::{tock_value, Tocks};
+use plain_executive::tocks::{season_tock_value, tock_value, Tocks};
 use plain_executive::trail::Event;
 
 use crate::names::Names;
@@ -115,10 +116,10 @@ impl Words<'_> {
         }
         match step.frame {
             None => format!("a line of {}", counted(step.line.len(), "character")),
-            Some(frame @ [code, a, b, high, low, ..]) if (WAIT..=INTERRUPT_EXIT).contains(code) => {
+            Some(frame @ [code, a, b, high, low, ..]) if (WAIT..=SEASON_TIMER).contains(code) => {
                 let x = u16::from_be_bytes([*high, *low]);
                 let asked =
-                    Asked { words: self, caller: step.caller, code: *code, a: *a, b: *b, x, entry: &frame[5..] };
+                    Asked { words: self, caller: step.caller, code: *code, a: *a, b: *b, x, behind: &frame[5..] };
                 asked.words(step)
             }
             Some(frame) => format!("frame {}", hex(frame)),
@@ -262,7 +263,8 @@ struct Asked<'a> {
     a: u8,
     b: u8,
     x: u16,
-    entry: &'a [u8],
+    /// An entry, or the rest of a season timer's tocks.
+    behind: &'a [u8],
 }
 
 impl Asked<'_> {
@@ -278,15 +280,17 @@ impl Asked<'_> {
             RECEIVE if *a == 0 => format!("{own} receives from any task"),
             RECEIVE => format!("{own} receives from {}", words.task(*a)),
             DEQUEUE => format!("{own} takes from {}", words.queue(*a)),
-            ENQUEUE => format!("{own} puts {} into {}", hex(self.entry), words.queue(*a)),
+            ENQUEUE => format!("{own} puts {} into {}", hex(self.behind), words.queue(*a)),
             RESUME => format!("{own} resumes {}", self.task_or("task 0")),
             SUSPEND => format!("{own} suspends {}", self.task_or("itself")),
             TERMINATE => format!("{own} terminates {}{}", self.task_or("itself"), self.drops(step)),
             EXECUTE => format!("{own} executes {}", self.task_or("task 0")),
             DELAY => {
-                format!("{own} delays {} by {} on {}", self.task_or("itself"), tocks(*x), self.semaphore(self.of_a()))
+                let by = tocks(tock_value(*x));
+                format!("{own} delays {} by {by} on {}", self.task_or("itself"), self.semaphore(self.of_a()))
             }
-            TIMER => self.timer(&own),
+            TIMER => self.timer(&own, "timer", &format!(" of {}", tocks(tock_value(*x)))),
+            SEASON_TIMER => self.timer(&own, "season timer", &self.season()),
             PURGE => self.purge(&own),
             TICK => format!("tick{}", self.passed(step)),
             _ if self.b == 0 => "interrupt exit".to_string(),
@@ -341,9 +345,20 @@ impl Asked<'_> {
         }
     }
 
-    fn timer(&self, own: &str) -> String {
+    fn timer(&self, own: &str, what: &str, of: &str) -> String {
         let whom = if self.of_a() == self.caller { String::new() } else { format!(" for {}", self.words.task(self.a)) };
-        format!("{own} starts a timer{whom} of {} on {}", tocks(self.x), self.semaphore(self.of_a()))
+        format!("{own} starts a {what}{whom}{of} on {}", self.semaphore(self.of_a()))
+    }
+
+    /// The tocks of a season timer; a frame of another length has none.
+    fn season(&self) -> String {
+        let [high, low] = self.x.to_be_bytes();
+        match *self.behind {
+            [next, last] => {
+                format!(" of {}", tocks(season_tock_value(u32::from_be_bytes([high, low, next, last]))))
+            }
+            _ => String::new(),
+        }
     }
 
     fn purge(&self, own: &str) -> String {
@@ -375,8 +390,8 @@ impl Asked<'_> {
 }
 
 /// A tock value.
-pub fn tocks(x: u16) -> String {
-    match tock_value(x) {
+fn tocks(value: Result<Tocks, Number>) -> String {
+    match value {
         Err(_) => "0 tocks".to_string(),
         Ok(Tocks::OneShot(tocks)) => counted(tocks as usize, "tock"),
         Ok(Tocks::Cyclic(period)) => format!("{} (cyclic)", counted(period as usize, "tock")),

@@ -246,7 +246,7 @@ fn pairs_say_who_starts_only_after_whom() {
 #[test]
 fn each_refusal_says_its_rule() {
     let head = "020101010101007D00000101\n";
-    let cases: [(&str, &str); 22] = [
+    let cases: [(&str, &str); 26] = [
         ("0701", "refused 2, a frame has at least 5 bytes, not 2; task 1 goes on"),
         ("070100000", "refused 1, the number of digits is odd; task 1 goes on"),
         ("07010000zz", "refused 1, character 9 is 'z', which is no digit; task 1 goes on"),
@@ -257,7 +257,11 @@ fn each_refusal_says_its_rule() {
         ),
         ("070100000000", "refused 2, a frame of code 07 has 5 bytes, not 6; task 1 goes on"),
         ("08010000004142", "refused 2, an entry of queue 1 has 1 byte, not 2; task 1 goes on"),
-        ("1200000000", "refused 4, there is no code 12 (01 to 11); task 1 goes on"),
+        ("1300000000", "refused 4, there is no code 13 (01 to 12); task 1 goes on"),
+        ("1200000000", "refused 2, a frame of code 12 has 7 bytes, not 5; task 1 goes on"),
+        ("1200000000000001", "refused 2, a frame of code 12 has 7 bytes, not 8; task 1 goes on"),
+        ("12000000000000", "refused 9, the tock value is 0; task 1 goes on"),
+        ("12000080000000\n0E00000001", "refused 24, task 1 has a timer on semaphore 2 already; task 1 goes on"),
         ("0900000000", "refused 5, task 0 is not allowed here; task 1 goes on"),
         ("0903000000", "refused 5, there is no task 3 (1 to 2); task 1 goes on"),
         ("0C01000000", "refused 5, a task does not execute itself; task 1 goes on"),

@@ -1,7 +1,7 @@
 //! Nobody is woken. The last task but one runs, and all messages lie.
 
 use super::{but_one_name, start_all, start_but_one, BEHIND, NEW};
-use crate::frames::{service, timed};
+use crate::frames::{season_timer, service, timed};
 use crate::session::Session;
 use crate::stage::{Size, Stage, IDLE, TASKS};
 use crate::storm::size_name;
@@ -22,11 +22,13 @@ pub fn all(size: Size) -> Vec<Session> {
         quiet(size).session(lie.clone(), service(PEND, 0, 1)),
         purged.session(format!("64 timers of the caller, X is $0100; {lie}"), timed(PURGE, 0, 0, ALL_TIMERS)),
     ];
-    sessions.extend(BEHIND.map(|behind| {
-        let mut stage = quiet(size);
-        start_but_one(&mut stage, behind);
-        stage.session(format!("{}; {lie}", but_one_name(behind)), timed(TIMER, 0, 0, NEW))
-    }));
+    for frame in [timed(TIMER, 0, 0, NEW), season_timer(0, 0, NEW.into()), season_timer(0, 0, (-NEW).into())] {
+        sessions.extend(BEHIND.map(|behind| {
+            let mut stage = quiet(size);
+            start_but_one(&mut stage, behind);
+            stage.session(format!("{}; {lie}", but_one_name(behind)), frame.clone())
+        }));
+    }
     sessions.extend(PAIRS.into_iter().map(|(pairs, last)| executing(size, pairs, last, &lie)));
     sessions
 }

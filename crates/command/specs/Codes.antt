@@ -42,6 +42,7 @@ viewX x.Switch = ledger.aSwitch
 abbrev pub viewFollows : Follows → ledger.Follows
 viewFollows follows.X = ledger.xAlone
 viewFollows follows.XAndEntry = ledger.xAndEntry
+viewFollows follows.LongX = ledger.longX
 
 abbrev pub viewWaits : Waits → ledger.Waits
 viewWaits waits.Nowhere = ledger.noWait
@@ -54,20 +55,20 @@ abbrev pub viewFields : Fields → ledger.Fields
 viewFields u = ledger.uses (viewA (u .a)) (viewB (u .b)) (viewX (u .x)) (viewFollows (u .follows)) (viewWaits (u .waits)) (u .service)
 
 -- the code that is none of the others
-past : (n k : ℕ) → n ≤ k → (k ≡ n → ⊥) → n + 1 ≤ k
+pub past : (n k : ℕ) → n ≤ k → (k ≡ n → ⊥) → n + 1 ≤ k
 past n k h e = omega arith
 
-pub last-code : (k : ℕ) → 1 ≤ k → k ≤ 17 → (k ≡ 1 → ⊥) → (k ≡ 2 → ⊥) → (k ≡ 3 → ⊥) → (k ≡ 4 → ⊥) → (k ≡ 5 → ⊥) → (k ≡ 6 → ⊥) → (k ≡ 7 → ⊥) → (k ≡ 8 → ⊥) → (k ≡ 9 → ⊥)
-    → (k ≡ 10 → ⊥) → (k ≡ 11 → ⊥) → (k ≡ 12 → ⊥) → (k ≡ 13 → ⊥) → (k ≡ 14 → ⊥) → (k ≡ 15 → ⊥) → (k ≡ 16 → ⊥) → k ≡ 17
-last-code k lo hi e1 e2 e3 e4 e5 e6 e7 e8 e9 e10 e11 e12 e13 e14 e15 e16 =
-    le-antisymm hi (past 16 k (past 15 k (past 14 k (past 13 k (past 12 k (past 11 k (past 10 k (past 9 k (past 8 k (past 7 k (past 6 k (past 5 k (past 4 k (past 3 k (past 2 k (past 1 k lo e1) e2) e3) e4) e5) e6) e7) e8) e9) e10) e11) e12) e13) e14) e15) e16)
+pub last-code : (k : ℕ) → 1 ≤ k → k ≤ 18 → (k ≡ 1 → ⊥) → (k ≡ 2 → ⊥) → (k ≡ 3 → ⊥) → (k ≡ 4 → ⊥) → (k ≡ 5 → ⊥) → (k ≡ 6 → ⊥) → (k ≡ 7 → ⊥) → (k ≡ 8 → ⊥) → (k ≡ 9 → ⊥)
+    → (k ≡ 10 → ⊥) → (k ≡ 11 → ⊥) → (k ≡ 12 → ⊥) → (k ≡ 13 → ⊥) → (k ≡ 14 → ⊥) → (k ≡ 15 → ⊥) → (k ≡ 16 → ⊥) → (k ≡ 17 → ⊥) → k ≡ 18
+last-code k lo hi e1 e2 e3 e4 e5 e6 e7 e8 e9 e10 e11 e12 e13 e14 e15 e16 e17 =
+    le-antisymm hi (past 17 k (past 16 k (past 15 k (past 14 k (past 13 k (past 12 k (past 11 k (past 10 k (past 9 k (past 8 k (past 7 k (past 6 k (past 5 k (past 4 k (past 3 k (past 2 k (past 1 k lo e1) e2) e3) e4) e5) e6) e7) e8) e9) e10) e11) e12) e13) e14) e15) e16) e17)
 
 pub no-code-left : (k : ℕ) → (k ≡ 1 → ⊥) → (k ≡ 2 → ⊥) → (k ≡ 3 → ⊥) → (k ≡ 4 → ⊥) → (k ≡ 5 → ⊥) → (k ≡ 6 → ⊥) → (k ≡ 7 → ⊥) → (k ≡ 8 → ⊥) → (k ≡ 9 → ⊥)
-    → (k ≡ 10 → ⊥) → (k ≡ 11 → ⊥) → (k ≡ 12 → ⊥) → (k ≡ 13 → ⊥) → (k ≡ 14 → ⊥) → (k ≡ 15 → ⊥) → (k ≡ 16 → ⊥) → (k ≡ 17 → ⊥) → within 1 17 k ≡ false
-no-code-left k e1 e2 e3 e4 e5 e6 e7 e8 e9 e10 e11 e12 e13 e14 e15 e16 e17 = go (within 1 17 k) refl
+    → (k ≡ 10 → ⊥) → (k ≡ 11 → ⊥) → (k ≡ 12 → ⊥) → (k ≡ 13 → ⊥) → (k ≡ 14 → ⊥) → (k ≡ 15 → ⊥) → (k ≡ 16 → ⊥) → (k ≡ 17 → ⊥) → (k ≡ 18 → ⊥) → within 1 18 k ≡ false
+no-code-left k e1 e2 e3 e4 e5 e6 e7 e8 e9 e10 e11 e12 e13 e14 e15 e16 e17 e18 = go (within 1 18 k) refl
   where
-    go : (b : Bool) → within 1 17 k ≡ b → b ≡ false
-    go true w = let n = within-numbered 17 k w in absurd (e17 (last-code k (n .from) (n .upto) e1 e2 e3 e4 e5 e6 e7 e8 e9 e10 e11 e12 e13 e14 e15 e16))
+    go : (b : Bool) → within 1 18 k ≡ b → b ≡ false
+    go true w = let n = within-numbered 18 k w in absurd (e18 (last-code k (n .from) (n .upto) e1 e2 e3 e4 e5 e6 e7 e8 e9 e10 e11 e12 e13 e14 e15 e16 e17))
     go false w = refl
 
 -- a code by its number

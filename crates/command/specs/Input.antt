@@ -1,17 +1,16 @@
 -- The numbers that the frame and the number of the running task give: the program's checks are the ledger's list, part by part.
-use Prim.Native.Nat.{ℕ, _+_, _-_, _*_, _≤_}
+use Prim.Native.Nat.{ℕ, _+_, _-_, _≤_}
 use mathlib.Core.Path.{_≡_, refl, sym, ap, _∙_, subst}
 use mathlib.Core.Bool.{Bool, true, false, not, _&&_}
 use mathlib.Core.List.{List, [], _∷_, _++_}
-use native.Mathlib.Omega.{arith}
 use lib.Dec.{eqb}
 use lib.ListN.{length, drop, length-drop}
-use borrow.Author.Tests.{le-ltb, le-leb, not-false}
+use borrow.Author.Tests.{le-ltb, le-leb, eqb-true, not-false}
 use Rattle.ledger.specs.Lists.{Check, first, _⇒_, within, byte}
 use Rattle.ledger.specs.Config.{Config}
 use Rattle.ledger.specs.Services.{codes, shape}
 use Rattle.ledger.specs.Refusals as ledger
-use Rattle.ledger.specs.Refusals.{fields, Call, codeAt, call, valueX, behindX, tooLong, meantTask, wrongTask, wrongSemaphore, wrongQueue, isMessage, isTockValue, wrongEntry, fromInput}
+use Rattle.ledger.specs.Refusals.{fields, codeAt, call, valueX, behindX, wrongLength, meantTask, wrongTask, wrongSemaphore, wrongQueue, isMessage, isTockValue, wrongEntry, fromInput}
 use Rattle.ledger.specs.Theorems.Checks.{passes, joined-fails, joined-passes}
 use Rattle.tables.specs.declared.shape.Shape.{Shape}
 use Rattle.tables.specs.Layout.{OneOf}
@@ -21,13 +20,12 @@ use Rattle.queues.specs.Rings.{ringOf, width-is}
 use Rattle.command.specs.declared.codes.Fields.{Fields}
 use Rattle.command.specs.Numbers.{here, next}
 use Rattle.command.specs.Codes.{viewA, viewFollows, viewFields}
-use Rattle.command.specs.Configured.{Says}
-use Rattle.command.specs.Table.{EntryIn, entry-in, value-word, behind-drop}
+use Rattle.command.specs.Table.{EntryIn, entry-in}
 
 -- the frame has five bytes, its code is in the table, and u is the code's row
 pub record Row (f : List ℕ) (u : Fields) : Type 0 where
   pub long : 5 ≤ length f
-  pub code : OneOf 17 (byte 0 f)
+  pub code : OneOf 18 (byte 0 f)
   pub row : viewFields u ≡ fields (codeAt (byte 0 f))
 
 -- 5 to 9
@@ -41,10 +39,22 @@ fieldChecks c v self f =
     ∷ []
 
 -- X, as the program reads it
-pub value-told : (c : Config) (X : ledger.FieldX) (u : ledger.Follows) (f : List ℕ) {x n : ℕ} → x ≡ 256 * byte 3 f + byte 4 f
+pub value-told : (c : Config) (X : ledger.FieldX) (u : ledger.Follows) (f : List ℕ) {x n : ℕ} → x ≡ valueX u f
     → n ≡ first ((isMessage X && not (within 1 (c .G) x)) ⇒ 8 ∷ (isTockValue X && eqb x 0) ⇒ 9 ∷ [])
     → n ≡ first ((isMessage X && not (within 1 (c .G) (valueX u f))) ⇒ 8 ∷ (isTockValue X && eqb (valueX u f) 0) ⇒ 9 ∷ [])
-value-told c X u f ex e = e ∙ ap (λ (y : ℕ). first ((isMessage X && not (within 1 (c .G) y)) ⇒ 8 ∷ (isTockValue X && eqb y 0) ⇒ 9 ∷ [])) (ex ∙ sym (value-word u f))
+value-told c X u f ex e = e ∙ ap (λ (y : ℕ). first ((isMessage X && not (within 1 (c .G) y)) ⇒ 8 ∷ (isTockValue X && eqb y 0) ⇒ 9 ∷ [])) ex
+
+-- seven bytes, where X has four
+pub long-enough : (n : ℕ) → wrongLength ledger.longX n ≡ false → n ≡ 7
+unfolding wrongLength
+long-enough n h = eqb-true n 7 (not-false _ h)
+
+-- an entry is what lies behind five bytes; where there is none, nothing is asked of it
+entry-behind : (c : Config) (u : ledger.Follows) (q : ℕ) (f : List ℕ) {z : Bool} → ((e : List ℕ) → length e ≡ length f - 5 → z ≡ wrongEntry c u q e) → z ≡ wrongEntry c u q (behindX u f)
+unfolding wrongEntry behindX
+entry-behind c ledger.xAlone q f w = w (drop 5 f) (length-drop 5 f)
+entry-behind c ledger.xAndEntry q f w = w (drop 5 f) (length-drop 5 f)
+entry-behind c ledger.longX q f w = w (drop 5 f) (length-drop 5 f)
 
 -- an entry's width, by the ring
 pub entry-told : (c : Config) (s : Shape) (q j size : ℕ) (r : Ring) (e : List ℕ) → j ≡ q → 1 ≤ q → r ≡ ringOf c s j → length e ≡ size → not (eqb size (r .width)) ≡ wrongEntry c ledger.xAndEntry q e
@@ -62,15 +72,15 @@ module _ (c : Config) (self : ℕ) (f : List ℕ) (u : Fields) (r : Row f u) whe
   entryCheck = wrongEntry c (v .follows) (meantTask (v .A) self (byte 1 f)) (behindX (v .follows) f) ⇒ 2 ∷ []
 
   in-table : not (within 1 (length codes) (byte 0 f)) ≡ false
-  in-table = rw (le-leb 1 (byte 0 f) (r .code .0), le-leb (byte 0 f) 17 (r .code .1))
+  in-table = rw (le-leb 1 (byte 0 f) (r .code .0), le-leb (byte 0 f) 18 (r .code .1))
 
-  start : first (fromInput c self f) ≡ first (tooLong (v .follows) (length f) ⇒ 2 ∷ (v .service && eqb self 0) ⇒ 20 ∷ (fieldChecks c v self f ++ entryCheck))
+  start : first (fromInput c self f) ≡ first (wrongLength (v .follows) (length f) ⇒ 2 ∷ (v .service && eqb self 0) ⇒ 20 ∷ (fieldChecks c v self f ++ entryCheck))
   unfolding fromInput call
   start = next _ 2 _ (le-ltb (length f) 5 (r .long)) ∙ next _ 4 _ in-table
 
-  module _ (x : Bool) (e : x ≡ tooLong (viewFollows (u .follows)) (length f)) where
-    long-is : x ≡ tooLong (v .follows) (length f)
-    long-is = e ∙ ap (λ (y : ledger.Fields). tooLong (y .follows) (length f)) (r .row)
+  module _ (x : Bool) (e : x ≡ wrongLength (viewFollows (u .follows)) (length f)) where
+    long-is : x ≡ wrongLength (v .follows) (length f)
+    long-is = e ∙ ap (λ (y : ledger.Fields). wrongLength (y .follows) (length f)) (r .row)
 
     pub input-long : x ≡ true → 2 ≡ first (fromInput c self f)
     input-long t = sym (start ∙ here _ 2 _ (sym long-is ∙ t))
@@ -110,9 +120,7 @@ module _ (c : Config) (self : ℕ) (f : List ℕ) (u : Fields) (r : Row f u) whe
 
           module _ (z : Bool) (w : (e : List ℕ) → length e ≡ length f - 5 → z ≡ wrongEntry c (viewFollows (u .follows)) a e) where
             entry-is : z ≡ wrongEntry c (v .follows) (meantTask (v .A) self (byte 1 f)) (behindX (v .follows) f)
-            entry-is =
-                w (behindX (v .follows) f) (ap length (behind-drop (v .follows) f) ∙ length-drop 5 f)
-                ∙ (λ i. wrongEntry c (r .row i .follows) (meant-is i) (behindX (v .follows) f))
+            entry-is = entry-behind c (v .follows) (meantTask (v .A) self (byte 1 f)) f (λ e n. w e n ∙ (λ i. wrongEntry c (r .row i .follows) (meant-is i) e))
 
             whole : first (fromInput c self f) ≡ first entryCheck
             whole = last ∙ joined-passes (fieldChecks c v self f) entryCheck refl passed

@@ -1,11 +1,11 @@
 -- What is promised of a frame's number, while task `self` runs.
-use Prim.Native.Nat.{ℕ, _+_, _*_, _≤_, _<_}
+use Prim.Native.Nat.{ℕ, _≤_, _<_}
 use mathlib.Core.Path.{_≡_, refl, sym, ap, _∙_, subst}
-use mathlib.Core.Bool.{Bool, true, false, not}
-use mathlib.Core.List.{List, [], _∷_, _++_}
+use mathlib.Core.Bool.{true, false}
+use mathlib.Core.List.{List}
 use native.Mathlib.Omega.{arith}
 use lib.ListN.{length}
-use borrow.Author.Tests.{lt-ltb, le-ltb, le-leb, lt-leb}
+use borrow.Author.Tests.{lt-ltb, le-ltb}
 use Rattle.ledger.specs.Lists.{first, within, byte}
 use Rattle.ledger.specs.Config.{Config}
 use Rattle.ledger.specs.Ledger.{Ledger, running}
@@ -13,15 +13,16 @@ use Rattle.ledger.specs.Refusals as ledger
 use Rattle.ledger.specs.Refusals.{fields, codeAt, meantTask, meantSemaphore, isMessage, call, fromInput, fromState, refusal}
 use Rattle.ledger.specs.Theorems.Checks.{Numbers, joined-fails, joined-passes}
 use Rattle.ledger.specs.Theorems.Accepted.{GoodNumber, Good}
+use Rattle.ledger.specs.Theorems.WithoutSeason.{value-word}
 use Rattle.tables.specs.declared.shape.Shape.{Shape}
 use Rattle.tables.specs.Layout.{OneOf}
 use Rattle.tables.specs.Shows.{Of, Shows}
 use Rattle.command.specs.declared.codes.Fields.{Fields}
-use Rattle.command.specs.Codes.{viewA, viewB, viewX, viewWaits, viewFields}
-use Rattle.command.specs.Table.{Owner, owner-in, WaitsIn, waits-in, low-byte, value-word}
+use Rattle.command.specs.Codes.{viewA, viewB, viewWaits, viewFields}
+use Rattle.command.specs.Table.{Owner, owner-in, WaitsIn, waits-in, message-short, low-byte}
 use Rattle.command.specs.Numbers.{here, next}
 use Rattle.command.specs.Input.{Row}
-use Rattle.command.specs.State.{Means, StateSays}
+use Rattle.command.specs.State.{Means}
 
 -- an accepted frame has passed what the frame itself says; and the number is the refusal of every ledger shown
 pub record Refuses (c : Config) (s : Shape) (f : List ℕ) (self : ℕ) (d w : List ℕ) (r : ℕ) : Type 0 where
@@ -45,7 +46,7 @@ module _ {c : Config} {s : Shape} {self : ℕ} {d w : List ℕ} (f : List ℕ) w
   unfolding fromInput
   too-short h = at-once 2 (λ z. omega arith) (λ t. here _ 2 _ (lt-ltb (length f) 5 h))
 
-  pub no-code : 5 ≤ length f → within 1 17 (byte 0 f) ≡ false → Refuses c s f self d w 4
+  pub no-code : 5 ≤ length f → within 1 18 (byte 0 f) ≡ false → Refuses c s f self d w 4
   unfolding fromInput
   no-code h e = at-once 4 (λ z. omega arith) (λ t. next _ 2 _ (le-ltb (length f) 5 h) ∙ here _ 4 _ (rw e))
 
@@ -70,8 +71,8 @@ module _ {c : Config} {s : Shape} {self : ℕ} {d w : List ℕ} (f : List ℕ) w
       }
 
 -- ---- the row of the code, and the fields that it means
-pub row-is : (f : List ℕ) (code : ℕ) (u : Fields) → 5 ≤ length f → byte 0 f ≡ code → OneOf 17 code → viewFields u ≡ fields (codeAt code) → Row f u
-row-is f code u long e one r = record { long = long; code = subst (OneOf 17) (sym e) one; row = r ∙ ap (λ (n : ℕ). fields (codeAt n)) (sym e) }
+pub row-is : (f : List ℕ) (code : ℕ) (u : Fields) → 5 ≤ length f → byte 0 f ≡ code → OneOf 18 code → viewFields u ≡ fields (codeAt code) → Row f u
+row-is f code u long e one r = record { long = long; code = subst (OneOf 18) (sym e) one; row = r ∙ ap (λ (n : ℕ). fields (codeAt n)) (sym e) }
 
 module _ (c : Config) (self : ℕ) {f : List ℕ} {u : Fields} (r : Row f u) where
   pub task-is : {a : ℕ} → a ≡ meantTask (viewA (u .a)) self (byte 1 f) → a ≡ call c self f .a
@@ -110,6 +111,7 @@ module _ {c : Config} {s : Shape} (o : Of c s) (self : ℕ) (f : List ℕ) (u : 
           semaphore = eb;
           message = λ t.
               let X = fields (codeAt (byte 0 f)) .X in
-              let v = value-word (fields (codeAt (byte 0 f)) .follows) f in
-              low-byte o X (byte 3 f) (byte 4 f) (subst (GoodNumber c X) v (g .X)) (subst (λ y. isMessage (y .X) ≡ true) (r .row) t) ∙ sym v;
+              let m : isMessage X ≡ true = subst (λ y. isMessage (y .X) ≡ true) (r .row) t in
+              let v = value-word (byte 0 f) f (message-short (byte 0 f) m) in
+              low-byte o X (byte 3 f) (byte 4 f) (subst (GoodNumber c X) v (g .X)) m ∙ sym v;
         }

@@ -1,32 +1,19 @@
 -- Laws of the ledger's table of codes: what a row waits on, and whose semaphore it means, its other columns have named.
 use Prim.Native.Nat.{ℕ, _+_, _*_, _≤_}
-use mathlib.Core.Path.{_≡_, refl}
+use mathlib.Core.Path.{_≡_, subst}
 use mathlib.Core.Bool.{true, false}
-use mathlib.Core.List.{List}
 use native.Mathlib.Omega.{arith}
 use borrow.Author.Tests.{not-false}
-use lib.ListN.{drop}
-use Rattle.ledger.specs.Lists.{word}
+use Rattle.ledger.specs.Lists.{at}
 use Rattle.ledger.specs.Config.{Config}
-use Rattle.ledger.specs.Services.{Code, WAIT, SIGNAL, PEND, SEND, SENDW, RECEIVE, DEQUEUE, ENQUEUE, RESUME, SUSPEND, TERMINATE, EXECUTE, DELAY, TIMER, PURGE, TICK, EXIT}
-use Rattle.ledger.specs.Refusals.{FieldX, noX, aMessage, aTockValue, aSwitch, FieldB, noB, ofSelf, ofTask, orNone, Follows, xAlone, xAndEntry, Waits, noWait, onB, taskOnB, onNotEmpty, onNotFull, fields, valueX, behindX, meantTask, wrongQueue, isMessage}
+use Rattle.ledger.specs.Services.{Code, WAIT, SIGNAL, PEND, SEND, SENDW, RECEIVE, DEQUEUE, ENQUEUE, RESUME, SUSPEND, TERMINATE, EXECUTE, DELAY, TIMER, PURGE, TICK, EXIT, SEASON-TIMER}
+use Rattle.ledger.specs.Refusals.{FieldX, noX, aMessage, aTockValue, aSwitch, FieldB, noB, ofSelf, ofTask, orNone, Follows, xAlone, xAndEntry, longX, Waits, noWait, onB, taskOnB, onNotEmpty, onNotFull, fields, codeAt, meantTask, wrongQueue, isMessage}
 use Rattle.ledger.specs.Theorems.Items.{Numbered}
 use Rattle.ledger.specs.Theorems.Checks.{never, within-numbered}
 use Rattle.ledger.specs.Theorems.Accepted.{GoodA, GoodB, GoodNumber}
 use Rattle.tables.specs.declared.shape.Shape.{Shape}
 use Rattle.tables.specs.Layout.{OneOf}
 use Rattle.tables.specs.Shows.{Of}
-
--- where X and the bytes behind it stand
-pub value-word : (u : Follows) (f : List ℕ) → valueX u f ≡ word 3 f
-unfolding valueX
-value-word xAlone f = refl
-value-word xAndEntry f = refl
-
-pub behind-drop : (u : Follows) (f : List ℕ) → behindX u f ≡ drop 5 f
-unfolding behindX
-behind-drop xAlone f = refl
-behind-drop xAndEntry f = refl
 
 -- the task whose semaphore 0 means, where that is task A's
 abbrev pub Owner : Shape → FieldB → ℕ → Type 0
@@ -39,6 +26,7 @@ Owner s orNone a = Unit {0}
 abbrev pub EntryIn : Shape → Follows → ℕ → Type 0
 EntryIn s xAlone q = Unit {0}
 EntryIn s xAndEntry q = OneOf (s .queues) q
+EntryIn s longX q = Unit {0}
 
 -- what would be waited on, and the task that would wait, are there
 abbrev pub WaitsIn : Shape → Waits → (a b : ℕ) → Type 0
@@ -47,6 +35,11 @@ WaitsIn s onB a b = OneOf (s .semaphores) b
 WaitsIn s taskOnB a b = OneOf (s .tasks) a × OneOf (s .semaphores) b
 WaitsIn s onNotEmpty a b = OneOf (s .queues) a
 WaitsIn s onNotFull a b = OneOf (s .queues) a
+
+-- a message's number has two bytes
+pub message-short : (n : ℕ) → isMessage (fields (codeAt n) .X) ≡ true → n ≡ 18 → ⊥
+unfolding fields codeAt at isMessage
+message-short n t e = never (subst (λ (k : ℕ). isMessage (fields (codeAt k) .X) ≡ true) e t)
 
 module _ {c : Config} {s : Shape} (o : Of c s) where
   task-in : (t : ℕ) → Numbered (c .T) t → OneOf (s .tasks) t
@@ -77,6 +70,7 @@ module _ {c : Config} {s : Shape} (o : Of c s) where
   entry-in PURGE self a w = tt
   entry-in TICK self a w = tt
   entry-in EXIT self a w = tt
+  entry-in SEASON-TIMER self a w = tt
 
   pub owner-in : (k : Code) (a : ℕ) → GoodA c (fields k .A) a → Owner s (fields k .B) a
   unfolding fields
@@ -97,6 +91,7 @@ module _ {c : Config} {s : Shape} (o : Of c s) where
   owner-in PURGE a g = task-in a g .1
   owner-in TICK a g = tt
   owner-in EXIT a g = tt
+  owner-in SEASON-TIMER a g = task-in a g .1
 
   pub waits-in : (k : Code) (a b : ℕ) → GoodA c (fields k .A) a → GoodB c (fields k .B) b → WaitsIn s (fields k .waits) a b
   unfolding fields
@@ -117,6 +112,7 @@ module _ {c : Config} {s : Shape} (o : Of c s) where
   waits-in PURGE a b g h = tt
   waits-in TICK a b g h = tt
   waits-in EXIT a b g h = tt
+  waits-in SEASON-TIMER a b g h = tt
 
   -- a message's number is the low byte of X
   pub low-byte : (X : FieldX) (high low : ℕ) → GoodNumber c X (256 * high + low) → isMessage X ≡ true → low ≡ 256 * high + low

@@ -1,6 +1,5 @@
 // The table of codes: what each uses its fields for, as in the ledger.
 ghost use mathlib.Core.Path.{_≡_};
-ghost use mathlib.Core.List.{List};
 ghost use Rattle.ledger.specs.Refusals.{codeAt};
 ghost use Rattle.ledger.specs.Refusals as ledger;
 ghost use Rattle.tables.specs.Layout.{OneOf};
@@ -31,10 +30,11 @@ pub enum FieldX {
     Switch,
 }
 
-// What follows B.
+// What follows B: X; X and an entry; X in four bytes.
 pub enum Follows {
     X,
     XAndEntry,
+    LongX,
 }
 
 // The semaphore that is pended or waited on: B; B, where task A waits; a queue's, if it is empty or full.
@@ -70,7 +70,7 @@ fn uses(a: FieldA, b: FieldB, x: FieldX, follows: Follows, waits: Waits, service
 
 // The row of a code.
 pub fn row(code: u8) -> Fields
-    requires { ⌜ OneOf 17 code ⌝ }
+    requires { ⌜ OneOf 18 code ⌝ }
     ensures { λ r. ⌜ viewFields r ≡ ledger.fields (codeAt code) ⌝ }
 {
     match code {
@@ -202,13 +202,21 @@ pub fn row(code: u8) -> Fields
             Waits::Nowhere,
             false,
         ),
-        _ => uses(
+        0x11 => uses(
             FieldA::Unused,
             FieldB::OrNone,
             FieldX::Unused,
             Follows::X,
             Waits::Nowhere,
             false,
+        ),
+        _ => uses(
+            FieldA::SelfOrTask,
+            FieldB::OfTask,
+            FieldX::TockValue,
+            Follows::LongX,
+            Waits::Nowhere,
+            true,
         ),
     }
 }

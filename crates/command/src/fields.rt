@@ -5,13 +5,14 @@ use crate::codes::FieldX;
 use crate::codes::Follows;
 use tables::shape::Shape;
 ghost use mathlib.Core.Path.{_≡_};
-ghost use mathlib.Core.Bool.{cond, not, _&&_};
+ghost use mathlib.Core.Bool.{false, cond, not, _&&_};
 ghost use mathlib.Core.List.{[], _∷_};
 ghost use Prim.Native.Nat.{_+_, _*_, _≤_};
 ghost use lib.Dec.{eqb, leb};
+ghost use lib.ListN.{length};
 ghost use Rattle.ledger.specs.Lists.{first, _⇒_, within};
 ghost use Rattle.ledger.specs.Refusals as ledger;
-ghost use Rattle.ledger.specs.Refusals.{tooLong, wrongTask, wrongSemaphore, wrongQueue, isMessage, isTockValue, meantTask, meantSemaphore};
+ghost use Rattle.ledger.specs.Refusals.{wrongLength, valueX, wrongTask, wrongSemaphore, wrongQueue, isMessage, isTockValue, meantTask, meantSemaphore};
 ghost use Rattle.tables.specs.Layout.{Fits};
 ghost use Rattle.command.specs.Codes.{viewA, viewB, viewX, viewFollows};
 ghost use Rattle.command.specs.Configured.{Says};
@@ -23,11 +24,18 @@ pub fn wide(x: u8) -> usize
     x as usize
 }
 
-// X, high byte first.
-pub fn word(high: u8, low: u8) -> usize
+// Two bytes, high first.
+fn word(high: u8, low: u8) -> usize
     ensures { λ r. ⌜ r ≡ 256 * high + low ⌝ }
 {
     256 * wide(high) + wide(low)
+}
+
+// And four.
+fn long_word(b0: u8, b1: u8, b2: u8, b3: u8) -> usize
+    ensures { λ r. ⌜ r ≡ 65536 * (256 * b0 + b1) + (256 * b2 + b3) ⌝ }
+{
+    65536 * word(b0, b1) + word(b2, b3)
 }
 
 // Whether a number is none of those from 1 on.
@@ -48,13 +56,26 @@ fn above(shape: Shape, b: u8) -> bool
     wide(b) > shape.named + shape.tasks
 }
 
-// 2
-pub fn too_long(follows: Follows, size: usize) -> bool
-    ensures { λ r. ⌜ r ≡ tooLong (viewFollows follows) size ⌝ }
+// 2, of a frame of five bytes or more. How long an entry has to be depends on its queue.
+pub fn wrong_length(follows: Follows, size: usize) -> bool
+    ensures { λ r. ⌜ r ≡ wrongLength (viewFollows follows) size ⌝ }
 {
     match follows {
         Follows::X => size > 5,
         Follows::XAndEntry => false,
+        Follows::LongX => size != 7,
+    }
+}
+
+// X, high byte first.
+pub fn value(follows: Follows, frame: &[u8]) -> usize
+    requires { ⌜ (5 ≤ length (now frame)) × (wrongLength (viewFollows follows) (length (now frame)) ≡ false) ⌝ }
+    ensures { λ r. ⌜ r ≡ valueX (viewFollows follows) (now (frame .entry)) ⌝ }
+{
+    match follows {
+        Follows::X => word(frame[3], frame[4]),
+        Follows::XAndEntry => word(frame[3], frame[4]),
+        Follows::LongX => long_word(frame[3], frame[4], frame[5], frame[6]),
     }
 }
 

@@ -4,13 +4,13 @@ use crate::codes::Follows;
 use crate::fields;
 use tables::shape::Shape;
 ghost use mathlib.Core.Path.{_≡_};
-ghost use mathlib.Core.Bool.{_&&_};
+ghost use mathlib.Core.Bool.{false, _&&_};
 ghost use mathlib.Core.List.{List};
 ghost use Prim.Native.Nat.{ℕ, _≤_};
 ghost use lib.Dec.{eqb};
 ghost use lib.ListN.{length};
 ghost use Rattle.ledger.specs.Lists.{first};
-ghost use Rattle.ledger.specs.Refusals.{wrongEntry, fromInput};
+ghost use Rattle.ledger.specs.Refusals.{wrongLength, wrongEntry, fromInput};
 ghost use Rattle.tables.specs.Layout.{Fits};
 ghost use Rattle.ledger.specs.Config.{configIn};
 ghost use Rattle.command.specs.Codes.{viewFollows, viewFields};
@@ -29,6 +29,7 @@ fn wrong_entry(follows: Follows, config: &[u8], shape: Shape, q: u8, size: usize
             let ring = configuration::block::ring_of(config, shape, fields::wide(q));
             size != ring.width
         }
+        Follows::LongX => false,
     }
 }
 
@@ -44,12 +45,13 @@ fn nobody_asks(service: bool, me: u8) -> bool
 
 // 5 to 9.
 fn wrong_fields(u: Fields, frame: &[u8], shape: Shape, me: u8) -> u8
-    requires { ⌜ (5 ≤ length (now frame)) × Fits shape (shape .end) ⌝ }
+    requires { ⌜ (5 ≤ length (now frame)) × (wrongLength (viewFollows (u .follows)) (length (now frame)) ≡ false) × Fits shape (shape .end) ⌝ }
     ensures { λ r. ⌜ Says shape (λ c. first (fieldChecks c (viewFields u) me (now (frame .entry)))) r ⌝ }
 {
     let a = u.a;
     let b = u.b;
     let x = u.x;
+    let follows = u.follows;
     if fields::wrong_task(a, shape, me, frame[1]) {
         return 5;
     }
@@ -59,7 +61,7 @@ fn wrong_fields(u: Fields, frame: &[u8], shape: Shape, me: u8) -> u8
     if fields::wrong_queue(a, shape, frame[1]) {
         return 7;
     }
-    fields::wrong_value(x, shape, fields::word(frame[3], frame[4]))
+    fields::wrong_value(x, shape, fields::value(follows, frame))
 }
 
 // The frame has five bytes, its code is in the table, and `u` is the code's row.
@@ -68,7 +70,7 @@ pub fn input(u: Fields, frame: &[u8], config: &[u8], shape: Shape, me: u8) -> u8
     ensures { λ r. ⌜ r ≡ first (fromInput (configIn (now (config .entry))) me (now (frame .entry))) ⌝ }
 {
     let follows = u.follows;
-    if fields::too_long(follows, frame.len()) {
+    if fields::wrong_length(follows, frame.len()) {
         return 2;
     }
     if nobody_asks(u.service, me) {

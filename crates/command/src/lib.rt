@@ -28,7 +28,7 @@ fn checked(
     shape: Shape,
     me: u8,
 ) -> u8
-    requires { ⌜ (5 ≤ length (now frame)) × (byte 0 (now frame) ≡ code) × OneOf 17 code × Framed (now config) shape
+    requires { ⌜ (5 ≤ length (now frame)) × (byte 0 (now frame) ≡ code) × OneOf 18 code × Framed (now config) shape
         × Fits shape (length (now tables)) × Holds shape (length (now timers)) × (me ≤ shape .tasks) ⌝ }
     ensures { λ r. ⌜ Refuses (configIn (now (config .entry))) shape (now (frame .entry)) me (now (tables .entry)) (now (timers .entry)) r ⌝ }
 {
@@ -79,6 +79,7 @@ pub fn refusal(
         0x0F => checked(0x0F, frame, config, tables, timers, shape, me),
         0x10 => checked(0x10, frame, config, tables, timers, shape, me),
         0x11 => checked(0x11, frame, config, tables, timers, shape, me),
+        0x12 => checked(0x12, frame, config, tables, timers, shape, me),
         _ => 4,
     }
 }

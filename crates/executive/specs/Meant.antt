@@ -1,11 +1,17 @@
 -- What the meant fields of an accepted frame are, by the row of its code, and the room in the tables for what it sends: the plain facts that the services require.
-use Prim.Native.Nat.{ℕ}
-use mathlib.Core.Path.{_≡_}
-use mathlib.Core.Bool.{true}
+use Prim.Native.Nat.{ℕ, _≤_}
+use mathlib.Core.Path.{_≡_, sym, ap, _∙_}
+use mathlib.Core.Bool.{true, cond}
 use mathlib.Core.List.{List}
+use lib.Dec.{eqb}
+use lib.ListN.{length}
+use borrow.Author.Tests.{ne-eqb}
+use Rattle.ledger.specs.Lists.{word, longWord, at}
 use Rattle.ledger.specs.Config.{Config}
-use Rattle.ledger.specs.Refusals.{FieldA, noA, aTask, toStart, selfOrTask, anyOrTask, aQueue, FieldB, noB, ofSelf, ofTask, orNone, FieldX, noX, aMessage, aTockValue, aSwitch, fields, codeAt, isMessage}
+use Rattle.ledger.specs.Time.{TockValue, tockValue, longTockValue}
+use Rattle.ledger.specs.Refusals.{FieldA, noA, aTask, toStart, selfOrTask, anyOrTask, aQueue, FieldB, noB, ofSelf, ofTask, orNone, FieldX, noX, aMessage, aTockValue, aSwitch, fields, codeAt, valueX, behindX, isMessage}
 use Rattle.ledger.specs.Theorems.Accepted.{GoodEntry}
+use Rattle.ledger.specs.Theorems.WithoutSeason.{value-word}
 use Rattle.tables.specs.declared.shape.Shape.{Shape}
 use Rattle.tables.specs.Layout.{OneOf}
 use Rattle.mailboxes.specs.Room.{Roomy}
@@ -30,6 +36,13 @@ InX s aMessage x = OneOf (s .messages) x
 InX s aTockValue x = Unit {0}
 InX s aSwitch x = Unit {0}
 
+-- X and the bytes behind it, by the row of the code
+abbrev pub valueOf : (code : ℕ) → List ℕ → ℕ
+valueOf k f = valueX (fields (codeAt k) .follows) f
+
+abbrev pub restOf : (code : ℕ) → List ℕ → List ℕ
+restOf k f = behindX (fields (codeAt k) .follows) f
+
 abbrev pub MeansA : Shape → (code a : ℕ) → Type 0
 MeansA s k a = InA s (fields (codeAt k) .A) a
 
@@ -49,3 +62,26 @@ Asks s k self = fields (codeAt k) .service ≡ true → OneOf (s .tasks) self
 -- a message that is sent has room in the tables d
 abbrev pub MessageRoom : Shape → (code : ℕ) → (d : List ℕ) → Type 0
 MessageRoom s k d = isMessage (fields (codeAt k) .X) ≡ true → Roomy s d
+
+-- a season timer's frame has seven bytes
+abbrev pub Seven : (code : ℕ) → List ℕ → Type 0
+Seven k f = k ≡ 18 → length f ≡ 7
+
+-- ---- the timers' codes: $0D to $0F and $12
+
+pub record TimerCode (k : ℕ) : Type 0 where
+  pub from : 13 ≤ k
+  pub upto : k ≤ 18
+  pub not16 : k ≡ 16 → ⊥
+  pub not17 : k ≡ 17 → ⊥
+
+-- the tock value that X is
+abbrev pub askedBy : (code : ℕ) → List ℕ → TockValue
+askedBy k f = cond (eqb k 18) (longTockValue (longWord 3 f)) (tockValue (word 3 f))
+
+pub asked-short : (k : ℕ) (f : List ℕ) → (k ≡ 18 → ⊥) → askedBy k f ≡ tockValue (valueOf k f)
+asked-short k f h = rw (ne-eqb k 18 h) (ap tockValue (sym (value-word k f h)))
+
+pub asked-long : (k : ℕ) (f : List ℕ) → k ≡ 18 → askedBy k f ≡ longTockValue (valueOf k f)
+unfolding fields codeAt at valueX
+asked-long k f e = ap (λ (n : ℕ). askedBy n f) e ∙ ap (λ (n : ℕ). longTockValue (valueOf n f)) (sym e)

@@ -60,7 +60,7 @@ fn by_family(
     timers: &mut [u8],
     shape: Shape,
 )
-    requires { ⌜ (5 ≤ length (now frame)) × OneOf 17 code
+    requires { ⌜ (5 ≤ length (now frame)) × OneOf 18 code
         × Suits (now config) shape (length (now tables)) (length (now slots)) (length (now timers)) × Meant (configIn (now config)) shape code me a b (now frame) (now tables) ⌝ }
     ensures { λ _. ⌜ Effects (configIn (now (config .entry))) shape code me a b (now (frame .entry))
         (now (tables .entry)) (now (slots .entry)) (now (timers .entry)) (now (tables .exit)) (now (slots .exit)) (now (timers .exit)) ⌝ }
@@ -70,14 +70,14 @@ fn by_family(
         0x04..=0x06 => crate::message::serve(tables, shape, code, me, a, b, frame[3], frame[4]),
         0x07..=0x08 => crate::queue::serve(tables, slots, config, shape, code, me, a, frame),
         0x09..=0x0C => crate::task::serve(tables, timers, shape, code, a),
-        0x0D..=0x0F => {
-            let here = copied(shape);
-            crate::timer::serve(tables, timers, here, code, a, b, frame[3], frame[4]);
-        }
         0x10 => services::timer::tick(tables, timers, shape),
-        _ => {
+        0x11 => {
             let here = copied(shape);
             services::semaphore::signal(tables, here, b);
+        }
+        _ => {
+            let here = copied(shape);
+            crate::timer::serve(tables, timers, here, code, a, b, frame);
         }
     }
 }
@@ -93,7 +93,7 @@ fn carried(
     timers: &mut [u8],
     shape: Shape,
 )
-    requires { ⌜ (5 ≤ length (now frame)) × (byte 0 (now frame) ≡ code) × OneOf 17 code
+    requires { ⌜ (5 ≤ length (now frame)) × (byte 0 (now frame) ≡ code) × OneOf 18 code
         × Suits (now config) shape (length (now tables)) (length (now slots)) (length (now timers)) × Passed (configIn (now config)) shape me (now frame) (now tables) ⌝ }
     ensures { λ _. ⌜ Carries (configIn (now (config .entry))) shape me (now (frame .entry))
         (now (tables .entry)) (now (slots .entry)) (now (timers .entry)) (now (tables .exit)) (now (slots .exit)) (now (timers .exit)) ⌝ }

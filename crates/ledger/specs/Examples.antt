@@ -40,6 +40,12 @@ pub record Table : Type 0 where
   X-FFFF : map timing (after two ("0E0001FFFF" ∷ []) .timers) ≡ (1, 1) ∷ []
   X-8000 : map timing (after two ("0E00018000" ∷ []) .timers) ≡ (32768, 32768) ∷ []
   X-0000 : answers two ("0E00010000" ∷ []) ≡ lines ("00010001" ∷ "09010001" ∷ [])
+  -- the request for timers of a season: one-shot from 1 on, cyclic from -1 down to the lowest, and 0
+  long-00000001 : map timing (after two ("12000100000001" ∷ []) .timers) ≡ (1, 0) ∷ []
+  long-7FFFFFFF : map timing (after two ("1200017FFFFFFF" ∷ []) .timers) ≡ (2147483647, 0) ∷ []
+  long-FFFFFFFF : map timing (after two ("120001FFFFFFFF" ∷ []) .timers) ≡ (1, 1) ∷ []
+  long-80000000 : map timing (after two ("12000180000000" ∷ []) .timers) ≡ (2147483648, 2147483648) ∷ []
+  long-00000000 : answers two ("12000100000000" ∷ []) ≡ lines ("00010001" ∷ "09010001" ∷ [])
   -- tasks 1 and 2 wait on their own semaphores, task 3 sends 1 and wakes task 1, which sends 2 and waits; task 3 sends 3
   senders-3-1-3 : map number-of (mailbox (after three ("0100000000" ∷ "0100000000" ∷ "0402000001" ∷ "0200020000" ∷ "0402000002" ∷ "0100000000" ∷ "0402000003" ∷ [])) 2)
       ≡ 2 ∷ 1 ∷ 3 ∷ []
@@ -72,6 +78,11 @@ the-table = record {
   X-FFFF = refl;
   X-8000 = refl;
   X-0000 = refl;
+  long-00000001 = refl;
+  long-7FFFFFFF = refl;
+  long-FFFFFFFF = refl;
+  long-80000000 = refl;
+  long-00000000 = refl;
   senders-3-1-3 = refl;
   S-127 = refl;
   S-128 = refl;

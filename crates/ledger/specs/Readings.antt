@@ -8,6 +8,8 @@ use mathlib.Core.Option.{none as nothing, some}
 use lib.ListN.{replicate, take}
 use Rattle.ledger.specs.Config.{configIn, controller, brakeModule, longest, configRefusal, configRefusalBy}
 use Rattle.ledger.specs.Ledger.{PENDING, DONE, WAITING, begin, dequeue, Timer, Ledger, onlyIdle, emptySlot, task, semaphoreOf, mailbox, queue, held, fresh}
+use Rattle.ledger.specs.Services.{TIMER, SEASON-TIMER}
+use Rattle.ledger.specs.Refusals.{uses, longX, fields}
 use Rattle.ledger.specs.Session.{runFrom}
 use Rattle.ledger.specs.Lines.{longestFrame, number, result, frameOf, lineOf, readLine, writeLine, output}
 use Rattle.ledger.specs.Computing.Hex.{hex, letters, text}
@@ -207,7 +209,7 @@ pub record Table : Type 0 where
   -- ---- refusals
 
   a-refused-frame-shows-the-outcome-as-it-was : Talk room ("080100000041" ▸ "00010000" ∷ "0701000000" ▸ "0001000341" ∷ "0702000000" ▸ "0701000341" ∷ "0702000000" ▸ "0701000341" ∷ [])
-  shorter-than-5-then-4-then-longer-than-5 : Talk room ("12000000" ▸ "02010001" ∷ "120000000000" ▸ "04010001" ∷ "000000000000" ▸ "04010001" ∷ "020000000000" ▸ "02010001" ∷ [])
+  shorter-than-5-then-4-then-longer-than-5 : Talk room ("13000000" ▸ "02010001" ∷ "130000000000" ▸ "04010001" ∷ "000000000000" ▸ "04010001" ∷ "020000000000" ▸ "02010001" ∷ [])
   a-bare-enqueue-meets-7-before-2 : Talk room ("0802000000" ▸ "07010001" ∷ "0801000000" ▸ "02010001" ∷ [])
   and-20-before-both : Talk bare ("0100000000" ▸ "00000000" ∷ "0803000000" ▸ "14000000" ∷ "0801000000" ▸ "14000000" ∷ [])
   queue-0-is-7 : Talk room ("0700000000" ▸ "07010001" ∷ "0800000000" ▸ "07010001" ∷ [])
@@ -217,6 +219,36 @@ pub record Table : Type 0 where
   queues-may-have-4096-bytes : configRefusal (hex "01000200000100010010FF1001") ≡ 0
   more-is-3 : configRefusal (hex "01000200000100010010FF1002") ≡ 3
   but-tested-after-the-length : configRefusal (hex "01000200000100010010FF100200") ≡ 2
+  -- ---- a season timer (24 is $18, 23 is $17)
+
+  -- five, six, eight bytes; and less than five, where the code is not looked at
+  it-has-exactly-seven-bytes : Talk room ("1200010001" ▸ "02010001" ∷ "120001000001" ▸ "02010001" ∷ "1200010000000100" ▸ "02010001" ∷ "12000100" ▸ "02010001" ∷ "12000100000001" ▸ "00010000" ∷ [])
+  -- the null task runs: six bytes are 2, seven are 20
+  its-length-is-tested-before-20 : Talk room ("0100000000" ▸ "00020001" ∷ "0100000000" ▸ "00030001" ∷ "0100000000" ▸ "00000000" ∷ "120001000001" ▸ "02000000" ∷ "12000100000001" ▸ "14000000" ∷ [])
+  then-come-5-6-and-9 : Talk room ("12040600000000" ▸ "05010001" ∷ "12030600000000" ▸ "06010001" ∷ "12030500000000" ▸ "09010001" ∷ "12030500000001" ▸ "00010000" ∷ [])
+  it-sets-the-callers-outcome-to-plain : Talk room ("0402000001" ▸ "0001000503" ∷ "12030100000005" ▸ "00010000" ∷ [])
+  -- $0E's timer for task 1 on its own semaphore keeps $12's out, and the other way round; the fourth finds none free
+  both-widths-share-24-and-23 : Talk room ("0E00000005" ▸ "00010000" ∷ "12000000000005" ▸ "18010000" ∷ "12000100000005" ▸ "00010000" ∷ "0E00010005" ▸ "18010000" ∷ "12000200000005" ▸ "00010000"
+      ∷ "12020000000005" ▸ "17010000" ∷ "0E02000005" ▸ "17010000" ∷ [])
+  all-four-bytes-count : map timing (after room ("12000101020304" ∷ []) .timers) ≡ (0x01020304, 0) ∷ []
+  and-so-do-those-of-a-period : map timing (after room ("120001FEFDFCFC" ∷ []) .timers) ≡ (0x01020304, 0x01020304) ∷ []
+  two-bytes-mean-as-many-tocks-as-before : (map timing (after room ("0E0001FFFE" ∷ []) .timers) ≡ map timing (after room ("120001FFFFFFFE" ∷ []) .timers))
+      × (map timing (after room ("0E0001FFFE" ∷ []) .timers) ≡ (2, 2) ∷ [])
+  -- 65,537 tocks: its low two bytes are 1
+  it-is-not-due-before-its-time : Talk room ("12000100010001" ▸ "00010000" ∷ "0100010000" ▸ "00020001" ∷ "1000000000" ▸ "00020001" ∷ [])
+  a-cyclic-one-comes-again : Talk room ("120001FFFFFFFE" ▸ "00010000" ∷ "0100010000" ▸ "00020001" ∷ "1000000000" ▸ "00020001" ∷ "1000000000" ▸ "0001000501"
+      ∷ "0100010000" ▸ "00020001" ∷ "1000000000" ▸ "00020001" ∷ "1000000000" ▸ "0001000501" ∷ [])
+  -- those due in one tock stay in the order in which they were started
+  both-widths-are-one-order : map on (after room ("12000200000002" ∷ "0E00000002" ∷ "12000100000002" ∷ []) .timers) ≡ (1, 2) ∷ (1, 3) ∷ (1, 1) ∷ []
+  and-fall-due-together : map (semaphoreOf (after room ("12000200000002" ∷ "0E00000002" ∷ "12000100000002" ∷ "1000000000" ∷ "1000000000" ∷ []))) (1 ∷ 2 ∷ 3 ∷ []) ≡ DONE ∷ DONE ∷ DONE ∷ []
+  -- task 1 waits on semaphore 1, task 3 is idle: neither 21 nor 25
+  it-asks-nothing-of-who-waits-or-is-idle : Talk room ("0100010000" ▸ "00020001" ∷ "12010100000005" ▸ "00020000" ∷ "0B03000000" ▸ "00020000" ∷ "12030100000005" ▸ "00020000" ∷ [])
+  semaphore-0-is-the-tasks-own : map on (after room ("12020000000005" ∷ []) .timers) ≡ (2, 4) ∷ []
+  seven-bytes-are-2-for-timer-and-delay : Talk room ("0E000100000001" ▸ "02010001" ∷ "0D000100000001" ▸ "02010001" ∷ [])
+  -- its row of the table is the timer's, but for the bytes of X
+  in-all-else-it-is-a-timer : let u = fields TIMER in fields SEASON-TIMER ≡ uses (u .A) (u .B) (u .X) longX (u .waits) (u .service)
+  purge-removes-it : after room ("12000100000002" ∷ "0F00010001" ∷ []) .timers ≡ []
+  and-so-does-terminate : after room ("12020100000002" ∷ "0B02000000" ∷ []) .timers ≡ []
   -- ---- start only after (26 is $1A)
 
   -- task 3 only after task 2
@@ -360,6 +392,24 @@ the-table = record {
   queues-may-have-4096-bytes = refl;
   more-is-3 = refl;
   but-tested-after-the-length = refl;
+  it-has-exactly-seven-bytes = refl;
+  its-length-is-tested-before-20 = refl;
+  then-come-5-6-and-9 = refl;
+  it-sets-the-callers-outcome-to-plain = refl;
+  both-widths-share-24-and-23 = refl;
+  all-four-bytes-count = refl;
+  and-so-do-those-of-a-period = refl;
+  two-bytes-mean-as-many-tocks-as-before = (refl, refl);
+  it-is-not-due-before-its-time = refl;
+  a-cyclic-one-comes-again = refl;
+  both-widths-are-one-order = refl;
+  and-fall-due-together = refl;
+  it-asks-nothing-of-who-waits-or-is-idle = refl;
+  semaphore-0-is-the-tasks-own = refl;
+  seven-bytes-are-2-for-timer-and-delay = refl;
+  in-all-else-it-is-a-timer = refl;
+  purge-removes-it = refl;
+  and-so-does-terminate = refl;
   execute-is-refused-while-a-first-is-idle = refl;
   each-pair-is-looked-at = (refl, refl);
   a-suspended-first-is-not-idle = refl;

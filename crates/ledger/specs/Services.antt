@@ -5,7 +5,7 @@ use mathlib.Core.List.{List, [], _∷_}
 use lib.Dec.{eqb}
 use Rattle.ledger.specs.Lists.{find}
 use Rattle.ledger.specs.Config.{Config}
-use Rattle.ledger.specs.Time.{tockValue}
+use Rattle.ledger.specs.Time.{tockValue, longTockValue}
 use Rattle.ledger.specs.Ledger.{PENDING, woke, Request, none, receive, dequeue, enqueue, Ledger, mailbox, queue, held, setSemaphore, setOutcome, setSuspended}
 unfoldable pub use Rattle.ledger.specs.Services.Semaphores.{waitFor, signalled, signal, signalAll, woken, wakeWaiter, waited, wait, notWaiting, withdrawWait}
 unfoldable pub use Rattle.ledger.specs.Services.Messages.{send, wanted, received, dropMessages}
@@ -29,11 +29,11 @@ issue c t (enqueue q e) l = enqueued c t q e (full c l q) l
 -- ---- the codes
 
 pub data Code : Type 0 where
-  WAIT SIGNAL PEND SEND SENDW RECEIVE DEQUEUE ENQUEUE RESUME SUSPEND TERMINATE EXECUTE DELAY TIMER PURGE TICK EXIT : Code
+  WAIT SIGNAL PEND SEND SENDW RECEIVE DEQUEUE ENQUEUE RESUME SUSPEND TERMINATE EXECUTE DELAY TIMER PURGE TICK EXIT SEASON-TIMER : Code
 
--- $01 to $11, in order
+-- $01 to $12, in order
 abbrev pub codes : List Code
-codes = WAIT ∷ SIGNAL ∷ PEND ∷ SEND ∷ SENDW ∷ RECEIVE ∷ DEQUEUE ∷ ENQUEUE ∷ RESUME ∷ SUSPEND ∷ TERMINATE ∷ EXECUTE ∷ DELAY ∷ TIMER ∷ PURGE ∷ TICK ∷ EXIT ∷ []
+codes = WAIT ∷ SIGNAL ∷ PEND ∷ SEND ∷ SENDW ∷ RECEIVE ∷ DEQUEUE ∷ ENQUEUE ∷ RESUME ∷ SUSPEND ∷ TERMINATE ∷ EXECUTE ∷ DELAY ∷ TIMER ∷ PURGE ∷ TICK ∷ EXIT ∷ SEASON-TIMER ∷ []
 
 unfoldable pub effect : Code → Config → (self a b x : ℕ) → List ℕ → Ledger → Ledger
 effect WAIT c self a b x e l = wait self b l
@@ -53,3 +53,4 @@ effect TIMER c self a b x e l = startTimer a b (tockValue x) l
 effect PURGE c self a b x e l = purge a b x l
 effect TICK c self a b x e l = tick c l
 effect EXIT c self a b x e l = cond (eqb b 0) l (signal b l .ledger)
+effect SEASON-TIMER c self a b x e l = startTimer a b (longTockValue x) l

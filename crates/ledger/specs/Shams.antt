@@ -1,4 +1,4 @@
--- Sessions in which each sham that document 01 names, or that a request invites (a signal that tells, a start only after, the brake module, a dropped message),
+-- Sessions in which each sham that document 01 names, or that a request invites (a signal that tells, a start only after, the brake module, a dropped message, a season timer),
 -- would answer otherwise, with the ledger's answers computed.
 use Prim.Native.Nat.{ℕ}
 use mathlib.Core.Path.{_≡_, refl}
@@ -91,6 +91,16 @@ waitsOn b = 1 ∷ 0 ∷ b ∷ 0 ∷ 0 ∷ []
 abbrev pub ends : List ℕ
 ends = terminates 0
 
+-- starts a season timer of 65,537 tocks on its own semaphore; a byte is missing; starts a cyclic timer of one tock there, in two bytes
+abbrev pub startsSeason : List ℕ
+startsSeason = 18 ∷ 0 ∷ 0 ∷ 0 ∷ 1 ∷ 0 ∷ 1 ∷ []
+
+abbrev pub startsShort : List ℕ
+startsShort = 18 ∷ 0 ∷ 0 ∷ 0 ∷ 1 ∷ 0 ∷ []
+
+abbrev pub startsCyclic : List ℕ
+startsCyclic = 14 ∷ 0 ∷ 0 ∷ 255 ∷ 255 ∷ []
+
 pub record ShamAnswers : Type 0 where
   -- both executives accept what the sessions begin with
   pub accepted : (configRefusalBy controller twoTasks ≡ 0) × (configRefusalBy brakeModule twoTasks ≡ 0)
@@ -135,9 +145,16 @@ pub record ShamAnswers : Type 0 where
   -- the message has task 2's own semaphore, on which task 2 waits: it is DONE then, and task 1's wait on it goes on at once
   pub withdrawn : session twoMessages (sends 1 3 ∷ waits ∷ waitsOwn ∷ exits ∷ terminates 2 ∷ waitsOn 3 ∷ [])
       ≡ (0 ∷ 1 ∷ 0 ∷ 1 ∷ []) ∷ (0 ∷ 1 ∷ 0 ∷ 5 ∷ 3 ∷ []) ∷ (0 ∷ 2 ∷ 0 ∷ 1 ∷ []) ∷ (0 ∷ 0 ∷ 0 ∷ 0 ∷ []) ∷ (0 ∷ 1 ∷ 0 ∷ 5 ∷ 1 ∷ []) ∷ (0 ∷ 1 ∷ 0 ∷ 0 ∷ []) ∷ (0 ∷ 1 ∷ 0 ∷ 5 ∷ 3 ∷ []) ∷ []
+  -- the timer's low two bytes are 1: the tick leaves task 1 waiting
+  pub season : session twoTasks (startsSeason ∷ waitsOwn ∷ ticks ∷ []) ≡ (0 ∷ 1 ∷ 0 ∷ 1 ∷ []) ∷ (0 ∷ 1 ∷ 0 ∷ 0 ∷ []) ∷ (0 ∷ 2 ∷ 0 ∷ 1 ∷ []) ∷ (0 ∷ 2 ∷ 0 ∷ 1 ∷ []) ∷ []
+  pub sixBytes : session twoTasks (startsShort ∷ []) ≡ (0 ∷ 1 ∷ 0 ∷ 1 ∷ []) ∷ (2 ∷ 1 ∷ 0 ∷ 1 ∷ []) ∷ []
+  -- both wait, and nobody runs
+  pub sixByNobody : session twoTasks (waits ∷ waitsOwn ∷ startsShort ∷ []) ≡ (0 ∷ 1 ∷ 0 ∷ 1 ∷ []) ∷ (0 ∷ 2 ∷ 0 ∷ 1 ∷ []) ∷ (0 ∷ 0 ∷ 0 ∷ 0 ∷ []) ∷ (2 ∷ 0 ∷ 0 ∷ 0 ∷ []) ∷ []
+  -- -1 in two bytes: the tick wakes task 1
+  pub cyclic : session twoTasks (startsCyclic ∷ waitsOwn ∷ ticks ∷ []) ≡ (0 ∷ 1 ∷ 0 ∷ 1 ∷ []) ∷ (0 ∷ 1 ∷ 0 ∷ 0 ∷ []) ∷ (0 ∷ 2 ∷ 0 ∷ 1 ∷ []) ∷ (0 ∷ 1 ∷ 0 ∷ 5 ∷ 2 ∷ []) ∷ []
   -- nobody waits on semaphore 1
   pub done : getD (run (configIn twoTasks) (signals ∷ []) .0 .semaphores) 0 PENDING ≡ DONE
 
 pub the-answers : ShamAnswers
 unfolding everything pairTimes
-the-answers = record { accepted = (refl, refl); settled = refl; filled = refl; started = refl; ticked = refl; told = refl; wakingTick = refl; wakingPut = refl; acceptedThree = (refl, refl); early = refl; suspended = refl; ownNumber = refl; nobody = refl; equal = refl; many = refl; seventeenTasks = refl; seventeenLong = refl; acceptedMessages = (refl, refl); freed = refl; freedSecond = refl; freedTwice = refl; withdrawn = refl; done = refl }
+the-answers = record { accepted = (refl, refl); settled = refl; filled = refl; started = refl; ticked = refl; told = refl; wakingTick = refl; wakingPut = refl; acceptedThree = (refl, refl); early = refl; suspended = refl; ownNumber = refl; nobody = refl; equal = refl; many = refl; seventeenTasks = refl; seventeenLong = refl; acceptedMessages = (refl, refl); freed = refl; freedSecond = refl; freedTwice = refl; withdrawn = refl; season = refl; sixBytes = refl; sixByNobody = refl; cyclic = refl; done = refl }

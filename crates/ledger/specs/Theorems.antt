@@ -1,7 +1,7 @@
 -- What is proved of the definitions alone.
 -- The sheet's theorems:
 --   Settling: settles, one-end, at-most-2T, loop-at-most-2T. Lowest: lowest-runs. Shown: lowest-shown, reissues-shown. Refused: refused-changes-nothing. HandedOut: handed-out. HandedOver: handed-over. Sound: sound. ToldAfter: signal-tells. Callers: told-by-own-signal.
---   Starts: executes-after, started-after, begins-after. Freed: dropped-frees.
+--   Starts: executes-after, started-after, begins-after. Freed: dropped-frees. WithoutSeason: same-run, same-session, same-output. AsTimer: as-timer.
 
 -- laws of lists, of checks and of signals
 pub mod Items
@@ -47,7 +47,10 @@ pub mod Freed
 pub mod Starts
 -- messages 1 to G, none twice: every step of every ledger keeps it (once-step)
 pub mod Once
--- lines and frames are inverse to each other (written-reads-back, read-is-the-line); a tock value at every width (negative, lowest); milliseconds as the nearest tocks (nearest-is, only-nearest)
+-- frames and lines without code $12 are answered as before there was one (same-run, same-session, same-output)
+pub mod WithoutSeason
+-- lines and frames are inverse to each other (written-reads-back, read-is-the-line); a tock value at every width (negative, lowest, some-tocks, widened), and a season timer of so few tocks is a timer (as-timer); milliseconds as the nearest tocks (nearest-is, only-nearest)
 pub mod Lines
 pub mod TockValues
+pub mod AsTimer
 pub mod Nearest

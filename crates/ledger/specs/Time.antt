@@ -13,9 +13,12 @@ pub data TockValue : Type 0 where
 unfoldable pub signed : (half x : ℕ) → TockValue
 signed half x = cond (eqb x 0) none (cond (ltb x half) (oneShot x) (cyclic (half + half - x)))
 
--- a signed 16-bit number
+-- a signed 16-bit number, and a signed 32-bit one
 unfoldable pub tockValue : ℕ → TockValue
 tockValue x = signed 0x8000 x
+
+unfoldable pub longTockValue : ℕ → TockValue
+longTockValue x = signed 0x80000000 x
 
 -- the tocks until it is due for the first time
 unfoldable pub tocks : TockValue → ℕ

@@ -2,6 +2,7 @@ pub mod Calls
 pub mod Numbers
 pub mod Follows
 pub mod Same
+pub mod AsBefore
 pub mod SomeLedger
 pub mod Agree
 pub mod OneValue

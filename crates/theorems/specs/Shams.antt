@@ -1,4 +1,4 @@
--- The shams that document 01 names, those of a signal that tells whom it woke, of a start only after, of a dropped message and of the brake module, and one in the memory, refuted: no executive that meets the contracts behaves so, whatever memory it is lent.
+-- The shams that document 01 names, those of a signal that tells whom it woke, of a start only after, of a dropped message, of a season timer and of the brake module, and one in the memory, refuted: no executive that meets the contracts behaves so, whatever memory it is lent.
 use Prim.Native.Nat.{ℕ}
 use mathlib.Core.Path.{_≡_, sym, ap, _∙_}
 use mathlib.Core.Bool.{true}
@@ -9,7 +9,7 @@ use lib.ListN.{getD}
 use Rattle.ledger.specs.Lists.{byte}
 use Rattle.ledger.specs.Config.{Config, Limits, brakeModule, configIn, configRefusal, isWithin, configRefusalBy}
 use Rattle.ledger.specs.Session.{run, session}
-use Rattle.ledger.specs.Shams.{twoTasks, takes, puts, delays, starts, ticks, waits, waitsOwn, signals, exits, startsOther, threeTasks, executes, suspends, terminates, itself, tooMany, seventeen, seventeenAndMore, twoMessages, sends, sendsAndWaits, waitsOn, ends, the-answers}
+use Rattle.ledger.specs.Shams.{twoTasks, takes, puts, delays, starts, ticks, waits, waitsOwn, signals, exits, startsOther, threeTasks, executes, suspends, terminates, itself, tooMany, seventeen, seventeenAndMore, twoMessages, sends, sendsAndWaits, waitsOn, ends, startsSeason, startsShort, startsCyclic, the-answers}
 use Rattle.tables.specs.Layout.{regions}
 use Rattle.tables.specs.Decode.{stateAs}
 use Rattle.tables.specs.Shows.{semaphoreCount}
@@ -165,6 +165,32 @@ module _ (a : List (List ℕ)) where
   pub no-wait-withdrawn-late : Played twoMessages (sends 1 3 ∷ waits ∷ waitsOwn ∷ exits ∷ terminates 2 ∷ waitsOn 3 ∷ []) a → shows 6 1 ≡ 0 → ⊥
   no-wait-withdrawn-late x h =
       let is : shows 6 1 ≡ 1 = of-session x (the-answers .withdrawn) 6 1 in
+      omega (arith, h, is)
+
+  -- ---- a season timer
+
+  -- it takes the low two bytes alone, and wakes the task with the first tick
+  pub no-low-bytes-alone : Played twoTasks (startsSeason ∷ waitsOwn ∷ ticks ∷ []) a → shows 3 1 ≡ 1 → ⊥
+  no-low-bytes-alone x h =
+      let is : shows 3 1 ≡ 2 = of-session x (the-answers .season) 3 1 in
+      omega (arith, h, is)
+
+  -- it takes a frame of six bytes
+  pub no-six-bytes : Played twoTasks (startsShort ∷ []) a → shows 1 0 ≡ 0 → ⊥
+  no-six-bytes x h =
+      let is : shows 1 0 ≡ 2 = of-session x (the-answers .sixBytes) 1 0 in
+      omega (arith, h, is)
+
+  -- it tests 20 before the length
+  pub no-20-before-the-length : Played twoTasks (waits ∷ waitsOwn ∷ startsShort ∷ []) a → shows 3 0 ≡ 20 → ⊥
+  no-20-before-the-length x h =
+      let is : shows 3 0 ≡ 2 = of-session x (the-answers .sixByNobody) 3 0 in
+      omega (arith, h, is)
+
+  -- it reads two bytes without a sign: -1 is not due with the first tick
+  pub no-unsigned-tocks : Played twoTasks (startsCyclic ∷ waitsOwn ∷ ticks ∷ []) a → shows 3 1 ≡ 2 → ⊥
+  no-unsigned-tocks x h =
+      let is : shows 3 1 ≡ 1 = of-session x (the-answers .cyclic) 3 1 in
       omega (arith, h, is)
 
   -- ---- the memory

@@ -9,9 +9,9 @@ use lib.Signed.{ltZ, nonNeg}
 use lib.Dec.{T, ltb, ltb→lt}
 use lib.Pow.{pow-lt}
 use borrow.Author.Tests.{lt-ltb}
-use mir.Syntax.{Width, w8, w16, w32, w64, w128}
+use mir.Syntax.{Width}
 use mir.Val.{bits, hbits, Fits, SFits, ofZ, toZ}
-use mir.Facts.{toZ-ofZ, fits-natAbs}
+use mir.Facts.{toZ-ofZ}
 use Rattle.ledger.specs.Time.{oneShot, cyclic, signed}
 use Rattle.tocks.specs.Signs.{asked, asked-by-bits}
 
@@ -38,14 +38,12 @@ positive-sign : (z : ℤ) → ltZ (pos 0) z ≡ true → T (nonNeg z)
 positive-sign (pos n) t = tt
 positive-sign (negsuc k) t = let z : _≡_ {A = ℕ} 0 1 = cc in absurd (omega arith)
 
-half : (w : Width) → T (ltb (hbits w) (bits w))
-half w8 = tt
-half w16 = tt
-half w32 = tt
-half w64 = tt
-half w128 = tt
+positive-size : (w : Width) (z : ℤ) → ltZ (pos 0) z ≡ true → SFits w z → natAbs z < 2 ^ hbits w
+positive-size w (pos n) t f = f .sfits
+positive-size w (negsuc k) t f = let z : _≡_ {A = ℕ} 0 1 = cc in absurd (omega arith)
 
-module _ (w w′ : Width) (narrower : T (ltb (hbits w) (hbits w′))) (z : ℤ) (f : SFits w z) where
+-- the signed number z of width w is widened to w′ for its opposite; the answer has no sign, and width u
+module _ (w w′ u : Width) (narrower : T (ltb (hbits w) (hbits w′))) (unsigned : T (ltb (hbits w) (bits u))) (z : ℤ) (f : SFits w z) where
   -- the number read from its bits, and from its bits in the wider type
   abbrev pub number : ℤ
   number = toZ w (ofZ w z)
@@ -55,6 +53,9 @@ module _ (w w′ : Width) (narrower : T (ltb (hbits w) (hbits w′))) (z : ℤ) 
 
   room : 2 ^ hbits w < 2 ^ hbits w′
   room = pow-lt (ltb→lt (hbits w) (hbits w′) narrower)
+
+  unsigned-room : 2 ^ hbits w < 2 ^ bits u
+  unsigned-room = pow-lt (ltb→lt (hbits w) (bits u) unsigned)
 
   fits : SFits w′ z
   fits = record { sfits = let s = f .sfits in let r = room in omega arith }
@@ -68,15 +69,17 @@ module _ (w w′ : Width) (narrower : T (ltb (hbits w) (hbits w′))) (z : ℤ) 
   pub widens : SFits w′ number
   widens = rw number-is fits
 
-  -- above 0: it fits the wider type without a sign
+  -- above 0: it fits without a sign
   module _ (above : ltZ (pos 0) number ≡ true) where
-    pub positive-cast : T (nonNeg number) × Fits w′ (natAbs number)
-    positive-cast = (positive-sign number above, fits-natAbs {w = w′} {z = number} (half w′) widens)
+    pub positive-cast : T (nonNeg number) × Fits u (natAbs number)
+    positive-cast =
+        let s : SFits w number = rw number-is f in
+        (positive-sign number above, record { fits = omega (arith, positive-size w number above s, unsigned-room) })
 
     pub positive-asked : oneShot (natAbs number) ≡ signed (2 ^ hbits w) (ofZ w z)
     positive-asked = sym (positive number above) ∙ ap asked number-is ∙ asked-by-bits w z f
 
-  -- below 0: the opposite fits the wider type, with and without a sign
+  -- below 0: the opposite fits the wider type, and without a sign
   module _ (below : ltZ (pos 0) number ≡ false) (any : ofZ w z ≡ 0 → ⊥) where
     n : Negative z
     n = negative z (rw number-is at below) (λ e. any (ap (ofZ w) e))
@@ -87,12 +90,11 @@ module _ (w w′ : Width) (narrower : T (ltb (hbits w) (hbits w′))) (z : ℤ) 
     opposite : pos 0 -ℤ wide ≡ pos (suc k)
     opposite = ap (λ (y : ℤ). pos 0 -ℤ y) (wide-is ∙ n .is) ∙ ap pos (zero-add (suc k))
 
+    few : k < 2 ^ hbits w
+    few = let s : SFits w (negsuc k) = subst (SFits w) (n .is) f in s .sfits
+
     opposite-room : SFits w′ (pos (suc k))
-    opposite-room =
-        let s : SFits w (negsuc k) = subst (SFits w) (n .is) f in
-        let k< : k < 2 ^ hbits w = s .sfits in
-        let r = room in
-        record { sfits = omega arith }
+    opposite-room = record { sfits = omega (arith, few, room) }
 
     pub opposite-fits : SFits w′ (pos 0 -ℤ wide)
     opposite-fits = subst (SFits w′) (sym opposite) opposite-room
@@ -100,10 +102,10 @@ module _ (w w′ : Width) (narrower : T (ltb (hbits w) (hbits w′))) (z : ℤ) 
     opposite-is : toZ w′ (ofZ w′ (pos 0 -ℤ wide)) ≡ pos (suc k)
     opposite-is = toZ-ofZ opposite-fits ∙ opposite
 
-    pub opposite-cast : T (nonNeg (toZ w′ (ofZ w′ (pos 0 -ℤ wide)))) × Fits w′ (natAbs (toZ w′ (ofZ w′ (pos 0 -ℤ wide))))
+    pub opposite-cast : T (nonNeg (toZ w′ (ofZ w′ (pos 0 -ℤ wide)))) × Fits u (natAbs (toZ w′ (ofZ w′ (pos 0 -ℤ wide))))
     opposite-cast =
-        subst (λ (y : ℤ). T (nonNeg y) × Fits w′ (natAbs y)) (sym opposite-is)
-        (tt, fits-natAbs {w = w′} {z = pos (suc k)} (half w′) opposite-room)
+        subst (λ (y : ℤ). T (nonNeg y) × Fits u (natAbs y)) (sym opposite-is)
+        (tt, record { fits = omega (arith, few, unsigned-room) })
 
     pub opposite-asked : cyclic (natAbs (toZ w′ (ofZ w′ (pos 0 -ℤ wide)))) ≡ signed (2 ^ hbits w) (ofZ w z)
     opposite-asked = ap (λ (y : ℤ). cyclic (natAbs y)) opposite-is ∙ ap asked (sym (n .is)) ∙ asked-by-bits w z f

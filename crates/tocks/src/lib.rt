@@ -3,7 +3,7 @@
 // Rests on the checker's reading of a signed number's bits.
 ghost use mathlib.Core.Path.{_≡_};
 ghost use Prim.Native.Nat.{_+_, _*_, _<_};
-ghost use mir.Syntax.{w16};
+ghost use mir.Syntax.{w16, w32};
 ghost use mir.Val.{ofZ, toZ};
 ghost use Rattle.ledger.specs.Time as time;
 ghost use Rattle.tocks.specs.Views.{tockView, tocksView};
@@ -37,6 +37,22 @@ pub fn tock_value(x: i16) -> TockValue
     TockValue::Cyclic(period as u32)
 }
 
+// The same of four bytes: -2,147,483,648 is cyclic, 2,147,483,648.
+pub fn long_tock_value(x: i32) -> TockValue
+    ensures { λ r. ⌜ tockView r ≡ time.longTockValue (ofZ w32 x) ⌝ }
+{
+    if x == 0 {
+        return TockValue::None;
+    }
+    if 0 < x {
+        return TockValue::OneShot(x as u32);
+    }
+    // The opposite is taken in the wider type: -2,147,483,648 has none in 32 bits.
+    let wide = x as i64;
+    let wide = -wide;
+    TockValue::Cyclic(wide as u32)
+}
+
 // The number that two bytes of a frame are, high first.
 pub fn signed_word(high: u8, low: u8) -> i16
     ensures { λ r. ⌜ r ≡ toZ w16 (256 * high + low) ⌝ }
@@ -48,11 +64,31 @@ pub fn signed_word(high: u8, low: u8) -> i16
     -1 - ((0xFFFF - bits) as i16)
 }
 
+// The number that four bytes are.
+pub fn signed_long(b0: u8, b1: u8, b2: u8, b3: u8) -> i32
+    ensures { λ r. ⌜ r ≡ toZ w32 (65536 * (256 * b0 + b1) + (256 * b2 + b3)) ⌝ }
+{
+    let high = 256 * (b0 as u32) + (b1 as u32);
+    let low = 256 * (b2 as u32) + (b3 as u32);
+    let bits = 65536 * high + low;
+    if bits < 0x80000000 {
+        return bits as i32;
+    }
+    -1 - ((0xFFFFFFFF - bits) as i32)
+}
+
 // The tock value of two bytes of a frame, high first.
 pub fn tock_value_at(high: u8, low: u8) -> TockValue
     ensures { λ r. ⌜ tockView r ≡ time.tockValue (256 * high + low) ⌝ }
 {
     tock_value(signed_word(high, low))
+}
+
+// And of four.
+pub fn long_tock_value_at(b0: u8, b1: u8, b2: u8, b3: u8) -> TockValue
+    ensures { λ r. ⌜ tockView r ≡ time.longTockValue (65536 * (256 * b0 + b1) + (256 * b2 + b3)) ⌝ }
+{
+    long_tock_value(signed_long(b0, b1, b2, b3))
 }
 
 // The nearest number of tocks. The sum is taken in the wider type: it may be above 65,535.

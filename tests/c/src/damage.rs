@@ -257,7 +257,7 @@ fn timer_field(random: &mut Random, memory: &mut Lent, configuration: &Configura
     }
     let row = timer_row(random.below(1 + usize::from(configuration.timers)));
     let time = memory.of_timers(0, 2);
-    let near = random.pick(&[0, 1, 2, 32_768, u32::MAX]);
+    let near = random.pick(&[0, 1, 2, 32_768, 1 << 31, (1 << 31) + 1, u32::MAX]);
     let four = random.pick(&[near, near, time.wrapping_add(near), time.wrapping_sub(near)]).to_le_bytes();
     match random.below(5) {
         0 => memory.timers[row] = a_value(random, configuration),
@@ -379,7 +379,7 @@ fn service(random: &mut Random, configuration: &Configuration) -> Frame {
     if let Some(pair) = pair {
         return vec![EXECUTE, pair.then, 0, 0, 0];
     }
-    let code = random.between(WAIT, INTERRUPT_EXIT);
+    let code = random.between(WAIT, SEASON_TIMER);
     let queue = random.between(1, configuration.queue_count().max(1));
     let a = if matches!(code, DEQUEUE | ENQUEUE) { queue } else { random.between(0, configuration.tasks) };
     let b = random.between(0, configuration.nameable_semaphores());
@@ -389,9 +389,16 @@ fn service(random: &mut Random, configuration: &Configuration) -> Frame {
         _ => random.pick(&[0, 1, 2, 255]),
     };
     let mut frame = vec![code, a, b, high, low];
-    if code == ENQUEUE {
-        let width = configuration.queues.get(usize::from(queue) - 1).map_or(1, |size| size.width);
-        frame.extend(random.bytes(width.into()));
+    match code {
+        ENQUEUE => {
+            let width = configuration.queues.get(usize::from(queue) - 1).map_or(1, |size| size.width);
+            frame.extend(random.bytes(width.into()));
+        }
+        SEASON_TIMER => {
+            let tocks: i32 = random.pick(&[0, 1, 2, -1, -2, i32::MAX, i32::MIN]);
+            frame.splice(3.., tocks.to_be_bytes());
+        }
+        _ => {}
     }
     frame
 }

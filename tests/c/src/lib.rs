@@ -1,6 +1,7 @@
 //! The exported C functions, wrapped. A result from 0 up is what was computed; a negative one is a number of the paper with a
 //! minus sign.
 
+pub mod beside;
 pub mod caller;
 pub mod compare;
 pub mod damage;

@@ -13,7 +13,10 @@ use crate::lent::{Lent, Regions, COUNT, PART, PLANE, PLANES, TICKS};
 
 type Situation = (&'static str, fn(&Seen) -> bool);
 
-pub const STRANGE: [Situation; 35] = [
+/// The most tocks that a timer can be started with.
+const LONGEST: u32 = 1 << 31;
+
+pub const STRANGE: [Situation; 37] = [
     ("ticks left: 0", |seen| seen.lent.tables[TICKS] == 0),
     ("ticks left: above K", |seen| seen.lent.tables[TICKS] > seen.configuration.ticks_per_tock),
     ("messages: above G", |seen| seen.lent.tables[COUNT] > seen.configuration.messages),
@@ -34,7 +37,10 @@ pub const STRANGE: [Situation; 35] = [
     ("ring: a number above the depth", |seen| seen.rings().any(|(ring, size)| ring[1] > size.depth)),
     ("timers: above R", |seen| seen.lent.timers[PART] > seen.configuration.timers),
     ("timer: 0 tocks left", |seen| seen.items.timers.iter().any(|timer| timer.tocks_left == 0)),
-    ("timer: above 32,768 tocks left", |seen| seen.items.timers.iter().any(|timer| timer.tocks_left > 32_768)),
+    ("timer: above 2,147,483,648 tocks left", |seen| {
+        seen.items.timers.iter().any(|timer| timer.tocks_left > u64::from(LONGEST))
+    }),
+    ("timer: a period above 2,147,483,648", |seen| seen.items.timers.iter().any(|timer| timer.period > LONGEST)),
     ("timer: a semaphore that there is not", |seen| {
         let numbers = 1..=seen.configuration.semaphores();
         seen.items.timers.iter().any(|timer| !numbers.contains(&timer.semaphore))
@@ -46,7 +52,8 @@ pub const STRANGE: [Situation; 35] = [
     ("timers: a row due before the floor", |seen| {
         seen.rows().any(|row| seen.lent.of_timers(row, 2) < seen.lent.of_timers(0, 6))
     }),
-    ("timers: a time that no session here is long enough for", |seen| seen.lent.of_timers(0, 2) > u32::MAX - 32_768),
+    ("timers: a time that no session here is long enough for", |seen| seen.lent.of_timers(0, 2) > u32::MAX - LONGEST),
+    ("timers: a time at which 32,768 tocks more don't fit", |seen| seen.lent.of_timers(0, 2) > u32::MAX - 32_768),
     ("message: for a task that there is not", |seen| seen.lying().any(|record| !seen.is_task(record[0]))),
     ("message: a number that there is not", |seen| {
         seen.lying().any(|record| !(1..=seen.configuration.messages).contains(&record[1]))

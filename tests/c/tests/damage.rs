@@ -100,7 +100,7 @@ fn all_met(counts: &Counts) {
     for rule in [Rule::Sizes, Rule::Marks, Rule::Configuration, Rule::Messages] {
         assert!(broken.get(&rule) > Some(&500), "{rule:?}: {all}");
     }
-    for code in 0x01..=0x11 {
+    for code in 0x01..=0x12 {
         assert!(accepted.get(&code) > Some(&200), "code {code:02X}: {all}");
     }
     for number in [2, 4, 5, 6, 7, 8, 9, 20, 21, 22, 23, 24, 25, 26] {

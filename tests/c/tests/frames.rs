@@ -58,7 +58,7 @@ fn there_is_a_block_for_each_code() {
     let page = text("docs/FRAMES.md");
     let header = text("host/mcx11.h");
     let blocks = blocks(&page);
-    assert_eq!(blocks.iter().map(|block| block.code).collect::<Vec<_>>(), (1..=0x11).collect::<Vec<_>>());
+    assert_eq!(blocks.iter().map(|block| block.code).collect::<Vec<_>>(), (1..=0x12).collect::<Vec<_>>());
     for block in blocks {
         let enumerator = block.name.to_uppercase().replace(' ', "_");
         assert!(header.contains(&format!("MCX11_{enumerator} = 0x{:02X}", block.code)), "{}", block.name);
@@ -117,7 +117,7 @@ fn the_numbers_are_those_that_sessions_meet_in_order() {
         let mut executive = Executive::configure(&script.configuration).expect("accepted");
         for frame in &script.frames {
             let refusal = executive.frame(frame).refusal();
-            if let Some(&code @ 1..=0x11) = frame.first() {
+            if let Some(&code @ 1..=0x12) = frame.first() {
                 met.entry(code).or_default().insert(refusal);
             }
         }

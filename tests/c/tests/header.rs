@@ -8,6 +8,7 @@ use c::caller::Caller;
 use c::damage::damage;
 use c::lent::{kept_length, Lent, FRAME, PART};
 use c::{for_each_caller, rules};
+use plain_executive::command::{SEASON_TIMER, TICK, TIMER};
 use plain_executive::configuration::{Configuration, MOST_PAIRS};
 use plain_executive::executive::Executive;
 use plain_executive::generator::{cascade, Generator, Script};
@@ -44,7 +45,7 @@ fn functions(file: &str) -> Vec<String> {
 fn the_module_has_every_call_and_reader() {
     let blocks = ["mcx11_t", "mcx11_configure_blocks", "mcx11_frame_blocks"].map(str::to_string);
     let [calls, readers] = ["host/mcx11_calls.h", "host/mcx11_readers.h"].map(functions);
-    assert!(calls.len() >= 30 && readers.len() >= 22, "{calls:?} {readers:?}");
+    assert!(calls.len() >= 31 && readers.len() >= 22, "{calls:?} {readers:?}");
     let all: Vec<String> = blocks.into_iter().chain(calls).chain(readers).collect();
     let names = text("host/mcx11_as_module.h");
     let behind = |word: &str| -> Vec<&str> {
@@ -136,7 +137,7 @@ fn the_calls_by_names_feed_their_frames_and_are_traced(caller: Caller) {
             assert_eq!(traced(program, &input), expected, "{}", program.display());
         }
     }
-    assert!((1..=0x11).all(|code| codes.contains(&Some(code))), "not every code: {codes:?}");
+    assert!((1..=0x12).all(|code| codes.contains(&Some(code))), "not every code: {codes:?}");
 }
 
 /// What a C program of one's own prints, which includes the header.
@@ -144,7 +145,13 @@ fn told_by(name: &str, source: &str) -> String {
     let folder = scratch(name);
     std::fs::write(folder.join("own.c"), source).unwrap();
     let mut compile = Command::new("gcc");
-    compile.args(["-std=c99"]).args(tools::STRICT).arg("-I").arg(repository().join("host")).arg("-o").arg("own");
+    compile
+        .args(["-std=c99", "-fsanitize=undefined", "-fno-sanitize-recover=all"])
+        .args(tools::STRICT)
+        .arg("-I")
+        .arg(repository().join("host"))
+        .arg("-o")
+        .arg("own");
     compile.arg("own.c").arg(repository().join("target/staticlib/libmcx11.a"));
     printed(compile.current_dir(&folder), b"");
     printed(&mut Command::new(folder.join("own")), b"")
@@ -209,6 +216,62 @@ fn each_hook_gets_the_calls_on_its_own_memory() {
     let due = "ride: configuration of 25 bytes, accepted\nbrake: configuration of 25 bytes, above module\n\
                ride: tick of 5 bytes, accepted\nbrake: tick of 5 bytes, memory\n";
     assert_eq!(told_by("hooks", HOOKS), due);
+}
+
+const TOCKS: &str = r#"
+#define MCX11_TRACE fed
+#include "mcx11.h"
+#include <stdio.h>
+void fed(const mcx11_t *m, enum mcx11_traced what, const uint8_t *bytes, size_t length, uint8_t number)
+{
+    size_t i;
+    (void)m, (void)what, (void)number;
+    for (i = 0; i < length; i++)
+        printf("%02X", bytes[i]);
+    printf("\n");
+}
+int main(void)
+{
+    static const int64_t tried[] = {INT64_MIN,  -2147483649, -10, 0, 1, 32767, 32768, 32769, 65536, 2147483647, 2147483648,
+                                    2147483649, 4294967297,  INT64_MAX};
+    static mcx11_t ride;
+    size_t i;
+    for (i = 0; i < sizeof tried / sizeof tried[0]; i++) {
+        mcx11_season_timer(&ride, 1, 2, MCX11_SEASON_ONCE(tried[i]));
+        mcx11_season_timer(&ride, 1, 2, MCX11_SEASON_EVERY(tried[i]));
+        if (tried[i] < INT32_MIN || tried[i] > INT32_MAX)
+            continue;
+        mcx11_timer(&ride, 1, 2, MCX11_ONCE((int32_t)tried[i]));
+        mcx11_timer(&ride, 1, 2, MCX11_EVERY((int32_t)tried[i]));
+    }
+    mcx11_season_timer(&ride, 1, 2, INT32_MIN);
+    mcx11_season_timer(&ride, 1, 2, mcx11_milliseconds(1, 125)); /* a refusal is no tock value by itself */
+    mcx11_season_timer(&ride, 1, 2, MCX11_SEASON_ONCE(mcx11_milliseconds(1, 125)));
+    mcx11_call(&ride, MCX11_SEASON_TIMER, 1, 2, 5);
+    return 0;
+}
+"#;
+
+/// Tock values of both widths, from both sides of their ends: what there is not is 0, and the compiler's checks find nothing undefined.
+#[test]
+fn tock_values_are_the_numbers_asked_for_or_0() {
+    let small = [i64::MIN, -2147483649, -10, 0, 1, 32767, 32768, 32769, 65536];
+    let large = [2147483647, 2147483648, 2147483649, 4294967297, i64::MAX];
+    let mut due = String::new();
+    for n in small.into_iter().chain(large) {
+        let within = |most: i64, value: i64| if (1..=most).contains(&n) { value } else { 0 };
+        for value in [within((1 << 31) - 1, n), within(1 << 31, n.wrapping_neg())] {
+            writeln!(due, "120102{:08X}", value as u32).unwrap();
+        }
+        if i32::try_from(n).is_ok() {
+            for value in [within((1 << 15) - 1, n), within(1 << 15, -n)] {
+                writeln!(due, "0E0102{:04X}", value as u16).unwrap();
+            }
+        }
+    }
+    let last = ["12010280000000", "120102FFFFFFF6", "12010200000000", "1201020005"];
+    due.extend(last.map(|line| format!("{line}\n")));
+    assert_eq!(told_by("tocks", TOCKS), due);
 }
 
 /// Of each value its enumerator in the header's enum, in small letters and without what all names begin with.
@@ -328,8 +391,23 @@ fn of_session(caller: Caller, script: &Script, every: usize, memories: &mut Vec<
     }
 }
 
+/// Timers of both widths, the longest among them, before and after a tock.
+fn long_timers() -> Script {
+    let timers: [&[u8]; 6] = [
+        &[SEASON_TIMER, 1, 1, 0x80, 0, 0, 0],
+        &[SEASON_TIMER, 1, 2, 0x7F, 0xFF, 0xFF, 0xFF],
+        &[SEASON_TIMER, 1, 3, 0, 1, 0, 0],
+        &[TIMER, 1, 4, 0x80, 0],
+        &[TIMER, 1, 5, 0x7F, 0xFF],
+        &[TICK, 0, 0, 0, 0],
+    ];
+    let configuration = [&[1, 6, 0, 8, 0, 1, 0, 1][..], &[0]].concat();
+    Script { configuration, frames: timers.map(<[u8]>::to_vec).to_vec() }
+}
+
 fn the_readers_tell_the_other_implementations_state(caller: Caller) {
     let (mut memories, mut states) = (Vec::new(), String::new());
+    of_session(caller, &long_timers(), 1, &mut memories, &mut states);
     if caller == Caller::Controller {
         of_session(caller, &cascade(), 3, &mut memories, &mut states);
     }
@@ -338,7 +416,8 @@ fn the_readers_tell_the_other_implementations_state(caller: Caller) {
         let script = Generator::within(caller.limits(), seed).script(tasks..=tasks, 300);
         of_session(caller, &script, 20, &mut memories, &mut states);
     }
-    let due = "DONE|WAITING|holds 2|mailbox 2|blocks 4|blocks 8|blocks 1 |blocks 2 |timer|pairs 2:";
+    let due = "DONE|WAITING|holds 2|mailbox 2|blocks 4|blocks 8|blocks 1 |blocks 2 |timer|pairs 2:\
+               |left 2147483648 period 2147483648|left 2147483647 period 2147483648|left 2147483646 period 0";
     for word in due.split('|') {
         assert!(states.contains(word), "never reached: {word}");
     }

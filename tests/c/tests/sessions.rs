@@ -105,7 +105,7 @@ fn everything() -> Script {
 /// What a byte that is changed is called in the difference.
 type Fault = (&'static str, fn(&mut Lent, &Regions));
 
-const FAULTS: [Fault; 23] = [
+const FAULTS: [Fault; 25] = [
     ("the ticks", |memory, _| memory.tables[TICKS] = memory.tables[TICKS] % 3 + 1),
     ("the blocks of task 2", |memory, _| memory.tables[PLANES] ^= 2),
     ("the outcome of task 3", |memory, at| memory.tables[at.records + 12] ^= 1),
@@ -123,7 +123,9 @@ const FAULTS: [Fault; 23] = [
     ("timer 1", |memory, _| memory.timers[timer_row(1)] ^= 3),
     ("timer 1", |memory, _| memory.timers[timer_row(1) + 1] ^= 3),
     ("timer 1", |memory, _| memory.timers[timer_row(1) + 2] ^= 1),
+    ("timer 1", |memory, _| memory.timers[timer_row(1) + 5] ^= 0x80),
     ("timer 1", |memory, _| memory.timers[timer_row(1) + 6] ^= 1),
+    ("timer 1", |memory, _| memory.timers[timer_row(1) + 9] ^= 0x80),
     ("timers", |memory, _| memory.timers[PART] = 0),
     ("the config block", |memory, _| memory.config[FRAME + 9] ^= 1),
     ("the config block", |memory, _| memory.config[FRAME + 14] ^= 1),

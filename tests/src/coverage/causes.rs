@@ -19,23 +19,23 @@ pub fn causes(executive: &Executive, frame: &[u8]) -> Vec<Number> {
             causes.push(number);
         }
     };
-    let known = (WAIT..=INTERRUPT_EXIT).contains(&code);
+    let known = (WAIT..=SEASON_TIMER).contains(&code);
     note(!known, CODE);
-    note(frame.len() > 5 && code != ENQUEUE, LENGTH);
-    note(known && code < TICK && check.own == 0, NULL_TASK_RUNS);
+    note(check.wrong_length(), LENGTH);
+    note(known && is_service(code) && check.own == 0, NULL_TASK_RUNS);
     note(check.wrong_task(), TASK);
     note(check.wrong_semaphore(), SEMAPHORE);
     note(check.wrong_queue(), QUEUE);
     note(check.wrong_message(), MESSAGE);
-    note(matches!(code, DELAY | TIMER) && check.x() == 0, TOCK_VALUE);
+    note(check.no_tocks(), TOCK_VALUE);
     note(check.wrong_entry(), LENGTH);
-    let meant = known && (check.own != 0 || code >= TICK);
+    let meant = known && (check.own != 0 || !is_service(code));
     note(meant && check.idle_or_waiting(), IDLE_OR_WAITING);
     note(check.before_first(), BEFORE_FIRST);
     note(meant && check.message_lies(), MESSAGE_IN_MAILBOX);
     note(meant && check.would_wait_too(), SEMAPHORE_WAITING);
     note(meant && check.has_a_timer(), HAS_A_TIMER);
-    note(meant && matches!(code, DELAY | TIMER) && executive.timers().all_active(), ALL_TIMERS_ACTIVE);
+    note(meant && starts_a_timer(code) && executive.timers().all_active(), ALL_TIMERS_ACTIVE);
     causes
 }
 
@@ -58,19 +58,36 @@ impl Check<'_> {
         u16::from_be_bytes([self.frame[3], self.frame[4]])
     }
 
+    fn wrong_length(&self) -> bool {
+        match self.code() {
+            SEASON_TIMER => self.frame.len() != 7,
+            ENQUEUE => false,
+            _ => self.frame.len() > 5,
+        }
+    }
+
+    /// Without its length a season timer has no tock value.
+    fn no_tocks(&self) -> bool {
+        match self.code() {
+            DELAY | TIMER => self.x() == 0,
+            SEASON_TIMER => !self.wrong_length() && self.frame[3..] == [0; 4],
+            _ => false,
+        }
+    }
+
     fn wrong_task(&self) -> bool {
         let above = self.a() > self.executive.configuration().tasks;
         match self.code() {
             SEND | SENDW | RESUME => above || self.a() == 0,
             EXECUTE => above || self.a() == 0 || self.a() == self.own,
-            RECEIVE | SUSPEND | TERMINATE | DELAY | TIMER | PURGE => above,
+            RECEIVE | SUSPEND | TERMINATE | DELAY | TIMER | SEASON_TIMER | PURGE => above,
             _ => false,
         }
     }
 
     fn wrong_semaphore(&self) -> bool {
-        let used = matches!(self.code(), WAIT | SIGNAL | PEND | SEND | SENDW | DELAY | TIMER | PURGE | INTERRUPT_EXIT);
-        used && self.frame[2] > self.executive.configuration().nameable_semaphores()
+        let used = matches!(self.code(), WAIT | SIGNAL | PEND | SEND | SENDW | PURGE | INTERRUPT_EXIT);
+        (used || starts_a_timer(self.code())) && self.frame[2] > self.executive.configuration().nameable_semaphores()
     }
 
     fn wrong_queue(&self) -> bool {
@@ -93,7 +110,7 @@ impl Check<'_> {
         self.code() == ENQUEUE && wrong
     }
 
-    /// Task A of delay and timer.
+    /// Task A of delay and the timers.
     fn delayed(&self) -> u8 {
         if self.a() == 0 {
             self.own
@@ -103,7 +120,7 @@ impl Check<'_> {
     }
 
     fn semaphore(&self) -> u8 {
-        let task = if matches!(self.code(), DELAY | TIMER) { self.delayed() } else { self.own };
+        let task = if starts_a_timer(self.code()) { self.delayed() } else { self.own };
         match self.frame[2] {
             0 => self.executive.configuration().semaphore_of_task(task),
             number => number,
@@ -145,7 +162,7 @@ impl Check<'_> {
     }
 
     fn has_a_timer(&self) -> bool {
-        if !matches!(self.code(), DELAY | TIMER) || self.wrong_task() || self.wrong_semaphore() {
+        if !starts_a_timer(self.code()) || self.wrong_task() || self.wrong_semaphore() {
             return false;
         }
         let mut timers = self.executive.timers().active().iter();

@@ -7,10 +7,10 @@ use crate::numbers::*;
 
 const TOO_SHORT: &str = "refusals: 2, shorter than 5 bytes";
 const UNKNOWN: &str = "refusals: 4, code 00";
-const UNKNOWN_ABOVE: &str = "refusals: 4, code above 11";
+const UNKNOWN_ABOVE: &str = "refusals: 4, code above 12";
 
 /// The numbers that each code can be refused with.
-const BY_CODE: [(u8, &[Number]); 17] = [
+const BY_CODE: [(u8, &[Number]); 18] = [
     (WAIT, &[2, 6, 20, 21]),
     (SIGNAL, &[2, 6, 20]),
     (PEND, &[2, 6, 20, 21]),
@@ -28,6 +28,7 @@ const BY_CODE: [(u8, &[Number]); 17] = [
     (PURGE, &[2, 5, 6, 20]),
     (TICK, &[2]),
     (INTERRUPT_EXIT, &[2, 6]),
+    (SEASON_TIMER, &[2, 5, 6, 9, 20, 23, 24]),
 ];
 
 /// Causes that one frame can have at the same time: one, and those that it counts before.
@@ -64,7 +65,7 @@ pub fn reached(step: &Step) -> Vec<String> {
     };
     match code {
         0 => return vec![UNKNOWN.into()],
-        WAIT..=INTERRUPT_EXIT => {}
+        WAIT..=SEASON_TIMER => {}
         _ => return unknown_above(step),
     }
     let mut reached = vec![by_code(code, refusal)];

@@ -6,6 +6,7 @@ mod dropped;
 mod messages;
 mod pairs;
 mod queues;
+mod seasons;
 mod semaphores;
 mod settling;
 mod tasks;
@@ -15,9 +16,10 @@ use super::Step;
 
 type Situation = (&'static str, fn(&Step) -> bool);
 
-const TABLES: [(&str, &[Situation]); 10] = [
+const TABLES: [(&str, &[Situation]); 11] = [
     ("answers", answers::TABLE),
     ("pairs", pairs::TABLE),
+    ("season timers", seasons::TABLE),
     ("semaphores", semaphores::TABLE),
     ("messages", messages::TABLE),
     ("dropped", dropped::TABLE),
@@ -32,9 +34,9 @@ pub fn names() -> impl Iterator<Item = String> {
     TABLES.iter().flat_map(|(title, table)| table.iter().map(move |(name, _)| titled(title, name)))
 }
 
-/// Only accepted frames count, but for the answers and the pairs.
+/// Only accepted frames count, but for the answers, the pairs and the season timers.
 pub fn reached(step: &Step) -> Vec<String> {
-    let tables = if step.answer.refusal() == 0 { &TABLES[..] } else { &TABLES[..2] };
+    let tables = if step.answer.refusal() == 0 { &TABLES[..] } else { &TABLES[..3] };
     let mut reached = Vec::new();
     for (title, table) in tables {
         reached.extend(table.iter().filter(|(_, fits)| fits(step)).map(|(name, _)| titled(title, name)));

@@ -1,7 +1,7 @@
 //! One frame with the executive before and after it.
 
 use crate::answer::Answer;
-use crate::command::{DELAY, PURGE, TIMER};
+use crate::command::{starts_a_timer, PURGE, SEASON_TIMER};
 use crate::executive::Executive;
 use crate::semaphore::Semaphore;
 use crate::tasks::{Block, Blocks, Letter, Request, Task};
@@ -12,6 +12,8 @@ pub struct Step<'a> {
     pub frame: &'a [u8],
     pub answer: Answer,
     pub after: &'a Executive,
+    /// Task and semaphore of each season timer that is active before the frame: the timer itself doesn't tell.
+    pub seasons: &'a [(u8, u8)],
 }
 
 impl Step<'_> {
@@ -50,7 +52,7 @@ impl Step<'_> {
 
     /// The semaphore that B means.
     pub fn semaphore(&self) -> u8 {
-        let of_a = matches!(self.code(), DELAY | TIMER | PURGE);
+        let of_a = self.code() == PURGE || starts_a_timer(self.code());
         let task = if of_a { self.task() } else { self.own() };
         if self.b() == 0 {
             self.before.configuration().semaphore_of_task(task)
@@ -131,5 +133,17 @@ impl Step<'_> {
         let (task, semaphore) = (self.task(), self.semaphore());
         let started = |timer: &Timer| timer.task == task && timer.semaphore == semaphore;
         self.new_timers().iter().position(started).unwrap_or(0)
+    }
+
+    /// A season timer that was active before the frame.
+    pub fn is_season(&self, timer: &Timer) -> bool {
+        self.seasons.contains(&(timer.task, timer.semaphore))
+    }
+
+    /// Those that are active after the frame.
+    pub fn new_seasons(&self) -> Vec<(u8, u8)> {
+        let started = self.accepts(SEASON_TIMER).then(|| (self.task(), self.semaphore()));
+        let known = self.seasons.iter().copied().chain(started);
+        known.filter(|&(task, semaphore)| self.after.timers().has(task, semaphore)).collect()
     }
 }

@@ -1,6 +1,6 @@
 //! Frames and lines with faults.
 
-use crate::command::{ENQUEUE, EXECUTE};
+use crate::command::{ENQUEUE, EXECUTE, SEASON_TIMER};
 use crate::executive::Executive;
 use crate::line::{MOST_BYTES, MOST_DIGITS};
 use crate::random::Random;
@@ -18,7 +18,8 @@ pub fn frame(random: &mut Random, executive: &Executive) -> Vec<u8> {
         frame.extend(aside.bytes(more));
     }
     if let Some(code) = frame.first_mut() {
-        *code = random.pick(&[*code, *code % 18, *code % 18, ENQUEUE]);
+        let near = *code % (SEASON_TIMER + 2); // also the first that there is not
+        *code = random.pick(&[*code, near, near, ENQUEUE]);
     }
     if let (Some(queue), true) = (frame.get_mut(1), random.percent(70)) {
         *queue = 1 + *queue % executive.configuration().queue_count().max(1);

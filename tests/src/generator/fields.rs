@@ -14,8 +14,10 @@ impl Generator {
             self.choose(code, executive, &mut fields);
         }
         let mut frame = [vec![code], fields].concat();
-        if code == ENQUEUE {
-            frame.extend(self.entry(executive, frame[1]));
+        match code {
+            ENQUEUE => frame.extend(self.entry(executive, frame[1])),
+            SEASON_TIMER => frame.splice(3.., self.season_tocks()).for_each(drop),
+            _ => {}
         }
         frame
     }
@@ -26,7 +28,7 @@ impl Generator {
             WAIT | SIGNAL | PEND | INTERRUPT_EXIT => fields[1] = self.semaphore(executive),
             _ => fields[0] = self.task(code, executive),
         }
-        if matches!(code, SEND | SENDW | DELAY | TIMER | PURGE) {
+        if matches!(code, SEND | SENDW | PURGE) || starts_a_timer(code) {
             fields[1] = self.semaphore(executive);
         }
         match code {
@@ -35,7 +37,7 @@ impl Generator {
             PURGE => fields[3] = self.random.pick(&[0, 0, 1, 0x80, 0xFF]),
             _ => {}
         }
-        if matches!(code, DELAY | TIMER | PURGE) && self.random.percent(30) {
+        if (code == PURGE || starts_a_timer(code)) && self.random.percent(30) {
             self.name_a_timer(executive, fields);
         }
     }
@@ -161,6 +163,32 @@ impl Generator {
             _ => self.random.number() as i16,
         };
         value.to_be_bytes()
+    }
+
+    /// Mostly so few that they pass within the session, as in the other width. Then the ends, and values of which two bytes would say
+    /// something else.
+    fn season_tocks(&mut self) -> [u8; 4] {
+        let ends = [0, i32::MAX, -1, i32::MIN, i32::MIN + 1];
+        let beyond = [0x7FFF, 0x8000, 0xFFFF, 0x1_0000, 0x1_0001, -0x8000, -0x8001, -0xFFFF, -0x1_0000, -0x1_0001];
+        let value: i32 = match self.random.below(100) {
+            0..=34 => 1 + self.random.below(3) as i32,
+            35..=69 => -1 - self.random.below(3) as i32,
+            70..=74 => 1 + self.random.below(20) as i32,
+            75..=79 => -1 - self.random.below(20) as i32,
+            80..=89 => self.random.pick(&ends),
+            90..=95 => self.random.pick(&beyond),
+            _ => self.random.number() as i32,
+        };
+        value.to_be_bytes()
+    }
+
+    /// A season timer but for its length.
+    pub(super) fn season_of_another_length(&mut self, executive: &Executive) -> Vec<u8> {
+        let mut frame = self.service(SEASON_TIMER, executive);
+        let noise = self.random.byte();
+        let length = self.random.pick(&[1, 4, 5, 5, 6, 6, 8, 8, 9, 12, 20]);
+        frame.resize(length, noise);
+        frame
     }
 }
 

@@ -37,9 +37,9 @@ const MOODS: [Mood; 9] = [
 ];
 
 /// Terminate, suspend and pend come less often than the rest, so that sessions stay alive.
-const CODES: [u8; 27] = [
+const CODES: [u8; 28] = [
     WAIT, WAIT, SIGNAL, SIGNAL, PEND, SEND, SEND, SENDW, RECEIVE, RECEIVE, DEQUEUE, DEQUEUE, ENQUEUE, ENQUEUE, RESUME,
-    RESUME, SUSPEND, TERMINATE, EXECUTE, EXECUTE, DELAY, DELAY, TIMER, TIMER, TIMER, PURGE, PURGE,
+    RESUME, SUSPEND, TERMINATE, EXECUTE, EXECUTE, DELAY, DELAY, TIMER, TIMER, TIMER, TIMER, PURGE, PURGE,
 ];
 
 impl Generator {
@@ -74,7 +74,15 @@ impl Generator {
     }
 
     fn any_service(&mut self, executive: &Executive) -> Vec<u8> {
-        let code = self.random.pick(&CODES);
+        self.one_of(&CODES, executive)
+    }
+
+    /// A timer is one of either width.
+    fn one_of(&mut self, codes: &[u8], executive: &Executive) -> Vec<u8> {
+        let code = match self.random.pick(codes) {
+            TIMER if self.random.percent(50) => SEASON_TIMER,
+            code => code,
+        };
         self.service(code, executive)
     }
 
@@ -91,8 +99,7 @@ impl Generator {
     }
 
     fn timing(&mut self, executive: &Executive) -> Vec<u8> {
-        let code = self.random.pick(&[TICK, TICK, TICK, TIMER, TIMER, DELAY, PURGE]);
-        self.service(code, executive)
+        self.one_of(&[TICK, TICK, TICK, TICK, TIMER, TIMER, TIMER, DELAY, PURGE], executive)
     }
 
     fn blocking(&mut self, executive: &Executive, own: u8) -> Option<Vec<u8>> {

@@ -5,6 +5,7 @@ mod callers;
 mod dropped;
 mod marked;
 mod pairs;
+mod season;
 mod told;
 
 use plain_executive::executive::Executive;

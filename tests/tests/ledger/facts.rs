@@ -5,6 +5,7 @@ use plain_executive::executive::Executive;
 use plain_executive::generator::Script;
 use plain_executive::items::Items;
 use plain_executive::limits::Limits;
+use plain_executive::numbers::Number;
 use plain_executive::session;
 use plain_executive::tocks::{self, Tocks};
 
@@ -29,7 +30,7 @@ use Rattle.sessions.specs.Compared.{all, compared, task, letter, timer}
 pub const TIMES: &str = "\
 use Prim.Native.Nat.{ℕ}
 use mathlib.Core.Path.{_≡_, refl}
-use Rattle.ledger.specs.Time.{TockValue, none, oneShot, cyclic, tockValue, Tocks, are, refused, milliseconds}
+use Rattle.ledger.specs.Time.{TockValue, none, oneShot, cyclic, tockValue, longTockValue, Tocks, are, refused, milliseconds}
 use Rattle.ledger.specs.Computing.Quick.{everything}
 ";
 
@@ -109,14 +110,24 @@ pub fn input(number: usize, input: &[u8]) -> Fact {
     }
 }
 
+/// Of two bytes.
 pub fn tock_value(number: usize, x: u16) -> Fact {
-    let value = match tocks::tock_value(x) {
+    let equation = format!("tockValue {x} ≡ {}", written(tocks::tock_value(x)));
+    Fact { name: format!("tocks-{number}"), replay: equation.clone(), equation, unfolding: "everything" }
+}
+
+/// Of the four of a season timer.
+pub fn season_tock_value(number: usize, x: u32) -> Fact {
+    let equation = format!("longTockValue {x} ≡ {}", written(tocks::season_tock_value(x)));
+    Fact { name: format!("season-tocks-{number}"), replay: equation.clone(), equation, unfolding: "everything" }
+}
+
+fn written(value: Result<Tocks, Number>) -> String {
+    match value {
         Ok(Tocks::OneShot(tocks)) => format!("oneShot {tocks}"),
         Ok(Tocks::Cyclic(period)) => format!("cyclic {period}"),
         Err(_) => "none".into(),
-    };
-    let equation = format!("tockValue {x} ≡ {value}");
-    Fact { name: format!("tocks-{number}"), replay: equation.clone(), equation, unfolding: "everything" }
+    }
 }
 
 pub fn milliseconds(number: usize, milliseconds: u16, per_tock: u16) -> Fact {

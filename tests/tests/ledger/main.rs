@@ -119,8 +119,18 @@ fn times() -> Vec<Fact> {
         values.push((random.number() as u16) >> bits);
     }
     let tocks = values.iter().enumerate().map(|(number, &x)| facts::tock_value(number, x));
+    let seasons = season_values(&mut random).into_iter().enumerate();
+    let seasons = seasons.map(|(number, x)| facts::season_tock_value(number, x));
     let pairs = values.iter().zip(&values[1..]).map(|(&one, &other)| (one.max(other), one.min(other)));
-    tocks.chain(pairs.enumerate().map(|(number, (a, b))| facts::milliseconds(number, a, b))).collect()
+    let milliseconds = pairs.enumerate().map(|(number, (a, b))| facts::milliseconds(number, a, b));
+    tocks.chain(seasons).chain(milliseconds).collect()
+}
+
+fn season_values(random: &mut Random) -> Vec<u32> {
+    let ends =
+        [0, 1, 0x7FFF_FFFF, 0x8000_0000, 0x8000_0001, 0xFFFF_FFFF, 0x7FFF, 0x8000, 0xFFFF, 0x1_0000, 0xFFFF_0000];
+    let random = (0..60).map(|turn| (random.number() as u32) >> (turn % 32));
+    ends.into_iter().chain(random).collect()
 }
 
 #[test]

@@ -9,9 +9,9 @@ use Rattle.ledger.specs.Lists.{at, put, first, sum, any, all, keep, find
 use Rattle.ledger.specs.Config.{Config, twos, configIn, fewEnough, goodValues, goodHead, goodLength, goodPair, goodRest, configRefusal, isWithin, configRefusalBy}
 use Rattle.ledger.specs.Ledger.{Ledger, task, semaphoreOf, mailbox, queue, held, runnable, lowestRunnable, running, setTask, setSemaphores, setSemaphore, setMailbox, setQueue, setTimers, setClock, setBlocks, setOutcome, setSlot, setRequest, setSuspended, setEventWait, setMessageWait, freshTask, fresh}
 use Rattle.ledger.specs.Computing.Force.{forceBool, forceList, same, forceSema, forceOutcome, forceRequest, forceTask, forceQueue, force, force-is}
-use Rattle.ledger.specs.Time.{signed, tockValue, tocks, period, nearest, milliseconds}
+use Rattle.ledger.specs.Time.{signed, tockValue, longTockValue, tocks, period, nearest, milliseconds}
 use Rattle.ledger.specs.Services.{waitFor, signalled, signal, signalAll, woken, wakeWaiter, waited, wait, notWaiting, withdrawWait, send, wanted, notEmpty, notFull, shape, empty, full, copyInto, takeEntry, putEntry, received, dropMessages, dequeued, enqueued, issue, terminate, execute, insertTimer, startTimer, purge, insertAgain, expire, expireAll, due, tock, tick, effect}
-use Rattle.ledger.specs.Refusals.{fields, meantTask, meantSemaphore, codeAt, valueX, behindX, call, tooLong, wrongTask, wrongSemaphore, wrongQueue, isTockValue, isMessage, wouldWaitOn, isWaiting, meets21, inAMailbox, haveTimer, idleOrWaiting, wrongEntry, meets25, holdsBack, meets26, fromInput, fromState, refusal}
+use Rattle.ledger.specs.Refusals.{fields, meantTask, meantSemaphore, codeAt, valueX, behindX, call, wrongLength, wrongTask, wrongSemaphore, wrongQueue, isTockValue, isMessage, wouldWaitOn, isWaiting, meets21, inAMailbox, haveTimer, idleOrWaiting, wrongEntry, meets25, holdsBack, meets26, fromInput, fromState, refusal}
 use Rattle.ledger.specs.Session.{openRequest, isOpen, refused21, issueAgain, reissue, settle, shown, answer, accept, step, runFrom, run, refusedConfiguration, session, timerLeft, items}
 use Rattle.ledger.specs.Lines.{digitValue, digitOf, joined, bytesOf, digitsOf, frameOf, lineOf, writtenInto, readLine, writeLine, before, linesIn, stepLine, answersFrom, configured, answersToLines, printed, output}
 use Rattle.ledger.specs.Computing.Hex.{digit, hex, letters, text}
@@ -36,7 +36,7 @@ quickSession-is g fs = rw quickFrom-is
 
 -- a name for all definitions of the ledger: to unfold it is to unfold them
 unfoldable pub everything : List ℕ → List (List ℕ) → List (List ℕ)
-unfolding at put first sum any all keep find without insertBy twos configIn fewEnough goodValues goodHead goodLength goodPair goodRest configRefusal isWithin configRefusalBy task semaphoreOf mailbox queue held runnable lowestRunnable running setTask setSemaphores setSemaphore setMailbox setQueue setTimers setClock setBlocks setOutcome setSlot setRequest setSuspended setEventWait setMessageWait freshTask fresh forceBool forceList same forceSema forceOutcome forceRequest forceTask forceQueue force waitFor signalled signal signalAll woken wakeWaiter waited wait notWaiting withdrawWait send wanted notEmpty notFull shape empty full copyInto takeEntry putEntry received dropMessages dequeued enqueued issue terminate execute insertTimer signed tockValue tocks period startTimer purge insertAgain expire expireAll due tock tick effect fields meantTask meantSemaphore codeAt valueX behindX call tooLong wrongTask wrongSemaphore wrongQueue isTockValue isMessage wouldWaitOn isWaiting meets21 inAMailbox haveTimer idleOrWaiting wrongEntry meets25 holdsBack meets26 fromInput fromState refusal openRequest isOpen refused21 issueAgain reissue settle shown answer accept step runFrom run refusedConfiguration session timerLeft items nearest milliseconds digitValue digitOf joined bytesOf digitsOf frameOf lineOf writtenInto readLine writeLine before linesIn stepLine answersFrom configured answersToLines printed output digit hex letters text
+unfolding at put first sum any all keep find without insertBy twos configIn fewEnough goodValues goodHead goodLength goodPair goodRest configRefusal isWithin configRefusalBy task semaphoreOf mailbox queue held runnable lowestRunnable running setTask setSemaphores setSemaphore setMailbox setQueue setTimers setClock setBlocks setOutcome setSlot setRequest setSuspended setEventWait setMessageWait freshTask fresh forceBool forceList same forceSema forceOutcome forceRequest forceTask forceQueue force waitFor signalled signal signalAll woken wakeWaiter waited wait notWaiting withdrawWait send wanted notEmpty notFull shape empty full copyInto takeEntry putEntry received dropMessages dequeued enqueued issue terminate execute insertTimer signed tockValue longTockValue tocks period startTimer purge insertAgain expire expireAll due tock tick effect fields meantTask meantSemaphore codeAt valueX behindX call wrongLength wrongTask wrongSemaphore wrongQueue isTockValue isMessage wouldWaitOn isWaiting meets21 inAMailbox haveTimer idleOrWaiting wrongEntry meets25 holdsBack meets26 fromInput fromState refusal openRequest isOpen refused21 issueAgain reissue settle shown answer accept step runFrom run refusedConfiguration session timerLeft items nearest milliseconds digitValue digitOf joined bytesOf digitsOf frameOf lineOf writtenInto readLine writeLine before linesIn stepLine answersFrom configured answersToLines printed output digit hex letters text
 everything g fs = session g fs
 
 -- the answers to lines as they stand in the document, for long sessions

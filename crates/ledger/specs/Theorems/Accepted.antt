@@ -11,8 +11,8 @@ use lib.ListN.{length}
 use Rattle.ledger.specs.Lists.{first, within, byte}
 use Rattle.ledger.specs.Config.{Config}
 use Rattle.ledger.specs.Ledger.{Ledger, running}
-use Rattle.ledger.specs.Services.{Code, WAIT, SIGNAL, PEND, SEND, SENDW, RECEIVE, DEQUEUE, ENQUEUE, RESUME, SUSPEND, TERMINATE, EXECUTE, DELAY, TIMER, PURGE, TICK, EXIT, shape}
-use Rattle.ledger.specs.Refusals.{FieldA, noA, aTask, toStart, selfOrTask, anyOrTask, aQueue, FieldB, noB, ofSelf, ofTask, orNone, FieldX, noX, aMessage, aTockValue, aSwitch, Fields, fields, Follows, xAlone, xAndEntry, Call, meantTask, meantSemaphore, codeAt, call, wrongTask, wrongSemaphore, wrongQueue, isMessage, isTockValue, wrongEntry, meets25, meets26, meets21, inAMailbox, haveTimer, fromInput, fromState, refusal}
+use Rattle.ledger.specs.Services.{Code, WAIT, SIGNAL, PEND, SEND, SENDW, RECEIVE, DEQUEUE, ENQUEUE, RESUME, SUSPEND, TERMINATE, EXECUTE, DELAY, TIMER, PURGE, TICK, EXIT, SEASON-TIMER, shape}
+use Rattle.ledger.specs.Refusals.{FieldA, noA, aTask, toStart, selfOrTask, anyOrTask, aQueue, FieldB, noB, ofSelf, ofTask, orNone, FieldX, noX, aMessage, aTockValue, aSwitch, Fields, fields, Follows, xAlone, xAndEntry, longX, Call, meantTask, meantSemaphore, codeAt, call, wrongTask, wrongSemaphore, wrongQueue, isMessage, isTockValue, wrongEntry, meets25, meets26, meets21, inAMailbox, haveTimer, fromInput, fromState, refusal}
 use Rattle.ledger.specs.Theorems.Items.{Numbered}
 use Rattle.ledger.specs.Theorems.Checks.{or-left, asked, within-numbered, passes, passes-joined, Numbers}
 use Rattle.ledger.specs.Theorems.Lowest.{TaskRuns, NullRuns, lowest-runs}
@@ -52,6 +52,7 @@ GoodX c l aSwitch a b x = Unit {0}
 abbrev pub GoodEntry : Config → Follows → (q : ℕ) → List ℕ → Type 0
 GoodEntry c xAlone q e = Unit {0}
 GoodEntry c xAndEntry q e = length e ≡ shape c q .width
+GoodEntry c longX q e = Unit {0}
 
 -- a message's number, a tock value other than 0
 abbrev pub GoodNumber : Config → FieldX → ℕ → Type 0
@@ -145,6 +146,7 @@ module _ (c : Config) (self a b : ℕ) where
   used PURGE s t q w = service (fields PURGE) (s refl) (goodA c selfOrTask self a (s refl) t q) t q w
   used TICK s t q w = record { A = tt; B = tt }
   used EXIT s t q w = record { A = tt; B = goodB c orNone self (meantTask noA self a) b tt w }
+  used SEASON-TIMER s t q w = service (fields SEASON-TIMER) (s refl) (goodA c selfOrTask self a (s refl) t q) t q w
 
 goodNumber : (c : Config) (X : FieldX) (x : ℕ) → (isMessage X && not (within 1 (c .G) x)) ≡ false → (isTockValue X && eqb x 0) ≡ false → GoodNumber c X x
 unfolding isMessage isTockValue
@@ -157,6 +159,7 @@ goodEntry : (c : Config) (u : Follows) (q : ℕ) (e : List ℕ) → wrongEntry c
 unfolding wrongEntry
 goodEntry c xAlone q e h = tt
 goodEntry c xAndEntry q e h = eqb-true _ _ (not-false _ h)
+goodEntry c longX q e h = tt
 
 goodX : (c : Config) (l : Ledger) (X : FieldX) (a b x : ℕ) → GoodNumber c X x
     → (isMessage X && inAMailbox l x) ≡ false → (isTockValue X && haveTimer l a b) ≡ false → (isTockValue X && leb (c .R) (length (l .timers))) ≡ false → GoodX c l X a b x

@@ -6,7 +6,7 @@ use mathlib.Core.List.{List, _∷_}
 use lib.ListN.{length}
 use Rattle.ledger.specs.Lists.{insertBy}
 use Rattle.ledger.specs.Config.{Config}
-use Rattle.ledger.specs.Time.{tockValue}
+use Rattle.ledger.specs.Time.{TockValue}
 use Rattle.ledger.specs.Ledger.{PENDING, DONE, WAITING, entry, Request, none, receive, dequeue, enqueue, Task, Message, Timer, Ledger, task, semaphoreOf, mailbox, queue, held, setTask, setSemaphores, setSemaphore, setMailbox, setQueue, setTimers, setClock, setBlocks, setOutcome, setSlot, setEventWait}
 use Rattle.ledger.specs.Services.{waitFor, withdrawWait, shape, full, takeEntry, putEntry, insertTimer, startTimer}
 use Rattle.ledger.specs.Refusals.{isWaiting, inAMailbox}
@@ -40,7 +40,7 @@ pub record Sent (c : Config) (m : Message) : Type 0 where
   pub semaphore : Numbered (c .S + c .T) (m .semaphore)
 
 -- X holds of the tock values of the frames
-pub data Change (c : Config) (X : ℕ → Type 0) (l : Ledger) : Ledger → Type 0 where
+pub data Change (c : Config) (X : TockValue → Type 0) (l : Ledger) : Ledger → Type 0 where
   alters : (t : ℕ) (v : Task) → Alike c (task l t) v → Change c X l (setTask t v l)
   restarts : (t : ℕ) (v : Task) → Restarted (task l t) v → Change c X l (setTask t v (withdrawWait t l))
   pends : (b : ℕ) → isWaiting (semaphoreOf l b) ≡ false → Change c X l (setSemaphore b PENDING l)
@@ -51,13 +51,13 @@ pub data Change (c : Config) (X : ℕ → Type 0) (l : Ledger) : Ledger → Type
   removes : (t : ℕ) (v : List Message) → Part v (mailbox l t) → Change c X l (setMailbox t v l)
   putsEntry : (q : ℕ) (e : List ℕ) → length e ≡ shape c q .width → full c l q ≡ false → Change c X l (putEntry q e l)
   takesEntry : (t q : ℕ) (e : List ℕ) (es : List (List ℕ)) → Numbered (c .Q) q → held (queue l q) ≡ e ∷ es → Change c X l (takeEntry c t q e l)
-  startsTimer : (a b x : ℕ) → Numbered (c .T) a → Numbered (c .S + c .T) b → X x → (x ≡ 0 → ⊥) → length (l .timers) < c .R → Change c X l (startTimer a b (tockValue x) l)
+  startsTimer : (a b : ℕ) (v : TockValue) → Numbered (c .T) a → Numbered (c .S + c .T) b → X v → length (l .timers) < c .R → Change c X l (startTimer a b v l)
   stopsTimers : (v : List Timer) → Part v (l .timers) → Change c X l (setTimers v l)
   ticks : suc (l .ticks) < c .K → Change c X l (setClock (l .N) (suc (l .ticks)) l)
   tocks : Change c X l (setTimers (renewed (suc (l .N)) (l .timers)) (setClock (suc (l .N)) 0 l))
 
 infixl 20 _⨾_
-pub data Changes (c : Config) (X : ℕ → Type 0) (l : Ledger) : Ledger → Type 0 where
+pub data Changes (c : Config) (X : TockValue → Type 0) (l : Ledger) : Ledger → Type 0 where
   start : Changes c X l l
   _⨾_ : {m k : Ledger} → Changes c X l m → Change c X m k → Changes c X l k
 

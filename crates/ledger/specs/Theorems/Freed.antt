@@ -19,7 +19,7 @@ use Rattle.ledger.specs.Theorems.Configured.{configured}
 use Rattle.ledger.specs.Theorems.Sizes.{of-accept, step-settles}
 use Rattle.ledger.specs.Theorems.Named.{Named}
 use Rattle.ledger.specs.Theorems.Terminated.{withdrawn, ended}
-use Rattle.ledger.specs.Theorems.Steps.{accepts}
+use Rattle.ledger.specs.Theorems.Steps.{any-values, accepts}
 use Rattle.ledger.specs.Theorems.Kept.{named-through}
 use Rattle.ledger.specs.Theorems.HandedOver.{ready-run}
 use Rattle.ledger.specs.Theorems.Told.{waits, acceptAs}
@@ -100,7 +100,7 @@ module _ (c : Config) (f : List ℕ) (l : Ledger) (named : Named c l) (z : refus
   settled = rw (eq-eqb (refusal c l f) 0 z) (step-settles c f l (named .tasks))
 
   still-named : Named c (accept c f l)
-  still-named = named-through (accepts c (λ x. Unit {0}) f l tt named z) (of-accept c f l) named
+  still-named = named-through (accepts c (λ v. Unit {0}) f l (any-values f) named z) (of-accept c f l) named
 
   free : Every (λ m. (t : ℕ) → semaphoreOf l (m .semaphore) ≡ WAITING t → waits (accept c f l) t ≡ false) (mailbox l ending)
   unfolding updates

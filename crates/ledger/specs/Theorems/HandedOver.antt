@@ -24,7 +24,7 @@ use Rattle.ledger.specs.Theorems.Configured.{configured}
 use Rattle.ledger.specs.Theorems.Accepted.{Accepted, accepted}
 use Rattle.ledger.specs.Theorems.Changes.{updates}
 use Rattle.ledger.specs.Theorems.Named.{Named}
-use Rattle.ledger.specs.Theorems.Steps.{accepts, reissues}
+use Rattle.ledger.specs.Theorems.Steps.{any-values, accepts, reissues}
 use Rattle.ledger.specs.Theorems.Kept.{fresh-named, through, named-through, step-kept}
 use Rattle.ledger.specs.Theorems.Sound.Queues.{SoundQueues, queues-kept, queues-fresh}
 use Rattle.ledger.specs.Theorems.Untaken.{Beside, beside, slots, slots-outcome, slots-request, slots-effect}
@@ -107,7 +107,7 @@ module _ (c : Config) (l : Ledger) (o : isOpen (openRequest l) ≡ true) (n : Na
 pub settling : {c : Config} {l l′ : Ledger} {n : ℕ} → Settles c l n l′ → Named c l → SoundQueues c l → Settling c l l′
 settling {c} {l} (stops e) n q = record { copies = []; over = none-over l; asked = nil; still = λ t h. refl }
 settling {c} {l} {l′} (goesOn o s) n q =
-    let k = reissues c (λ x. Unit {0}) l n o in
+    let k = reissues c (λ v. Unit {0}) l n o in
     reissue-first c l o n q l′ (settling s (named-through k (of-reissue c l) n) (through (SoundQueues c) queues-kept k q))
 
 -- ---- a frame
@@ -151,7 +151,7 @@ hands-over c f l n q o = go (eqb (refusal c l f) 0) refl
     go : (b : Bool) → eqb (refusal c l f) 0 ≡ b → Hands c (running l) l (accept c f l) (step c f l .ledger)
     go true e =
         let z = eqb-true (refusal c l f) 0 e in
-        let k = accepts c (λ x. Unit {0}) f l tt n z in
+        let k = accepts c (λ v. Unit {0}) f l (any-values f) n z in
         let named = named-through k (of-accept c f l) n in
         let s = settling (settles c (accept c f l) (named .tasks)) named (through (SoundQueues c) queues-kept k q) in
         rw e (effected c _ _ _ _ _ l _ o q _ (accepted c l f (n .tasks) z) (n .tasks) s)
@@ -171,7 +171,7 @@ closed-step c f l h o = cond-both (λ (s : Stepped). isOpen (openRequest (s .led
 
 ready-step : (c : Config) (f : List ℕ) (l : Ledger) → Ready c l → Ready c (step c f l .ledger)
 ready-step c f l r =
-    let k = step-kept c (λ x. Unit {0}) (SoundQueues c) queues-kept f l tt (r .named, r .queues) in
+    let k = step-kept c (λ v. Unit {0}) (SoundQueues c) queues-kept f l (any-values f) (r .named, r .queues) in
     record { named = k .0; queues = k .1; closed = closed-step c f l (r .named .tasks) (r .closed) }
 
 ready-fresh : (c : Config) → length (c .states) ≡ c .T → Ready c (fresh c)

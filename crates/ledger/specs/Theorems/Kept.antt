@@ -6,8 +6,8 @@ use mathlib.Core.List.{List}
 use borrow.Author.Tests.{eqb-true}
 use lib.Dec.{eqb}
 use lib.ListN.{length}
-use Rattle.ledger.specs.Lists.{word}
 use Rattle.ledger.specs.Config.{Config}
+use Rattle.ledger.specs.Time.{TockValue}
 use Rattle.ledger.specs.Ledger.{Ledger, task, mailbox, fresh}
 use Rattle.ledger.specs.Refusals.{refusal}
 use Rattle.ledger.specs.Session.{openRequest, isOpen, reissue, settle, accept, step, runFrom, run}
@@ -16,7 +16,7 @@ use Rattle.ledger.specs.Theorems.Sizes.{sizes, sizesOf, of-accept, of-re
 use Rattle.ledger.specs.Theorems.Fresh.{fresh-task, fresh-mailbox}
 use Rattle.ledger.specs.Theorems.Changes.{Asks, Sent, Change, Changes, start, _⨾_}
 use Rattle.ledger.specs.Theorems.Named.{Timed, Named, requests-kept, timed-kept, sent-kept}
-use Rattle.ledger.specs.Theorems.Steps.{accepts, reissues}
+use Rattle.ledger.specs.Theorems.Steps.{Values, accepts, reissues}
 
 pub fresh-named : (c : Config) → length (c .states) ≡ c .T → Named c (fresh c)
 unfolding sizes sizesOf fresh
@@ -27,11 +27,11 @@ fresh-named c h = record {
   messages = λ t. subst (Every (Sent c)) (sym (fresh-mailbox c t)) nil;
 }
 
-pub through : {c : Config} {X : ℕ → Type 0} (P : Ledger → Type 0) → ((l l′ : Ledger) → Change c X l l′ → P l → P l′) → {l l′ : Ledger} → Changes c X l l′ → P l → P l′
+pub through : {c : Config} {X : TockValue → Type 0} (P : Ledger → Type 0) → ((l l′ : Ledger) → Change c X l l′ → P l → P l′) → {l l′ : Ledger} → Changes c X l l′ → P l → P l′
 through P change start p = p
 through P change (k ⨾ s) p = change _ _ s (through P change k p)
 
-pub named-through : {c : Config} {X : ℕ → Type 0} {l l′ : Ledger} → Changes c X l l′ → sizes l′ ≡ sizes l → Named c l → Named c l′
+pub named-through : {c : Config} {X : TockValue → Type 0} {l l′ : Ledger} → Changes c X l l′ → sizes l′ ≡ sizes l → Named c l → Named c l′
 unfolding sizes
 named-through {c} k e n = record {
   tasks = ap (λ s. s .tasks) e ∙ n .tasks;
@@ -40,7 +40,7 @@ named-through {c} k e n = record {
   messages = through (λ l. (t : ℕ) → Every (Sent c) (mailbox l t)) (λ l l′ s. sent-kept s) k (n .messages);
 }
 
-module _ (c : Config) (X : ℕ → Type 0) (P : Ledger → Type 0) (change : (l l′ : Ledger) → Change c X l l′ → P l → P l′) where
+module _ (c : Config) (X : TockValue → Type 0) (P : Ledger → Type 0) (change : (l l′ : Ledger) → Change c X l l′ → P l → P l′) where
   -- with what the steps rely on
   abbrev pub Holds : Ledger → Type 0
   Holds l = Named c l × P l
@@ -54,7 +54,7 @@ module _ (c : Config) (X : ℕ → Type 0) (P : Ledger → Type 0) (change : (l 
       go false e ih = rw (e, settle) h
       go true e ih = let s = reissues c X l (h .0) e in rw (e, settle) (ih (named-through s (of-reissue c l) (h .0), through P change s (h .1)))
 
-  pub step-kept : (f : List ℕ) (l : Ledger) → X (word 3 f) → Holds l → Holds (step c f l .ledger)
+  pub step-kept : (f : List ℕ) (l : Ledger) → Values X f → Holds l → Holds (step c f l .ledger)
   unfolding step
   step-kept f l x h = go (eqb (refusal c l f) 0) refl
     where
@@ -64,11 +64,11 @@ module _ (c : Config) (X : ℕ → Type 0) (P : Ledger → Type 0) (change : (l 
           rw e (settle-kept (2 * c .T) (accept c f l) (named-through s (of-accept c f l) (h .0), through P change s (h .1)))
       go false e = rw e h
 
-  runFrom-kept : (l : Ledger) {fs : List (List ℕ)} → Every (λ f. X (word 3 f)) fs → Holds l → Holds (runFrom c l fs .0)
+  runFrom-kept : (l : Ledger) {fs : List (List ℕ)} → Every (Values X) fs → Holds l → Holds (runFrom c l fs .0)
   unfolding runFrom
   runFrom-kept l nil h = h
   runFrom-kept l (cons {x = f} x xs) h = runFrom-kept (step c f l .ledger) xs (step-kept f l x h)
 
-  pub kept : length (c .states) ≡ c .T → P (fresh c) → {fs : List (List ℕ)} → Every (λ f. X (word 3 f)) fs → P (run c fs .0)
+  pub kept : length (c .states) ≡ c .T → P (fresh c) → {fs : List (List ℕ)} → Every (Values X) fs → P (run c fs .0)
   unfolding run
   kept h p xs = runFrom-kept (fresh c) xs (fresh-named c h, p) .1

@@ -11,7 +11,7 @@ use lib.Dec.{ltb, eqb}
 use Rattle.ledger.specs.Lists.{at, put, any, insertBy}
 use Rattle.ledger.specs.Config.{Config}
 use Rattle.ledger.specs.Ledger.{Semaphore, PENDING, DONE, WAITING, plain, refused, Request, none, receive, dequeue, enqueue, Message, Timer, Ledger, semaphoreOf, running, setOutcome, setRequest, setSuspended, setMessageWait, fresh}
-use Rattle.ledger.specs.Services.{signal, signalAll, woken, wakeWaiter, waited, wait, send, wanted, notEmpty, notFull, takeEntry, putEntry, received, dropMessages, dequeued, enqueued, issue, terminate, execute, purge, insertAgain, expire, expireAll, tock, tick, Code, WAIT, SIGNAL, PEND, SEND, SENDW, RECEIVE, DEQUEUE, ENQUEUE, RESUME, SUSPEND, TERMINATE, EXECUTE, DELAY, TIMER, PURGE, TICK, EXIT, effect}
+use Rattle.ledger.specs.Services.{signal, signalAll, woken, wakeWaiter, waited, wait, send, wanted, notEmpty, notFull, takeEntry, putEntry, received, dropMessages, dequeued, enqueued, issue, terminate, execute, purge, insertAgain, expire, expireAll, tock, tick, Code, WAIT, SIGNAL, PEND, SEND, SENDW, RECEIVE, DEQUEUE, ENQUEUE, RESUME, SUSPEND, TERMINATE, EXECUTE, DELAY, TIMER, PURGE, TICK, EXIT, SEASON-TIMER, effect}
 use Rattle.ledger.specs.Refusals.{fields, call, isMessage, inAMailbox, fromInput, fromState, refusal}
 use Rattle.ledger.specs.Session.{openRequest, isOpen, refused21, issueAgain, reissue, settle, accept, step}
 use Rattle.ledger.specs.Theorems.Items.{Numbered}
@@ -142,6 +142,7 @@ module _ (c : Config) where
   once-effect PURGE s a b x e l g h = h
   once-effect TICK s a b x e l g h = as-before (of-tick c l) h
   once-effect EXIT s a b x e l g h = as-before (cond-both (λ m. boxes m ≡ boxes l) (eqb b 0) l (signal b l .ledger) refl (signal-boxes b l)) h
+  once-effect SEASON-TIMER s a b x e l g h = h
 
   -- ---- a frame
 

@@ -9,7 +9,7 @@ use lib.Dec.{ltb, eqb}
 use lib.ListN.{length, length-map, length-replicate}
 use Rattle.ledger.specs.Config.{Config}
 use Rattle.ledger.specs.Ledger.{Semaphore, PENDING, DONE, WAITING, Outcome, plain, refused, woke, Request, none, receive, dequeue, enqueue, Task, Message, Queue, Timer, Ledger, semaphoreOf, running, setTask, setSemaphores, setSemaphore, setMailbox, setQueue, setTimers, setClock, setBlocks, setOutcome, setSlot, setRequest, setSuspended, setEventWait, setMessageWait, fresh}
-use Rattle.ledger.specs.Services.{waitFor, signalled, signal, signalAll, woken, wakeWaiter, waited, wait, withdrawWait, send, takeEntry, putEntry, received, dropMessages, dequeued, enqueued, issue, terminate, execute, insertTimer, startTimer, purge, insertAgain, expire, expireAll, tock, tick, Code, WAIT, SIGNAL, PEND, SEND, SENDW, RECEIVE, DEQUEUE, ENQUEUE, RESUME, SUSPEND, TERMINATE, EXECUTE, DELAY, TIMER, PURGE, TICK, EXIT, effect}
+use Rattle.ledger.specs.Services.{waitFor, signalled, signal, signalAll, woken, wakeWaiter, waited, wait, withdrawWait, send, takeEntry, putEntry, received, dropMessages, dequeued, enqueued, issue, terminate, execute, insertTimer, startTimer, purge, insertAgain, expire, expireAll, tock, tick, Code, WAIT, SIGNAL, PEND, SEND, SENDW, RECEIVE, DEQUEUE, ENQUEUE, RESUME, SUSPEND, TERMINATE, EXECUTE, DELAY, TIMER, PURGE, TICK, EXIT, SEASON-TIMER, effect}
 use Rattle.ledger.specs.Lists.{byte}
 use Rattle.ledger.specs.Refusals.{fields, call, refusal}
 use Rattle.ledger.specs.Session.{Settles, openRequest, isOpen, refused21, issueAgain, reissue, settle, answer, accept, Stepped, step, runFrom, run}
@@ -172,6 +172,7 @@ of-effect TIMER c s a b x e l = simp items
 of-effect PURGE c s a b x e l = simp items
 of-effect TICK c s a b x e l = of-tick c l
 of-effect EXIT c s a b x e l = cond-both (λ m. sizes m ≡ sizes l) (eqb b 0) l (signal b l .ledger) refl (of-signal b l)
+of-effect SEASON-TIMER c s a b x e l = simp items
 
 pub of-accept : (c : Config) (f : List ℕ) (l : Ledger) → sizes (accept c f l) ≡ sizes l
 unfolding accept

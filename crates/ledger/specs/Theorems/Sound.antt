@@ -3,14 +3,18 @@ use Prim.Native.Nat.{ℕ, _<_}
 use mathlib.Core.Path.{_≡_, _∙_}
 use mathlib.Core.List.{List}
 use native.Mathlib.Omega.{arith}
-use Rattle.ledger.specs.Lists.{byte, word}
+use Rattle.ledger.specs.Lists.{byte, word, longWord}
 use Rattle.ledger.specs.Config.{Config, configIn, configRefusal}
 use Rattle.ledger.specs.Ledger.{Ledger, fresh}
+use Rattle.ledger.specs.Time.{tockValue, longTockValue}
+use Rattle.ledger.specs.Refusals.{Follows, xAlone, xAndEntry, longX, fields, valueX, codeAt}
 use Rattle.ledger.specs.Session.{step, runFrom, run}
 use Rattle.ledger.specs.Theorems.Parts.{Every, nil, cons}
 use Rattle.ledger.specs.Theorems.Sizes.{sizes, sizesOf, of-step, of-fresh}
 use Rattle.ledger.specs.Theorems.Configured.{Configured, configured}
+use Rattle.ledger.specs.Theorems.TockValues.{Tocks, some-tocks, more-tocks}
 use Rattle.ledger.specs.Theorems.Changes.{Change}
+use Rattle.ledger.specs.Theorems.Steps.{Value}
 use Rattle.ledger.specs.Theorems.Named.{Named}
 use Rattle.ledger.specs.Theorems.Kept.{fresh-named, step-kept}
 pub mod Ticks
@@ -20,7 +24,7 @@ pub mod Messages
 pub mod Waits
 pub mod Slots
 use Ticks.{ticks-kept}
-use Timers.{SoundTimers, Word, timers-kept, timers-fresh}
+use Timers.{mostTocks, SoundTimers, timers-kept, timers-fresh}
 use Queues.{SoundQueues, queues-kept, queues-fresh}
 use Messages.{SoundMessages, messages-kept, messages-fresh}
 use Waits.{SoundWaits, waits-kept, waits-fresh}
@@ -33,7 +37,7 @@ pub record Sound (c : Config) (l : Ledger) : Type 0 where
   pub named : Named c l
   -- fewer than K ticks in the present tock
   pub ticks : l .ticks < c .K
-  -- at most R timers, in order, each due after N and within 32,768 tocks
+  -- at most R timers, in order, each due after N and within 2,147,483,648 tocks
   pub timers : SoundTimers c (l .N) (l .timers)
   -- entries have the queue's width, at most depth are held, and handed out followed by held is put
   pub queues : SoundQueues c l
@@ -48,14 +52,18 @@ pub record Sound (c : Config) (l : Ledger) : Type 0 where
 abbrev pub Bytes : List ℕ → Type 0
 Bytes f = (i : ℕ) → byte i f < 256
 
-bytes-word : (f : List ℕ) → Bytes f → Word (word 3 f)
-bytes-word f h = omega (arith, h 3, h 4)
+-- its tock value, of two bytes or of four
+timed : (u : Follows) (f : List ℕ) → Bytes f → Value (Tocks mostTocks) u (valueX u f)
+unfolding valueX tockValue longTockValue
+timed xAlone f h = λ z. more-tocks 0x8000 mostTocks _ (omega arith) (some-tocks 0x8000 (word 3 f) (omega (arith, h 3, h 4)) z)
+timed xAndEntry f h = λ z. more-tocks 0x8000 mostTocks _ (omega arith) (some-tocks 0x8000 (word 3 f) (omega (arith, h 3, h 4)) z)
+timed longX f h = λ z. some-tocks mostTocks (longWord 3 f) (omega (arith, h 3, h 4, h 5, h 6)) z
 
 -- the rule about slots relies on that about queues
 abbrev Copied : Config → Ledger → Type 0
 Copied c l = SoundWaits c (l .tasks) (l .semaphores) × SoundQueues c l × SoundSlots c (l .tasks)
 
-copied-kept : {c : Config} → Configured c → (l l′ : Ledger) → Change c Word l l′ → Copied c l → Copied c l′
+copied-kept : {c : Config} → Configured c → (l l′ : Ledger) → Change c (Tocks mostTocks) l l′ → Copied c l → Copied c l′
 copied-kept g l l′ s h = (waits-kept l l′ s (h .0), queues-kept l l′ s (h .1), slots-kept g l l′ s (h .0 .tasks) (h .1) (h .2))
 
 pub sound-fresh : (c : Config) → Configured c → Sound c (fresh c)
@@ -75,15 +83,15 @@ sound-fresh c g =
 
 pub sound-step : (c : Config) → Configured c → (f : List ℕ) → Bytes f → (l : Ledger) → Sound c l → Sound c (step c f l .ledger)
 sound-step c g f b l s =
-    let x = bytes-word f b in
-    let t = step-kept c Word (Copied c) (copied-kept g) f l x (s .named, (s .waits, s .queues, s .slots)) in
+    let x = timed (fields (codeAt (byte 0 f)) .follows) f b in
+    let t = step-kept c (Tocks mostTocks) (Copied c) (copied-kept g) f l x (s .named, (s .waits, s .queues, s .slots)) in
     record {
       sized = of-step c f l ∙ s .sized;
       named = t .0;
-      ticks = step-kept c Word (λ l. l .ticks < c .K) (ticks-kept (g .ticks .from)) f l x (s .named, s .ticks) .1;
-      timers = step-kept c Word (λ l. SoundTimers c (l .N) (l .timers)) timers-kept f l x (s .named, s .timers) .1;
+      ticks = step-kept c (Tocks mostTocks) (λ l. l .ticks < c .K) (ticks-kept (g .ticks .from)) f l x (s .named, s .ticks) .1;
+      timers = step-kept c (Tocks mostTocks) (λ l. SoundTimers c (l .N) (l .timers)) timers-kept f l x (s .named, s .timers) .1;
       queues = t .1 .1;
-      messages = step-kept c Word (λ l. SoundMessages (l .mailboxes)) messages-kept f l x (s .named, s .messages) .1;
+      messages = step-kept c (Tocks mostTocks) (λ l. SoundMessages (l .mailboxes)) messages-kept f l x (s .named, s .messages) .1;
       waits = t .1 .0;
       slots = t .1 .2;
     }

@@ -7,11 +7,12 @@ use mathlib.Core.Option.{Option, none as nothing, some}
 use native.Mathlib.Omega.{arith}
 use borrow.Author.Tests.{ltb-true, not-true}
 use lib.Dec.{ltb, eqb}
-use Rattle.ledger.specs.Lists.{at, find, word}
+use Rattle.ledger.specs.Lists.{at, find, byte}
 use Rattle.ledger.specs.Config.{Config}
+use Rattle.ledger.specs.Time.{TockValue, tockValue, longTockValue}
 use Rattle.ledger.specs.Ledger.{Semaphore, PENDING, DONE, WAITING, Outcome, plain, begin, message, entry, refused, semaphore, woke, Request, none, receive, dequeue, enqueue, Task, Message, Ledger, nullTask, task, semaphoreOf, mailbox, queue, held, runnable, running, setTask, setSemaphores, setMailbox, setTimers, setClock, setBlocks, setOutcome, setRequest, setSuspended, setMessageWait}
-use Rattle.ledger.specs.Services.{signalled, signal, signalAll, woken, wakeWaiter, waited, wait, withdrawWait, send, wanted, notEmpty, notFull, empty, full, received, dropMessages, dequeued, enqueued, issue, terminate, execute, insertTimer, startTimer, purge, tock, tick, Code, WAIT, SIGNAL, PEND, SEND, SENDW, RECEIVE, DEQUEUE, ENQUEUE, RESUME, SUSPEND, TERMINATE, EXECUTE, DELAY, TIMER, PURGE, TICK, EXIT, effect}
-use Rattle.ledger.specs.Refusals.{Follows, xAlone, xAndEntry, Call, fields, valueX, meets25, wouldWaitOn, isWaiting, meets21, inAMailbox, idleOrWaiting, onNotEmpty, onNotFull, call, refusal}
+use Rattle.ledger.specs.Services.{signalled, signal, signalAll, woken, wakeWaiter, waited, wait, withdrawWait, send, wanted, notEmpty, notFull, empty, full, received, dropMessages, dequeued, enqueued, issue, terminate, execute, insertTimer, startTimer, purge, tock, tick, Code, WAIT, SIGNAL, PEND, SEND, SENDW, RECEIVE, DEQUEUE, ENQUEUE, RESUME, SUSPEND, TERMINATE, EXECUTE, DELAY, TIMER, PURGE, TICK, EXIT, SEASON-TIMER, effect}
+use Rattle.ledger.specs.Refusals.{Follows, xAlone, xAndEntry, longX, Call, fields, valueX, meets25, wouldWaitOn, isWaiting, meets21, inAMailbox, idleOrWaiting, onNotEmpty, onNotFull, codeAt, call, refusal}
 use Rattle.ledger.specs.Session.{openRequest, isOpen, refused21, issueAgain, reissue, accept}
 use Rattle.ledger.specs.Theorems.Items.{Numbered, at-put-part}
 use Rattle.ledger.specs.Theorems.Checks.{and-left, and-right, or-left, or-right}
@@ -58,7 +59,7 @@ isEntry (woke t) = false
 no-entry : (o : Outcome) (e : List ℕ) → isEntry o ≡ false → o ≡ entry e → ⊥
 no-entry o e n h = let z : _≡_ {A = ℕ} 0 1 = cc (ap isEntry h) in omega arith
 
-module _ {c : Config} {X : ℕ → Type 0} {l₀ : Ledger} where
+module _ {c : Config} {X : TockValue → Type 0} {l₀ : Ledger} where
   shows : (t : ℕ) (o : Outcome) (l : Ledger) → isEntry o ≡ false → Changes c X l₀ l → Changes c X l₀ (setOutcome t o l)
   unfolding setOutcome
   shows t o l n k = k ⨾ alters t _ (record { slot = refl; eventWait = refl; outcome = λ e h. absurd (no-entry o e n h); request = λ r. r })
@@ -154,7 +155,26 @@ module _ {c : Config} {X : ℕ → Type 0} {l₀ : Ledger} where
 
 -- ---- an accepted frame
 
-module _ (c : Config) (X : ℕ → Type 0) (self a b x : ℕ) (e : List ℕ) (l : Ledger) where
+-- X holds of the tock value that the bits x are, unless they are 0
+abbrev pub Value : (TockValue → Type 0) → Follows → ℕ → Type 0
+Value X xAlone x = (x ≡ 0 → ⊥) → X (tockValue x)
+Value X xAndEntry x = (x ≡ 0 → ⊥) → X (tockValue x)
+Value X longX x = (x ≡ 0 → ⊥) → X (longTockValue x)
+
+-- and of a frame's, whose code says how wide it is
+abbrev pub Values : (TockValue → Type 0) → List ℕ → Type 0
+Values X f = let u = fields (codeAt (byte 0 f)) .follows in Value X u (valueX u f)
+
+any-value : (u : Follows) (x : ℕ) → Value (λ v. Unit {0}) u x
+any-value xAlone x = λ z. tt
+any-value xAndEntry x = λ z. tt
+any-value longX x = λ z. tt
+
+-- nothing is asked of the frame
+pub any-values : (f : List ℕ) → Values (λ v. Unit {0}) f
+any-values f = let u = fields (codeAt (byte 0 f)) .follows in any-value u (valueX u f)
+
+module _ (c : Config) (X : TockValue → Type 0) (self a b x : ℕ) (e : List ℕ) (l : Ledger) where
   abbrev called : Code → Call
   called k = record { code = k; self = self; a = a; b = b; x = x; bytes = e }
 
@@ -175,7 +195,7 @@ module _ (c : Config) (X : ℕ → Type 0) (self a b x : ℕ) (e : List ℕ) (l 
   unless-0 true h = start
   unless-0 false h = signals b l h start
 
-  effects : (k : Code) → X x → Named c l → Accepted c l (called k) → Effect k
+  effects : (k : Code) → Value X (fields k .follows) x → Named c l → Accepted c l (called k) → Effect k
   unfolding effect fields meets25 wait execute withdrawWait setSemaphores setTimers setMailbox setTask setOutcome semaphoreOf mailbox startTimer insertTimer purge meets21 wouldWaitOn refused21 empty full queue inAMailbox send setMessageWait setBlocks task
   effects WAIT h n g = shows self (semaphore b) _ refl (waited-by (semaphoreOf l b) self b _ refl (g .self refl .number) (self-unwaiting WAIT refl g) plainly)
   effects SIGNAL h n g = shows self (woke _) _ refl (signals b _ (g .B .upto) plainly)
@@ -192,26 +212,22 @@ module _ (c : Config) (X : ℕ → Type 0) (self a b x : ℕ) (e : List ℕ) (l 
   effects TERMINATE h n g = terminates a _ (n .messages a) plainly
   effects EXECUTE h n g = plainly ⨾ restarts a _ (record { slot = refl; outcome = λ e o. no-entry begin e refl o; request = refl })
   effects DELAY h n g =
-      plainly ⨾ startsTimer a b x (g .A) (g .B) h (g .X .some) (g .X .free) ⨾ waits a b (g .A) (unwaiting a (idle-unwaiting l a (g .not25))) (g .not21)
-  effects TIMER h n g = plainly ⨾ startsTimer a b x (g .A) (g .B) h (g .X .some) (g .X .free)
+      plainly ⨾ startsTimer a b _ (g .A) (g .B) (h (g .X .some)) (g .X .free) ⨾ waits a b (g .A) (unwaiting a (idle-unwaiting l a (g .not25))) (g .not21)
+  effects TIMER h n g = plainly ⨾ startsTimer a b _ (g .A) (g .B) (h (g .X .some)) (g .X .free)
   effects PURGE h n g = plainly ⨾ stopsTimers _ (part-keep _ _)
   effects TICK h n g = ticked l (n .timers) start
   effects EXIT h n g = unless-0 (eqb b 0) (g .B)
+  effects SEASON-TIMER h n g = plainly ⨾ startsTimer a b _ (g .A) (g .B) (h (g .X .some)) (g .X .free)
 
-value-word : (u : Follows) (f : List ℕ) → word 3 f ≡ valueX u f
-unfolding valueX
-value-word xAlone f = refl
-value-word xAndEntry f = refl
-
-pub accepts : (c : Config) (X : ℕ → Type 0) (f : List ℕ) (l : Ledger) → X (word 3 f) → Named c l → refusal c l f ≡ 0 → Changes c X l (accept c f l)
+pub accepts : (c : Config) (X : TockValue → Type 0) (f : List ℕ) (l : Ledger) → Values X f → Named c l → refusal c l f ≡ 0 → Changes c X l (accept c f l)
 unfolding accept call
 accepts c X f l h n e =
     let k = call c (running l) f in
-    effects c X (k .self) (k .a) (k .b) (k .x) (k .bytes) l (k .code) (subst X (value-word (fields (k .code) .follows) f) h) n (accepted c l f (n .tasks) e)
+    effects c X (k .self) (k .a) (k .b) (k .x) (k .bytes) l (k .code) h n (accepted c l f (n .tasks) e)
 
 -- ---- an issue in settling
 
-again : {c : Config} {X : ℕ → Type 0} {l₀ : Ledger} (t : ℕ) (r : Request) (l : Ledger) → Asks c r → Numbered (c .T) t → waiting l t ≡ false
+again : {c : Config} {X : TockValue → Type 0} {l₀ : Ledger} (t : ℕ) (r : Request) (l : Ledger) → Asks c r → Numbered (c .T) t → waiting l t ≡ false
     → Changes c X l₀ l → Changes c X l₀ (issueAgain c t r l)
 unfolding issueAgain
 again {c} {X} {l₀} t r l a s w k = go (refused21 c r l) refl
@@ -220,7 +236,7 @@ again {c} {X} {l₀} t r l a s w k = go (refused21 c r l) refl
     go true e = shows t (refused 21) l refl k
     go false e = issues t r l a s w e k
 
-pub reissues : (c : Config) (X : ℕ → Type 0) (l : Ledger) → Named c l → isOpen (openRequest l) ≡ true → Changes c X l (reissue c l)
+pub reissues : (c : Config) (X : TockValue → Type 0) (l : Ledger) → Named c l → isOpen (openRequest l) ≡ true → Changes c X l (reissue c l)
 unfolding reissue openRequest setRequest
 reissues c X l n o =
     let t = running l in

@@ -14,7 +14,7 @@ use Rattle.ledger.specs.Theorems.Parts.{Every}
 use Rattle.ledger.specs.Theorems.Configured.{configured}
 use Rattle.ledger.specs.Theorems.Settling.{settles}
 use Rattle.ledger.specs.Theorems.Sizes.{of-accept}
-use Rattle.ledger.specs.Theorems.Steps.{accepts}
+use Rattle.ledger.specs.Theorems.Steps.{any-values, accepts}
 use Rattle.ledger.specs.Theorems.Kept.{through, named-through}
 use Rattle.ledger.specs.Theorems.Sound.{Bytes, Sound, sound}
 use Rattle.ledger.specs.Theorems.Sound.Queues.{SoundQueues, queues-kept}
@@ -32,7 +32,7 @@ tells : (c : Config) (f : List ℕ) (l : Ledger) → Ready c l → Sound c l →
 unfolding step openRequest
 tells c f l r h z e =
     let t = request-tells c f l h z e in
-    let k = accepts c (λ x. Unit {0}) f l tt (r .named) z in
+    let k = accepts c (λ v. Unit {0}) f l (any-values f) (r .named) z in
     let named = named-through k (of-accept c f l) (r .named) in
     let s = settling (settles c (accept c f l) (named .tasks)) named (through (SoundQueues c) queues-kept k (r .queues)) in
     let shut : isOpen (task (accept c f l) (running l) .request) ≡ false = ap isOpen (t .request) ∙ r .closed in

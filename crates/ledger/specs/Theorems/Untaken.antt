@@ -8,7 +8,7 @@ use mathlib.Core.Option.{Option, none as nothing, some}
 use lib.Dec.{ltb, eqb}
 use Rattle.ledger.specs.Config.{Config}
 use Rattle.ledger.specs.Ledger.{Semaphore, PENDING, DONE, WAITING, Outcome, Request, Task, Message, Timer, Ledger, nullTask, emptyQueue, task, semaphoreOf, queue, setTask, setSemaphores, setSemaphore, setMailbox, setTimers, setClock, setBlocks, setOutcome, setRequest, setSuspended, setEventWait, setMessageWait}
-use Rattle.ledger.specs.Services.{waitFor, signalled, signal, signalAll, woken, wakeWaiter, waited, wait, withdrawWait, send, notEmpty, notFull, putEntry, received, dropMessages, enqueued, issue, terminate, execute, insertTimer, startTimer, purge, insertAgain, expire, expireAll, tock, tick, Code, WAIT, SIGNAL, PEND, SEND, SENDW, RECEIVE, DEQUEUE, ENQUEUE, RESUME, SUSPEND, TERMINATE, EXECUTE, DELAY, TIMER, PURGE, TICK, EXIT, effect}
+use Rattle.ledger.specs.Services.{waitFor, signalled, signal, signalAll, woken, wakeWaiter, waited, wait, withdrawWait, send, notEmpty, notFull, putEntry, received, dropMessages, enqueued, issue, terminate, execute, insertTimer, startTimer, purge, insertAgain, expire, expireAll, tock, tick, Code, WAIT, SIGNAL, PEND, SEND, SENDW, RECEIVE, DEQUEUE, ENQUEUE, RESUME, SUSPEND, TERMINATE, EXECUTE, DELAY, TIMER, PURGE, TICK, EXIT, SEASON-TIMER, effect}
 use Rattle.ledger.specs.Theorems.Items.{at-put-part}
 use Rattle.ledger.specs.Theorems.Checks.{cond-both}
 use Rattle.ledger.specs.Theorems.Signals.{signals-keep}
@@ -188,3 +188,4 @@ slots-effect TIMER c s a b x e l = inr (ap slotsOf (of-timers _ l))
 slots-effect PURGE c s a b x e l = inr (ap slotsOf (of-timers _ l))
 slots-effect TICK c s a b x e l = inr (ap slotsOf (of-tick c l))
 slots-effect EXIT c s a b x e l = inr (cond-both (λ m. slots m ≡ slots l) (eqb b 0) l (signal b l .ledger) refl (ap slotsOf (of-signal b l)))
+slots-effect SEASON-TIMER c s a b x e l = inr (ap slotsOf (of-timers _ l))

@@ -10,7 +10,7 @@ use borrow.Author.Tests.{eqb-true}
 use Rattle.ledger.specs.Lists.{at, put, byte, find}
 use Rattle.ledger.specs.Config.{Config}
 use Rattle.ledger.specs.Ledger.{Semaphore, PENDING, DONE, WAITING, Outcome, plain, begin, message, entry, refused, semaphore, woke, Request, none, receive, dequeue, enqueue, Task, Message, Timer, Ledger, nullTask, task, semaphoreOf, mailbox, queue, held, running, setOutcome, setRequest, setSuspended, setMessageWait}
-use Rattle.ledger.specs.Services.{signalled, signal, signalAll, woken, wakeWaiter, waited, wait, send, wanted, notEmpty, notFull, full, takeEntry, putEntry, received, dropMessages, dequeued, enqueued, issue, terminate, execute, purge, insertAgain, expire, expireAll, tock, tick, Code, WAIT, SIGNAL, PEND, SEND, SENDW, RECEIVE, DEQUEUE, ENQUEUE, RESUME, SUSPEND, TERMINATE, EXECUTE, DELAY, TIMER, PURGE, TICK, EXIT, effect}
+use Rattle.ledger.specs.Services.{signalled, signal, signalAll, woken, wakeWaiter, waited, wait, send, wanted, notEmpty, notFull, full, takeEntry, putEntry, received, dropMessages, dequeued, enqueued, issue, terminate, execute, purge, insertAgain, expire, expireAll, tock, tick, Code, WAIT, SIGNAL, PEND, SEND, SENDW, RECEIVE, DEQUEUE, ENQUEUE, RESUME, SUSPEND, TERMINATE, EXECUTE, DELAY, TIMER, PURGE, TICK, EXIT, SEASON-TIMER, effect}
 use Rattle.ledger.specs.Refusals.{fields, codeAt, call, refusal}
 use Rattle.ledger.specs.Session.{openRequest, isOpen, refused21, issueAgain, reissue, settle, accept, step}
 use Rattle.ledger.specs.Theorems.Items.{at-put-each}
@@ -151,6 +151,7 @@ module _ (u : ℕ) (P : Task → Type 0) (bears : Bears P) where
   of-effect PURGE c self a b x e l tells begins h = h
   of-effect TICK c self a b x e l tells begins h = of-tick c l h
   of-effect EXIT c self a b x e l tells begins h = cond-both (λ m. Of u P (m .tasks) → Of u P (l .tasks)) (eqb b 0) l (signal b l .ledger) (λ h. h) (of-signal b l) h
+  of-effect SEASON-TIMER c self a b x e l tells begins h = h
 
   of-accept : (c : Config) (f : List ℕ) (l : Ledger) → (codeAt (byte 0 f) ≡ SIGNAL → Tells u P (running l)) → (codeAt (byte 0 f) ≡ EXECUTE → Begins u P (call c (running l) f .a))
       → Of u P (accept c f l .tasks) → Of u P (l .tasks)

@@ -57,6 +57,9 @@ uses-requires-16 c κs = search needs
 uses-requires-17 : tie.Need-uses-requires-17
 uses-requires-17 c κs = search needs
 
+uses-requires-18 : tie.Need-uses-requires-18
+uses-requires-18 c κs = search needs
+
 returns : tie.Need-returns
 unfolding fields codeAt at
 returns c = row-of _ 1 (c .uses .ensures) (c .before .match .keys1)
@@ -123,7 +126,11 @@ returns-16 c = row-of _ 16 (c .uses16 .ensures) (c .before .match .keys16)
 
 returns-17 : tie.Need-returns-17
 unfolding fields codeAt at
-returns-17 c = let o = c .before .before .pre in let r = c .before .match .rest in row-of _ 17 (c .uses17 .ensures) (last-code _ (o .0) (o .1) (r .0 .0 .0 .0 .0 .0 .0 .0 .0 .0 .0 .0 .0 .0 .0 .1) (r .0 .0 .0 .0 .0 .0 .0 .0 .0 .0 .0 .0 .0 .0 .1) (r .0 .0 .0 .0 .0 .0 .0 .0 .0 .0 .0 .0 .0 .1) (r .0 .0 .0 .0 .0 .0 .0 .0 .0 .0 .0 .0 .1) (r .0 .0 .0 .0 .0 .0 .0 .0 .0 .0 .0 .1) (r .0 .0 .0 .0 .0 .0 .0 .0 .0 .0 .1) (r .0 .0 .0 .0 .0 .0 .0 .0 .0 .1) (r .0 .0 .0 .0 .0 .0 .0 .0 .1) (r .0 .0 .0 .0 .0 .0 .0 .1) (r .0 .0 .0 .0 .0 .0 .1) (r .0 .0 .0 .0 .0 .1) (r .0 .0 .0 .0 .1) (r .0 .0 .0 .1) (r .0 .0 .1) (r .0 .1) (r .1))
+returns-17 c = row-of _ 17 (c .uses17 .ensures) (c .before .match .keys17)
+
+returns-18 : tie.Need-returns-18
+unfolding fields codeAt at
+returns-18 c = let o = c .before .before .pre in let r = c .before .match .rest in row-of _ 18 (c .uses18 .ensures) (last-code _ (o .0) (o .1) (r .0 .0 .0 .0 .0 .0 .0 .0 .0 .0 .0 .0 .0 .0 .0 .0 .1) (r .0 .0 .0 .0 .0 .0 .0 .0 .0 .0 .0 .0 .0 .0 .0 .1) (r .0 .0 .0 .0 .0 .0 .0 .0 .0 .0 .0 .0 .0 .0 .1) (r .0 .0 .0 .0 .0 .0 .0 .0 .0 .0 .0 .0 .0 .1) (r .0 .0 .0 .0 .0 .0 .0 .0 .0 .0 .0 .0 .1) (r .0 .0 .0 .0 .0 .0 .0 .0 .0 .0 .0 .1) (r .0 .0 .0 .0 .0 .0 .0 .0 .0 .0 .1) (r .0 .0 .0 .0 .0 .0 .0 .0 .0 .1) (r .0 .0 .0 .0 .0 .0 .0 .0 .1) (r .0 .0 .0 .0 .0 .0 .0 .1) (r .0 .0 .0 .0 .0 .0 .1) (r .0 .0 .0 .0 .0 .1) (r .0 .0 .0 .0 .1) (r .0 .0 .0 .1) (r .0 .0 .1) (r .0 .1) (r .1))
 
 pub row-spec : {M : Type 1} → statement M
 row-spec =
@@ -146,6 +153,7 @@ row-spec =
     uses-requires-15
     uses-requires-16
     uses-requires-17
+    uses-requires-18
     returns
     returns-2
     returns-3
@@ -162,4 +170,5 @@ row-spec =
     returns-14
     returns-15
     returns-16
-    returns-17)
+    returns-17
+    returns-18)

@@ -35,20 +35,14 @@ wrong-queue-requires c κs = search needs
 returns-3 : tie.Need-returns-3
 returns-3 c = λ g o. sym (next _ 5 _ (sym (c .before .before .before .before .before .before .before .wrong-task .ensures g o) ∙ c .before .before .before .before .before .before .if1 .left) ∙ next _ 6 _ (sym (c .before .before .before .before .wrong-semaphore .ensures g o) ∙ c .before .before .before .if2 .left) ∙ here _ 7 _ (sym (c .before .wrong-queue .ensures g o) ∙ c .if3 .taken))
 
-shared-slice-read-word : tie.Need-shared-slice-read-word
-shared-slice-read-word c = search needs
-
-shared-slice-read-word-2 : tie.Need-shared-slice-read-word-2
-shared-slice-read-word-2 c = search needs
-
-word-requires : tie.Need-word-requires
-word-requires c κs = search needs
+value-requires : tie.Need-value-requires
+value-requires c κs = search needs
 
 wrong-value-requires : tie.Need-wrong-value-requires
 wrong-value-requires c κs = search needs
 
 returns-4 : tie.Need-returns-4
-returns-4 c = λ g o. let a = c .before .before .before .before .before .before .before .before .before .before .before .before .before .before .args in value-told g (viewX (a .u .x)) (viewFollows (a .u .follows)) (now (a .frame)) (c .before .word .ensures) (c .wrong-value .ensures g o) ∙ sym (next _ 5 _ (sym (c .before .before .before .before .before .before .before .before .before .before .before .wrong-task .ensures g o) ∙ c .before .before .before .before .before .before .before .before .before .before .if1 .left) ∙ next _ 6 _ (sym (c .before .before .before .before .before .before .before .before .wrong-semaphore .ensures g o) ∙ c .before .before .before .before .before .before .before .if2 .left) ∙ next _ 7 _ (sym (c .before .before .before .before .before .wrong-queue .ensures g o) ∙ c .before .before .before .before .if3 .left))
+returns-4 c = λ g o. let a = c .before .before .before .before .before .before .before .before .before .before .before .before .args in value-told g (viewX (a .u .x)) (viewFollows (a .u .follows)) (now (a .frame)) (c .before .value .ensures) (c .wrong-value .ensures g o) ∙ sym (next _ 5 _ (sym (c .before .before .before .before .before .before .before .before .before .wrong-task .ensures g o) ∙ c .before .before .before .before .before .before .before .before .if1 .left) ∙ next _ 6 _ (sym (c .before .before .before .before .before .before .wrong-semaphore .ensures g o) ∙ c .before .before .before .before .before .if2 .left) ∙ next _ 7 _ (sym (c .before .before .before .wrong-queue .ensures g o) ∙ c .before .before .if3 .left))
 
 pub wrong-fields-spec : {M : Type 1} → statement M
 wrong-fields-spec =
@@ -63,8 +57,6 @@ wrong-fields-spec =
     shared-slice-read-wrong-queue
     wrong-queue-requires
     returns-3
-    shared-slice-read-word
-    shared-slice-read-word-2
-    word-requires
+    value-requires
     wrong-value-requires
     returns-4)

@@ -113,4 +113,4 @@ module _ (c : Config) (b : ℕ) (low : b ≤ c .S + c .T) where
 
   pub unwaited-on : {l l′ : Ledger} {n : ℕ} → Settles c l n l′ → Named c l → Unwaited l b → Unwaited l′ b
   unwaited-on (stops e) n h = h
-  unwaited-on {l} (goesOn o s) n h = unwaited-on s (named-through (reissues c (λ x. Unit {0}) l n o) (of-reissue c l) n) (reissue-on l n h)
+  unwaited-on {l} (goesOn o s) n h = unwaited-on s (named-through (reissues c (λ v. Unit {0}) l n o) (of-reissue c l) n) (reissue-on l n h)

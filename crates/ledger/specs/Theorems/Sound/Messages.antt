@@ -10,6 +10,7 @@ use lib.Dec.{ltb, eqb}
 use lib.ListN.{length, getD, set, replicate}
 use Rattle.ledger.specs.Lists.{at, put, any, insertBy}
 use Rattle.ledger.specs.Config.{Config}
+use Rattle.ledger.specs.Time.{TockValue}
 use Rattle.ledger.specs.Ledger.{Message, Ledger, mailbox, fresh}
 use Rattle.ledger.specs.Refusals.{inAMailbox}
 use Rattle.ledger.specs.Theorems.Items.{Numbered, at-put-each}
@@ -115,7 +116,7 @@ front-more x boxes (suc n) m h = copies-front x boxes n m (omega arith)
 abbrev OrderedAt : ℕ → List Message → Type 0
 OrderedAt t box = Ordered (λ m. m .sender) box
 
-pub messages-kept : {c : Config} {X : ℕ → Type 0} (l l′ : Ledger) → Change c X l l′ → SoundMessages (l .mailboxes) → SoundMessages (l′ .mailboxes)
+pub messages-kept : {c : Config} {X : TockValue → Type 0} (l l′ : Ledger) → Change c X l l′ → SoundMessages (l .mailboxes) → SoundMessages (l′ .mailboxes)
 unfolding updates inAMailbox
 messages-kept l l′ (alters t v a) h = h
 messages-kept l l′ (restarts t v a) h = h
@@ -133,7 +134,7 @@ messages-kept l l′ (removes t v p) h = record {
 }
 messages-kept l l′ (putsEntry q e w f) h = h
 messages-kept l l′ (takesEntry t q e es n k) h = h
-messages-kept l l′ (startsTimer a b x n s k z f) h = h
+messages-kept l l′ (startsTimer a b v n s k f) h = h
 messages-kept l l′ (stopsTimers v p) h = h
 messages-kept l l′ (ticks n) h = h
 messages-kept l l′ tocks h = h

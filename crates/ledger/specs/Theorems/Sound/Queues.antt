@@ -10,6 +10,7 @@ use lib.ListN.{length, take, drop, length-append, length-drop}
 use lib.Seq.{take-at, drop-append-le, drop-drop}
 use Rattle.ledger.specs.Lists.{at}
 use Rattle.ledger.specs.Config.{QueueShape, Config}
+use Rattle.ledger.specs.Time.{TockValue}
 use Rattle.ledger.specs.Ledger.{Queue, Ledger, emptyQueue, task, queue, held, fresh}
 use Rattle.ledger.specs.Services.{shape, full, copyInto}
 use Rattle.ledger.specs.Theorems.Items.{at-put-each}
@@ -60,7 +61,7 @@ take-sound s k e es slot h q =
 abbrev SoundAt : Config → ℕ → Queue → Type 0
 SoundAt c q k = SoundQueue (shape c q) k
 
-pub queues-kept : {c : Config} {X : ℕ → Type 0} (l l′ : Ledger) → Change c X l l′ → SoundQueues c l → SoundQueues c l′
+pub queues-kept : {c : Config} {X : TockValue → Type 0} (l l′ : Ledger) → Change c X l l′ → SoundQueues c l → SoundQueues c l′
 unfolding updates full
 queues-kept l l′ (alters t v a) h = h
 queues-kept l l′ (restarts t v a) h = h
@@ -72,7 +73,7 @@ queues-kept l l′ (delivers t m s n) h = h
 queues-kept l l′ (removes t v p) h = h
 queues-kept {c} l l′ (putsEntry q e w f) h = at-put-each (SoundAt c) (l .queues) q _ emptyQueue h (put-sound (shape c q) (queue l q) e w (leb-false _ _ f) (h q))
 queues-kept {c} l l′ (takesEntry t q e es n k) h = at-put-each (SoundAt c) (l .queues) q _ emptyQueue h (take-sound (shape c q) (queue l q) e es (task l t .slot) k (h q))
-queues-kept l l′ (startsTimer a b x n s k z f) h = h
+queues-kept l l′ (startsTimer a b v n s k f) h = h
 queues-kept l l′ (stopsTimers v p) h = h
 queues-kept l l′ (ticks n) h = h
 queues-kept l l′ tocks h = h

@@ -7,6 +7,7 @@ use lib.ListN.{length, take, drop, length-append, length-drop}
 use lib.Seq.{take-append-seam}
 use Rattle.ledger.specs.Lists.{at, put}
 use Rattle.ledger.specs.Config.{Config}
+use Rattle.ledger.specs.Time.{TockValue}
 use Rattle.ledger.specs.Ledger.{entry, Task, Ledger, nullTask, task, queue, fresh}
 use Rattle.ledger.specs.Services.{shape, copyInto}
 use Rattle.ledger.specs.Theorems.Items.{Numbered, at-put-same, put-put, at-put-each}
@@ -47,7 +48,7 @@ take-slots c ts t e v k s w h =
 alter-slots : (c : Config) (ts : List Task) (t : ℕ) (v : Task) → v .slot ≡ at ts t nullTask .slot → ((e : List ℕ) → v .outcome ≡ entry e → at ts t nullTask .outcome ≡ entry e) → SoundSlots c ts → SoundSlots c (put ts t v)
 alter-slots c ts t v s o h = at-put-each (SlotAt c) ts t v nullTask h (λ i. same-slot (at ts t nullTask) v s o (h t i))
 
-pub slots-kept : {c : Config} {X : ℕ → Type 0} → Configured c → (l l′ : Ledger) → Change c X l l′ → length (l .tasks) ≡ c .T → SoundQueues c l → SoundSlots c (l .tasks) → SoundSlots c (l′ .tasks)
+pub slots-kept : {c : Config} {X : TockValue → Type 0} → Configured c → (l l′ : Ledger) → Change c X l l′ → length (l .tasks) ≡ c .T → SoundQueues c l → SoundSlots c (l .tasks) → SoundSlots c (l′ .tasks)
 unfolding updates
 slots-kept {c} g l l′ (alters t v a) k q h = alter-slots c (l .tasks) t v (a .slot) (a .outcome) h
 slots-kept {c} g l l′ (restarts t v a) k q h = alter-slots c (l .tasks) t v (a .slot) (λ e o. absurd (a .outcome e o)) h
@@ -60,7 +61,7 @@ slots-kept g l l′ (removes t v p) k q h = h
 slots-kept g l l′ (putsEntry p e w f) k q h = h
 slots-kept {c} g l l′ (takesEntry t p e es n r) k q h =
     take-slots c (l .tasks) t e _ k refl (omega (arith, oldest-width (shape c p) (queue l p) e es r (q p), g .shaped p n .width .upto)) h
-slots-kept g l l′ (startsTimer a b x n s w z f) k q h = h
+slots-kept g l l′ (startsTimer a b v n s w f) k q h = h
 slots-kept g l l′ (stopsTimers v p) k q h = h
 slots-kept g l l′ (ticks n) k q h = h
 slots-kept g l l′ tocks k q h = h

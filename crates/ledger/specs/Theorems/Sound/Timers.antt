@@ -1,48 +1,34 @@
--- Timers: at most R, in the order of their due tocks, each due after N and at most 32,768 tocks later.
+-- Timers: at most R, in the order of their due tocks, each due after N and at most 2,147,483,648 tocks later.
 -- A tock removes those due and inserts the cyclic ones again, each in the place of one that was removed.
 use Prim.Native.Nat.{ℕ, suc, _+_, _-_, _≤_, _<_}
-use mathlib.Core.Path.{_≡_, refl}
-use mathlib.Core.Bool.{Bool, true, false, cond, not}
+use mathlib.Core.Path.{_≡_}
+use mathlib.Core.Bool.{true, not}
 use mathlib.Core.List.{List, [], _∷_}
 use native.Mathlib.Omega.{arith}
-use borrow.Author.Tests.{eqb-true, ltb-true, ltb-false, leb-false, not-true}
-use lib.Dec.{eqb, ltb}
+use borrow.Author.Tests.{leb-false, not-true}
 use lib.ListN.{length}
 use Rattle.ledger.specs.Lists.{keep}
 use Rattle.ledger.specs.Config.{Config}
-use Rattle.ledger.specs.Time.{TockValue, none, oneShot, cyclic, signed, tockValue, tocks as tocksOf, period as periodOf}
+use Rattle.ledger.specs.Time.{TockValue, tocks as tocksOf, period as periodOf}
 use Rattle.ledger.specs.Ledger.{Timer, Ledger, fresh}
 use Rattle.ledger.specs.Theorems.Parts.{Every, nil, Ordered, part-keep, part-length, every-to, every-both, every-part, every-insert, ordered-part, ordered-insert, insert-length, keep-passes, keep-lengths}
+use Rattle.ledger.specs.Theorems.TockValues.{Tocks}
 use Rattle.ledger.specs.Theorems.Tocks.{again, renew, renewAll, dueAt, renewed, renew-cases, renewed-every}
 use Rattle.ledger.specs.Theorems.Changes.{Change, alters, restarts, pends, finishes, wakes, waits, delivers, removes, putsEntry, takesEntry, startsTimer, stopsTimers, ticks, tocks, updates}
 
+-- the longest time and period: half of all values of four bytes
+abbrev pub mostTocks : ℕ
+mostTocks = 0x80000000
+
 pub record SoundTimer (N : ℕ) (t : Timer) : Type 0 where
   pub later : N < t .due
-  pub soon : t .due ≤ N + 32768
-  pub period : t .period ≤ 32768
+  pub soon : t .due ≤ N + mostTocks
+  pub period : t .period ≤ mostTocks
 
 pub record SoundTimers (c : Config) (N : ℕ) (ts : List Timer) : Type 0 where
   pub each : Every (SoundTimer N) ts
   pub ordered : Ordered (λ t. t .due) ts
   pub room : length ts ≤ c .R
-
--- a tock value of two bytes
-abbrev pub Word : ℕ → Type 0
-Word x = x < 65536
-
-record Tocks (v : TockValue) : Type 0 where
-  from : 1 ≤ tocksOf v
-  upto : tocksOf v ≤ 32768
-  period : periodOf v ≤ 32768
-
-tock-value : (x : ℕ) → Word x → (x ≡ 0 → ⊥) → Tocks (tockValue x)
-unfolding tockValue signed tocksOf periodOf
-tock-value x w z = go (eqb x 0) (ltb x 0x8000) refl refl
-  where
-    go : (b d : Bool) → eqb x 0 ≡ b → ltb x 0x8000 ≡ d → Tocks (cond b none (cond d (oneShot x) (cyclic (0x8000 + 0x8000 - x))))
-    go true d e f = absurd (z (eqb-true x 0 e))
-    go false true e f = record { from = omega arith; upto = omega (arith, ltb-true x 0x8000 f); period = omega arith }
-    go false false e f = record { from = omega arith; upto = omega (arith, ltb-false x 0x8000 f); period = omega (arith, ltb-false x 0x8000 f) }
 
 -- ---- a tock
 
@@ -77,10 +63,10 @@ tock-timers c N ts h =
 
 -- ---- every change
 
-start-sound : (N a b x : ℕ) → Tocks (tockValue x) → SoundTimer N (record { task = a; semaphore = b; due = N + tocksOf (tockValue x); period = periodOf (tockValue x) })
-start-sound N a b x v = record { later = omega (arith, v .from); soon = omega (arith, v .upto); period = v .period }
+start-sound : (N a b : ℕ) (v : TockValue) → Tocks mostTocks v → SoundTimer N (record { task = a; semaphore = b; due = N + tocksOf v; period = periodOf v })
+start-sound N a b v t = record { later = omega (arith, t .from); soon = omega (arith, t .upto); period = t .period }
 
-pub timers-kept : {c : Config} (l l′ : Ledger) → Change c Word l l′ → SoundTimers c (l .N) (l .timers) → SoundTimers c (l′ .N) (l′ .timers)
+pub timers-kept : {c : Config} (l l′ : Ledger) → Change c (Tocks mostTocks) l l′ → SoundTimers c (l .N) (l .timers) → SoundTimers c (l′ .N) (l′ .timers)
 unfolding updates
 timers-kept l l′ (alters t v a) h = h
 timers-kept l l′ (restarts t v a) h = h
@@ -92,8 +78,8 @@ timers-kept l l′ (delivers t m s n) h = h
 timers-kept l l′ (removes t v p) h = h
 timers-kept l l′ (putsEntry q e w f) h = h
 timers-kept l l′ (takesEntry t q e es n k) h = h
-timers-kept {c} l l′ (startsTimer a b x n s k z f) h = record {
-  each = every-insert _ _ (l .timers) (start-sound (l .N) a b x (tock-value x k z)) (h .each);
+timers-kept {c} l l′ (startsTimer a b v n s k f) h = record {
+  each = every-insert _ _ (l .timers) (start-sound (l .N) a b v k) (h .each);
   ordered = ordered-insert _ _ (l .timers) (h .ordered);
   room = simp insert-length f;
 }

@@ -11,6 +11,7 @@ use lib.Dec.{eqb}
 use lib.ListN.{length}
 use Rattle.ledger.specs.Lists.{at, put}
 use Rattle.ledger.specs.Config.{Config}
+use Rattle.ledger.specs.Time.{TockValue}
 use Rattle.ledger.specs.Ledger.{Semaphore, PENDING, DONE, WAITING, Task, Ledger, nullTask, semaphoreOf, fresh}
 use Rattle.ledger.specs.Services.{notWaiting}
 use Rattle.ledger.specs.Refusals.{isWaiting}
@@ -157,7 +158,7 @@ module _ (c : Config) (ts : List Task) (ss : List Semaphore) (t b : ℕ) (v : Ta
 
 -- ---- every change
 
-pub waits-kept : {c : Config} {X : ℕ → Type 0} (l l′ : Ledger) → Change c X l l′ → SoundWaits c (l .tasks) (l .semaphores) → SoundWaits c (l′ .tasks) (l′ .semaphores)
+pub waits-kept : {c : Config} {X : TockValue → Type 0} (l l′ : Ledger) → Change c X l l′ → SoundWaits c (l .tasks) (l .semaphores) → SoundWaits c (l′ .tasks) (l′ .semaphores)
 unfolding updates isWaiting
 waits-kept l l′ (alters t v a) h = put-waits (l .tasks) t v (a .eventWait) h
 waits-kept {c} l l′ (restarts t v a) h = restart-waits c (l .tasks) (l .semaphores) t v h
@@ -169,7 +170,7 @@ waits-kept l l′ (delivers t m s n) h = h
 waits-kept l l′ (removes t v p) h = h
 waits-kept l l′ (putsEntry q e w f) h = h
 waits-kept l l′ (takesEntry t q e es n k) h = put-waits _ t _ refl (put-waits (l .tasks) t _ refl h)
-waits-kept l l′ (startsTimer a b x n s k z f) h = h
+waits-kept l l′ (startsTimer a b v n s k f) h = h
 waits-kept l l′ (stopsTimers v p) h = h
 waits-kept l l′ (ticks n) h = h
 waits-kept l l′ tocks h = h
