@@ -28,7 +28,7 @@ use Rattle.queues.specs.Rings.{ringOf, RingFits, width-is}
 use Rattle.command.specs.Codes.{past}
 use Rattle.command.specs.Table.{semaphore-in}
 use Rattle.command.specs.Input.{long-enough}
-use Rattle.executive.specs.Meant.{InA, InB, InX, valueOf, restOf, MeansA, MeansB, MeansX, MeansEntry, Asks, MessageRoom, Seven, TimerCode, askedBy, asked-short, asked-long}
+use Rattle.executive.specs.Meant.{InA, InB, InX, valueOf, restOf, MeansA, MeansB, MeansX, MeansEntry, Asks, MessageRoom, Seven, below, TimerCode, askedBy, asked-short, asked-long}
 
 -- the meant fields, by the row of the code, and the room in the tables d
 pub record Meant (c : Config) (s : Shape) (code self a b : ℕ) (f d : List ℕ) : Type 0 where
@@ -110,28 +110,27 @@ free-prepared c self L true aSwitch a b x g = tt
 abbrev acceptOf : Config → (self : ℕ) → List ℕ → Ledger → Ledger
 acceptOf c self f L = let k = call c self f in effect (k .code) c (k .self) (k .a) (k .b) (k .x) (k .bytes) (cond (fields (k .code) .service) (setOutcome (k .self) plain L) L)
 
-module _ (c : Config) (self : ℕ) (f : List ℕ) (L : Ledger) (q : self ≡ running L) (code a b : ℕ) (e : byte 0 f ≡ code) (ea : a ≡ call c self f .a) (eb : b ≡ call c self f .b) where
-  pub accept-is : effect (codeAt code) c self a b (valueOf code f) (restOf code f) (cond (fields (codeAt code) .service) (setOutcome self plain L) L) ≡ accept c f L
+module _ (c : Config) (self : ℕ) (f : List ℕ) (L : Ledger) (q : self ≡ running L) (code a b : ℕ) (e : byte 0 f ≡ code) (ea : a ≡ call c self f .a) (eb : b ≡ call c self f .b)
+    (z : Bool) (service : fields (codeAt code) .service ≡ z) where
+  pub accept-is : effect (codeAt code) c self a b (valueOf code f) (restOf code f) (cond z (setOutcome self plain L) L) ≡ accept c f L
   unfolding accept call
   accept-is =
-      (λ i. let n = sym e i in effect (codeAt n) c self (ea i) (eb i) (valueOf n f) (restOf n f) (cond (fields (codeAt n) .service) (setOutcome self plain L) L))
+      ap (λ (y : Bool). effect (codeAt code) c self a b (valueOf code f) (restOf code f) (cond y (setOutcome self plain L) L)) (sym service)
+      ∙ (λ i. let n = sym e i in effect (codeAt n) c self (ea i) (eb i) (valueOf n f) (restOf n f) (cond (fields (codeAt n) .service) (setOutcome self plain L) L))
       ∙ ap (λ (t : ℕ). acceptOf c t f L) q
 
-  pub free-is : Accepted c L (call c self f) → GoodX c (cond (fields (codeAt code) .service) (setOutcome self plain L) L) (fields (codeAt code) .X) a b (valueOf code f)
+  pub free-is : Accepted c L (call c self f) → GoodX c (cond z (setOutcome self plain L) L) (fields (codeAt code) .X) a b (valueOf code f)
   unfolding call
   free-is g =
       let k = call c self f in
       let u = fields (codeAt (byte 0 f)) in
       let x : GoodX c L (u .X) a b (k .x) = subst (λ (t : ℕ). GoodX c L (u .X) a t (k .x)) (sym eb) (subst (λ (t : ℕ). GoodX c L (u .X) t (k .b) (k .x)) (sym ea) (g .X)) in
-      subst (λ (n : ℕ). GoodX c (cond (fields (codeAt n) .service) (setOutcome self plain L) L) (fields (codeAt n) .X) a b (valueOf n f)) e (free-prepared c self L (u .service) (u .X) a b (k .x) x)
+      subst (λ (n : ℕ). GoodX c (cond z (setOutcome self plain L) L) (fields (codeAt n) .X) a b (valueOf n f)) e (free-prepared c self L z (u .X) a b (k .x) x)
 
 -- ---- an arm: the code is the one that the match found
 pub by-code : {tidy : Bool} (c : Config) (s : Shape) (self a b x : ℕ) (e : List ℕ) (L : Ledger) (code k : ℕ) {d z w : List ℕ} → code ≡ k
     → ShowsAs tidy c s (effect (codeAt k) c self a b x e L) d z w → ShowsAs tidy c s (effect (codeAt code) c self a b x e L) d z w
 by-code c s self a b x e L code k q h = moved (ap (λ (n : ℕ). effect (codeAt n) c self a b x e L) (sym q)) h
-
-below : (n k : ℕ) → k ≤ n + 1 → (k ≡ n + 1 → ⊥) → k ≤ n
-below n k h e = omega arith
 
 -- a timer that is started, and no delay: $0E or $12
 module _ (code : ℕ) (k : TimerCode code) (not13 : code ≡ 13 → ⊥) (not15 : code ≡ 15 → ⊥) where

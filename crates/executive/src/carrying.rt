@@ -2,52 +2,28 @@
 use tables::shape::Shape;
 use tables::tasks::Outcome;
 ghost use mathlib.Core.Path.{_≡_};
-ghost use mathlib.Core.Bool.{cond, true};
+ghost use mathlib.Core.Bool.{true};
 ghost use Prim.Native.Nat.{_≤_};
 ghost use lib.ListN.{length, getD};
 ghost use Rattle.ledger.specs.Lists.{byte};
+ghost use Rattle.ledger.specs.Config.{configIn};
 ghost use Rattle.ledger.specs.Ledger.{plain, setOutcome};
+ghost use Rattle.ledger.specs.Refusals.{fields, codeAt};
 ghost use Rattle.tables.specs.Layout.{Fits, OneOf, countAt};
 ghost use Rattle.tables.specs.Shows.{Does};
-ghost use Rattle.ledger.specs.Config.{configIn};
 ghost use Rattle.executive.specs.Suits.{Suits};
 ghost use Rattle.executive.specs.Carried.{Meant, Effects, Passed, Carries};
 
 // An accepted service first sets the caller's outcome to plain. The number of messages stays.
-fn prepare(tables: &mut [u8], shape: Shape, me: u8, service: bool)
-    requires { ⌜ Fits shape (length (now tables)) × (service ≡ true → OneOf (shape .tasks) me) ⌝ }
-    ensures does { λ _. ⌜ Does shape (now (tables .entry)) (now (tables .exit)) (λ c L. cond service (setOutcome me plain L) L) ⌝ }
+fn prepare(tables: &mut [u8], shape: Shape, me: u8)
+    requires { ⌜ Fits shape (length (now tables)) × OneOf (shape .tasks) me ⌝ }
+    ensures does { λ _. ⌜ Does shape (now (tables .entry)) (now (tables .exit)) (λ c L. setOutcome me plain L) ⌝ }
     ensures count { λ _. ⌜ getD (now (tables .exit)) countAt 0 ≡ getD (now (tables .entry)) countAt 0 ⌝ }
 {
-    if service {
-        tables::tasks::store_outcome(tables, shape, me, Outcome::Plain);
-    }
+    tables::tasks::store_outcome(tables, shape, me, Outcome::Plain);
 }
 
-// The shape once more. Lent to a family whose code the compiler leaves apart, the shape itself would have to lie in memory in every frame;
-// the copy has to in that family's frames alone.
-fn copied(shape: Shape) -> Shape
-    ensures { λ r. ⌜ r ≡ shape ⌝ }
-{
-    Shape {
-        tasks: shape.tasks,
-        named: shape.named,
-        semaphores: shape.semaphores,
-        queues: shape.queues,
-        timers: shape.timers,
-        messages: shape.messages,
-        ticks: shape.ticks,
-        recordat: shape.recordat,
-        semaphoreat: shape.semaphoreat,
-        waitingat: shape.waitingat,
-        ringat: shape.ringat,
-        messageat: shape.messageat,
-        bodyat: shape.bodyat,
-        end: shape.end,
-    }
-}
-
-// The effect of a code, by its family; `a` and `b` are the meant task or queue and semaphore. No code is 0.
+// The effect of a service, by the family of its code; `a` and `b` are the meant task or queue and semaphore. No code is 0.
 fn by_family(
     code: u8,
     me: u8,
@@ -60,7 +36,7 @@ fn by_family(
     timers: &mut [u8],
     shape: Shape,
 )
-    requires { ⌜ (5 ≤ length (now frame)) × OneOf 18 code
+    requires { ⌜ (5 ≤ length (now frame)) × OneOf 18 code × (fields (codeAt code) .service ≡ true)
         × Suits (now config) shape (length (now tables)) (length (now slots)) (length (now timers)) × Meant (configIn (now config)) shape code me a b (now frame) (now tables) ⌝ }
     ensures { λ _. ⌜ Effects (configIn (now (config .entry))) shape code me a b (now (frame .entry))
         (now (tables .entry)) (now (slots .entry)) (now (timers .entry)) (now (tables .exit)) (now (slots .exit)) (now (timers .exit)) ⌝ }
@@ -70,19 +46,11 @@ fn by_family(
         0x04..=0x06 => crate::message::serve(tables, shape, code, me, a, b, frame[3], frame[4]),
         0x07..=0x08 => crate::queue::serve(tables, slots, config, shape, code, me, a, frame),
         0x09..=0x0C => crate::task::serve(tables, timers, shape, code, a),
-        0x10 => services::timer::tick(tables, timers, shape),
-        0x11 => {
-            let here = copied(shape);
-            services::semaphore::signal(tables, here, b);
-        }
-        _ => {
-            let here = copied(shape);
-            crate::timer::serve(tables, timers, here, code, a, b, frame);
-        }
+        _ => crate::timer::serve(tables, timers, shape, code, a, b, frame),
     }
 }
 
-// The same, of a frame of this code: the meant fields, the plain outcome, the effect.
+// The effect of a frame of this code, with the fields that it means.
 fn carried(
     code: u8,
     me: u8,
@@ -103,8 +71,12 @@ fn carried(
     let a = command::fields::meant_task(kind, me, frame[1]);
     let kind = u.b;
     let b = command::fields::meant_semaphore(kind, shape, me, a, frame[2]);
-    prepare(tables, shape, me, u.service);
-    by_family(code, me, a, b, frame, config, tables, slots, timers, shape);
+    if u.service {
+        prepare(tables, shape, me);
+        by_family(code, me, a, b, frame, config, tables, slots, timers, shape);
+        return;
+    }
+    crate::outside::serve(tables, timers, shape, code, b);
 }
 
 // The effect of an accepted frame, while task `me` runs.

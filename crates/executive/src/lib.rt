@@ -4,6 +4,7 @@
 pub mod carrying;
 pub mod frames;
 pub mod message;
+pub mod outside;
 pub mod queue;
 pub mod semaphore;
 pub mod settling;
