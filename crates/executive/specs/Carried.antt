@@ -28,7 +28,8 @@ use Rattle.queues.specs.Rings.{ringOf, RingFits, width-is}
 use Rattle.command.specs.Codes.{past}
 use Rattle.command.specs.Table.{semaphore-in}
 use Rattle.command.specs.Input.{long-enough}
-use Rattle.executive.specs.Meant.{InA, InB, InX, valueOf, restOf, MeansA, MeansB, MeansX, MeansEntry, Asks, MessageRoom, Seven, below, TimerCode, askedBy, asked-short, asked-long}
+use Rattle.executive.specs.Meant.{InA, InB, InX, valueOf, restOf, MeansA, MeansB, MeansX, MeansEntry, Asks, MessageRoom, Seven}
+use Rattle.executive.specs.Codes.{below, TimerCode, askedBy, asked-short, asked-long}
 
 -- the meant fields, by the row of the code, and the room in the tables d
 pub record Meant (c : Config) (s : Shape) (code self a b : ℕ) (f d : List ℕ) : Type 0 where

@@ -2,6 +2,7 @@
 pub mod Suits
 -- the effect of a frame
 pub mod Meant
+pub mod Codes
 pub mod Carried
 -- settling
 pub mod Turns

@@ -13,7 +13,8 @@ ghost use Rattle.ledger.specs.Theorems.Accepted.{GoodX};
 ghost use Rattle.tocks.specs.Views.{tockView};
 ghost use Rattle.tables.specs.Shows.{DoesWithTimersIf};
 ghost use Rattle.clock.specs.Held.{Holds};
-ghost use Rattle.executive.specs.Meant.{MeansA, MeansB, Seven, TimerCode, askedBy, valueOf};
+ghost use Rattle.executive.specs.Meant.{MeansA, MeansB, Seven, valueOf};
+ghost use Rattle.executive.specs.Codes.{TimerCode, askedBy};
 
 // The tocks until it is due for the first time.
 fn first_tocks(v: TockValue) -> u32

@@ -1,5 +1,5 @@
 -- A signed number and its opposite, computed in a wider type: at the lowest number too, the opposite fits there.
-use Prim.Native.Nat.{ℕ, zero, suc, _-_, _^_, _<_}
+use Prim.Native.Nat.{ℕ, zero, suc, _^_, _<_}
 use mathlib.Core.Path.{_≡_, refl, sym, _∙_, ap, subst}
 use mathlib.Core.Bool.{true, false}
 use native.Mathlib.Nat.{zero-add}

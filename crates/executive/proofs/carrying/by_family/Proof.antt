@@ -10,7 +10,8 @@ use Rattle.ledger.specs.Refusals.{codeAt}
 use Rattle.ledger.specs.Theorems.WithoutSeason.{value-word, behind-drop}
 use Rattle.tables.specs.Shows.{moved}
 use Rattle.executive.specs.Suits.{configuration, tables, slots, timers}
-use Rattle.executive.specs.Meant.{valueOf, restOf, MeansX, MeansEntry, timer-code}
+use Rattle.executive.specs.Meant.{valueOf, restOf, MeansX, MeansEntry}
+use Rattle.executive.specs.Codes.{timer-code}
 use borrow.Author.Needs.{needs}
 use Rattle.executive.proofs.carrying.by_family.Statement.{statement}
 use Rattle.executive.proofs.carrying.by_family.Tie as tie

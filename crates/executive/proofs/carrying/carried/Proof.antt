@@ -12,7 +12,8 @@ use Rattle.command.specs.Configured.{of, fits}
 use Rattle.command.specs.Refused.{row-is, task-is, semaphore-is, owner-of}
 use Rattle.mailboxes.specs.Room.{roomy-stays}
 use Rattle.executive.specs.Suits.{configuration, tables, timers, still-suits}
-use Rattle.executive.specs.Meant.{valueOf, restOf, no-service}
+use Rattle.executive.specs.Meant.{valueOf, restOf}
+use Rattle.executive.specs.Codes.{no-service}
 use Rattle.executive.specs.Carried.{meant-of, accept-is, free-is, seven-passed}
 use borrow.Author.Needs.{needs}
 use Rattle.executive.proofs.carrying.carried.Statement.{statement}

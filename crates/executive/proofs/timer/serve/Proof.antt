@@ -13,7 +13,8 @@ use Rattle.ledger.specs.Theorems.WithoutSeason.{value-word}
 use Rattle.tocks.specs.Views.{tockView}
 use Rattle.tables.specs.Shows.{moved}
 use Rattle.clock.specs.Does.{purged, purge-is}
-use Rattle.executive.specs.Meant.{valueOf, MeansA, MeansB, asked-short}
+use Rattle.executive.specs.Meant.{valueOf, MeansA, MeansB}
+use Rattle.executive.specs.Codes.{asked-short}
 use Rattle.executive.specs.Carried.{by-code, starts-is, starts-free}
 use borrow.Author.Needs.{needs}
 use Rattle.executive.proofs.timer.serve.Statement.{statement}

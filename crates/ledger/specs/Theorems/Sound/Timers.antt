@@ -1,6 +1,6 @@
 -- Timers: at most R, in the order of their due tocks, each due after N and at most 2,147,483,648 tocks later.
 -- A tock removes those due and inserts the cyclic ones again, each in the place of one that was removed.
-use Prim.Native.Nat.{ℕ, suc, _+_, _-_, _≤_, _<_}
+use Prim.Native.Nat.{ℕ, suc, _+_, _≤_, _<_}
 use mathlib.Core.Path.{_≡_}
 use mathlib.Core.Bool.{true, not}
 use mathlib.Core.List.{List, [], _∷_}
