@@ -1,7 +1,7 @@
 -- What is proved of the definitions alone.
 -- The sheet's theorems:
 --   Settling: settles, one-end, at-most-2T, loop-at-most-2T. Lowest: lowest-runs. Shown: lowest-shown, reissues-shown. Refused: refused-changes-nothing. HandedOut: handed-out. HandedOver: handed-over. Sound: sound. ToldAfter: signal-tells. Callers: told-by-own-signal.
---   Starts: executes-after, started-after, begins-after. Freed: dropped-frees. WithoutSeason: same-run, same-session, same-output. AsTimer: as-timer.
+--   Starts: executes-after, started-after, begins-after. Freed: dropped-frees.
 
 -- laws of lists, of checks and of signals
 pub mod Items
