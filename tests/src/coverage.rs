@@ -14,6 +14,7 @@ pub use step::Step;
 
 use crate::executive::Executive;
 use crate::generator::{Script, LONGEST};
+use crate::turns::Turns;
 
 #[derive(Clone)]
 pub struct Coverage {
@@ -43,10 +44,14 @@ impl Coverage {
         let mut after = Executive::configure(&script.configuration).expect("an accepted configuration");
         after.keep_history();
         let mut seasons = Vec::new();
+        let mut turns = Turns::fresh(after.configuration());
+        let mut items = after.items();
         for frame in &script.frames {
             let before = after.clone();
             let answer = after.frame(frame);
-            let step = Step { before: &before, frame, answer, after: &after, seasons: &seasons };
+            let old = std::mem::replace(&mut items, after.items());
+            turns.watch(frame, answer.refusal(), &old, &items);
+            let step = Step { before: &before, frame, answer, after: &after, seasons: &seasons, turns: &turns };
             self.watch(&step);
             seasons = step.new_seasons();
         }

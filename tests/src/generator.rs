@@ -2,6 +2,7 @@
 //! and are mixed with plain noise.
 
 mod above;
+mod beats;
 mod cascade;
 mod configurations;
 mod damage;
@@ -30,8 +31,8 @@ pub use release::{freed_with_a_request, release, Release, RELEASES};
 /// Sessions that random ones hardly lead to.
 pub fn prepared() -> Vec<Script> {
     let releases = RELEASES.into_iter().map(release);
-    let seasons = [season::together(), season::values(), season::refused()];
-    [cascade()].into_iter().chain(releases).chain(freed_with_a_request()).chain(seasons).collect()
+    let timers = [season::together(), season::values(), season::refused(), beats::together()];
+    [cascade()].into_iter().chain(releases).chain(freed_with_a_request()).chain(timers).collect()
 }
 
 /// A configuration and the frames behind it.
@@ -48,6 +49,9 @@ impl Script {
         frames.filter_map(|frame| line::write(frame).ok()).flat_map(|line| [line, vec![b'\n']].concat()).collect()
     }
 }
+
+/// How a frame is chosen by the state.
+type Choose = fn(&mut Generator, &Executive) -> Vec<u8>;
 
 pub struct Generator {
     limits: Limits,
@@ -74,8 +78,12 @@ impl Generator {
 
     /// This configuration, which is accepted, and this many frames.
     pub fn script_of(&mut self, configuration: Vec<u8>, frames: usize) -> Script {
+        self.script_by(configuration, frames, Generator::any_frame)
+    }
+
+    fn script_by(&mut self, configuration: Vec<u8>, frames: usize, choose: Choose) -> Script {
         let mut executive = Executive::configure(&configuration).expect("an accepted configuration");
-        let frames = (0..frames).map(|_| self.next_frame(&mut executive)).collect();
+        let frames = (0..frames).map(|_| self.next_frame(&mut executive, choose)).collect();
         Script { configuration, frames }
     }
 
@@ -125,9 +133,9 @@ impl Generator {
     }
 
     /// Chosen again, up to some times, if it would leave no task that can ever run.
-    fn next_frame(&mut self, executive: &mut Executive) -> Vec<u8> {
+    fn next_frame(&mut self, executive: &mut Executive, choose: Choose) -> Vec<u8> {
         for _ in 0..20 {
-            let frame = self.any_frame(executive);
+            let frame = choose(self, executive);
             let mut after = executive.clone();
             after.frame(&frame);
             if is_alive(&after) || self.random.percent(1) {
@@ -135,7 +143,7 @@ impl Generator {
                 return frame;
             }
         }
-        let frame = self.any_frame(executive);
+        let frame = choose(self, executive);
         executive.frame(&frame);
         frame
     }

@@ -27,3 +27,4 @@ pub mod coverage;
 pub mod generator;
 pub mod random;
 pub mod restored;
+pub mod turns;

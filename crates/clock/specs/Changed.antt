@@ -18,7 +18,7 @@ use Rattle.ledger.specs.Refusals.{haveTimer}
 use Rattle.ledger.specs.Session.{timerLeft}
 use Rattle.timers.specs.Timers.{timer, timersIn, tocksLeft, startedFor, stays, tocked, dueIn, firstDue, takenDue, StaysUpright}
 use Rattle.timers.specs.Loops.{length-timers}
-use Rattle.timers.specs.Lists.{keep-map}
+use Rattle.ledger.specs.Theorems.Keeps.{keep-map}
 use Rattle.timers.specs.Shown.{shown-length, shown-have, shown-start}
 use Rattle.timers.specs.Drained.{nextDue, takeDue, one-fewer, shown-next, shown-take}
 use Rattle.tables.specs.declared.shape.Shape.{Shape}

@@ -15,7 +15,7 @@ use Rattle.ledger.specs.Config.{Config}
 use Rattle.ledger.specs.Time.{TockValue}
 use Rattle.ledger.specs.Ledger.{plain, Ledger, running, semaphoreOf, setSemaphore, setSemaphores, setTask, setOutcome}
 use Rattle.ledger.specs.Services.{shape, signalled, signal, startTimer, effect}
-use Rattle.ledger.specs.Refusals.{FieldA, noA, aTask, toStart, selfOrTask, anyOrTask, aQueue, FieldB, noB, ofSelf, ofTask, orNone, FieldX, noX, aMessage, aTockValue, aSwitch, fields, codeAt, call, wrongLength, inAMailbox, haveTimer, fromInput}
+use Rattle.ledger.specs.Refusals.{FieldA, noA, aTask, toStart, selfOrTask, anyOrTask, aQueue, FieldB, noB, ofSelf, ofTask, orNone, FieldX, noX, aMessage, aTockValue, aSwitch, fields, codeAt, call, wrongLength, inAMailbox, haveTimer, fromInput, askedBy}
 use Rattle.ledger.specs.Session.{accept}
 use Rattle.ledger.specs.Theorems.Items.{Numbered}
 use Rattle.ledger.specs.Theorems.Checks.{within-numbered, passes}
@@ -29,7 +29,7 @@ use Rattle.command.specs.Codes.{past}
 use Rattle.command.specs.Table.{semaphore-in}
 use Rattle.command.specs.Input.{long-enough}
 use Rattle.executive.specs.Meant.{InA, InB, InX, valueOf, restOf, MeansA, MeansB, MeansX, MeansEntry, Asks, MessageRoom, Seven}
-use Rattle.executive.specs.Codes.{below, TimerCode, askedBy, asked-short, asked-long}
+use Rattle.executive.specs.Codes.{below, TimerCode, asked-short, asked-long}
 
 -- the meant fields, by the row of the code, and the room in the tables d
 pub record Meant (c : Config) (s : Shape) (code self a b : ℕ) (f d : List ℕ) : Type 0 where

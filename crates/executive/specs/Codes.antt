@@ -1,16 +1,16 @@
 -- Which codes are services, which of them are the timers', and the tock value that their X is.
 use Prim.Native.Nat.{ℕ, zero, suc, _+_, _≤_}
 use mathlib.Core.Path.{_≡_, refl, sym, ap, _∙_, subst}
-use mathlib.Core.Bool.{Bool, true, false, cond}
+use mathlib.Core.Bool.{Bool, true, false}
 use mathlib.Core.List.{List, [], _∷_}
 use native.Mathlib.Omega.{arith}
-use lib.Dec.{eqb, leb}
+use lib.Dec.{leb}
 use lib.ListN.{List·getD-append}
 use borrow.Author.Tests.{ne-eqb, leb-true, leb-false}
-use Rattle.ledger.specs.Lists.{word, longWord, at}
-use Rattle.ledger.specs.Time.{TockValue, tockValue, longTockValue}
+use Rattle.ledger.specs.Lists.{at}
+use Rattle.ledger.specs.Time.{tockValue, longTockValue}
 use Rattle.ledger.specs.Services.{Code, WAIT, SIGNAL, PEND, SEND, SENDW, RECEIVE, DEQUEUE, ENQUEUE, RESUME, SUSPEND, TERMINATE, EXECUTE, DELAY, TIMER, PURGE, TICK, EXIT, SEASON-TIMER}
-use Rattle.ledger.specs.Refusals.{fields, codeAt, valueX}
+use Rattle.ledger.specs.Refusals.{fields, codeAt, valueX, askedBy}
 use Rattle.ledger.specs.Theorems.Parts.{Every, nil, cons, every-at}
 use Rattle.ledger.specs.Theorems.Checks.{never}
 use Rattle.ledger.specs.Theorems.WithoutSeason.{value-word}
@@ -60,10 +60,7 @@ timer-code n lo hi s = record {
   not17 = λ e. never (subst (λ (k : ℕ). fields (codeAt k) .service ≡ true) e s);
 }
 
--- the tock value that X is
-abbrev pub askedBy : (code : ℕ) → List ℕ → TockValue
-askedBy k f = cond (eqb k 18) (longTockValue (longWord 3 f)) (tockValue (word 3 f))
-
+-- the tock value that X is, by its width
 pub asked-short : (k : ℕ) (f : List ℕ) → (k ≡ 18 → ⊥) → askedBy k f ≡ tockValue (valueOf k f)
 asked-short k f h = rw (ne-eqb k 18 h) (ap tockValue (sym (value-word k f h)))
 

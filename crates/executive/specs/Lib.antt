@@ -5,7 +5,7 @@ pub mod Meant
 pub mod Codes
 pub mod Carried
 -- settling
-pub mod Turns
+pub mod Rounds
 pub mod Meeting
 pub mod Kept
 -- the step

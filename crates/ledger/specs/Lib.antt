@@ -7,9 +7,13 @@ pub mod Services
 pub mod Refusals
 pub mod Session
 pub mod Lines
+-- the request about turns: how often a timer has signalled
+pub mod Turns
+pub mod Seen
 -- What is proved of them, and how they are computed.
 pub mod Examples
 pub mod Readings
+pub mod TurnExamples
 pub mod Shams
 pub mod Theorems
 pub mod Computing

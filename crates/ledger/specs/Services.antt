@@ -11,7 +11,7 @@ unfoldable pub use Rattle.ledger.specs.Services.Semaphores.{waitFor, sig
 unfoldable pub use Rattle.ledger.specs.Services.Messages.{send, wanted, received, dropMessages}
 unfoldable pub use Rattle.ledger.specs.Services.Queues.{notEmpty, notFull, shape, empty, full, copyInto, takeEntry, putEntry, dequeued, enqueued}
 unfoldable pub use Rattle.ledger.specs.Services.Tasks.{terminate, execute}
-unfoldable pub use Rattle.ledger.specs.Services.Timers.{insertTimer, startTimer, purge, insertAgain, expire, expireAll, due, tock, tick}
+unfoldable pub use Rattle.ledger.specs.Services.Timers.{insertTimer, startTimer, purge, insertAgain, expire, expireAll, due, dueNow, tock, tick}
 pub mod Semaphores
 pub mod Messages
 pub mod Queues

@@ -1,4 +1,4 @@
--- Sessions in which each sham that document 01 names, or that a request invites (a signal that tells, a start only after, the brake module, a dropped message, a season timer),
+-- Sessions in which each sham that document 01 names, or that a request invites (a signal that tells, a start only after, the brake module, a dropped message, a season timer, a turn that is missed),
 -- would answer otherwise, with the ledger's answers computed.
 use Prim.Native.Nat.{ℕ}
 use mathlib.Core.Path.{_≡_, refl}
@@ -101,6 +101,13 @@ startsShort = 18 ∷ 0 ∷ 0 ∷ 0 ∷ 1 ∷ 0 ∷ []
 abbrev pub startsCyclic : List ℕ
 startsCyclic = 14 ∷ 0 ∷ 0 ∷ 255 ∷ 255 ∷ []
 
+-- two tasks, a named semaphore, two timers. Starts a timer of one tock for task t on that task's semaphore
+abbrev pub twoTimers : List ℕ
+twoTimers = 2 ∷ 1 ∷ 0 ∷ 2 ∷ 0 ∷ 1 ∷ 0 ∷ 125 ∷ 0 ∷ 0 ∷ []
+
+abbrev pub startsFor : ℕ → List ℕ
+startsFor t = 14 ∷ t ∷ 0 ∷ 0 ∷ 1 ∷ []
+
 pub record ShamAnswers : Type 0 where
   -- both executives accept what the sessions begin with
   pub accepted : (configRefusalBy controller twoTasks ≡ 0) × (configRefusalBy brakeModule twoTasks ≡ 0)
@@ -152,9 +159,16 @@ pub record ShamAnswers : Type 0 where
   pub sixByNobody : session twoTasks (waits ∷ waitsOwn ∷ startsShort ∷ []) ≡ (0 ∷ 1 ∷ 0 ∷ 1 ∷ []) ∷ (0 ∷ 2 ∷ 0 ∷ 1 ∷ []) ∷ (0 ∷ 0 ∷ 0 ∷ 0 ∷ []) ∷ (2 ∷ 0 ∷ 0 ∷ 0 ∷ []) ∷ []
   -- -1 in two bytes: the tick wakes task 1
   pub cyclic : session twoTasks (startsCyclic ∷ waitsOwn ∷ ticks ∷ []) ≡ (0 ∷ 1 ∷ 0 ∷ 1 ∷ []) ∷ (0 ∷ 1 ∷ 0 ∷ 0 ∷ []) ∷ (0 ∷ 2 ∷ 0 ∷ 1 ∷ []) ∷ (0 ∷ 1 ∷ 0 ∷ 5 ∷ 2 ∷ []) ∷ []
+  -- and so does the next
+  pub again : session twoTasks (startsCyclic ∷ waitsOwn ∷ ticks ∷ waitsOwn ∷ ticks ∷ [])
+      ≡ (0 ∷ 1 ∷ 0 ∷ 1 ∷ []) ∷ (0 ∷ 1 ∷ 0 ∷ 0 ∷ []) ∷ (0 ∷ 2 ∷ 0 ∷ 1 ∷ []) ∷ (0 ∷ 1 ∷ 0 ∷ 5 ∷ 2 ∷ []) ∷ (0 ∷ 2 ∷ 0 ∷ 1 ∷ []) ∷ (0 ∷ 1 ∷ 0 ∷ 5 ∷ 2 ∷ []) ∷ []
+  pub acceptedTimers : (configRefusalBy controller twoTimers ≡ 0) × (configRefusalBy brakeModule twoTimers ≡ 0)
+  -- both wait, and the tick wakes both: when task 1 waits again, task 2 runs
+  pub together : session twoTimers (startsFor 1 ∷ startsFor 2 ∷ waitsOwn ∷ waitsOwn ∷ ticks ∷ waitsOwn ∷ [])
+      ≡ (0 ∷ 1 ∷ 0 ∷ 1 ∷ []) ∷ (0 ∷ 1 ∷ 0 ∷ 0 ∷ []) ∷ (0 ∷ 1 ∷ 0 ∷ 0 ∷ []) ∷ (0 ∷ 2 ∷ 0 ∷ 1 ∷ []) ∷ (0 ∷ 0 ∷ 0 ∷ 0 ∷ []) ∷ (0 ∷ 1 ∷ 0 ∷ 5 ∷ 2 ∷ []) ∷ (0 ∷ 2 ∷ 0 ∷ 5 ∷ 3 ∷ []) ∷ []
   -- nobody waits on semaphore 1
   pub done : getD (run (configIn twoTasks) (signals ∷ []) .0 .semaphores) 0 PENDING ≡ DONE
 
 pub the-answers : ShamAnswers
 unfolding everything pairTimes
-the-answers = record { accepted = (refl, refl); settled = refl; filled = refl; started = refl; ticked = refl; told = refl; wakingTick = refl; wakingPut = refl; acceptedThree = (refl, refl); early = refl; suspended = refl; ownNumber = refl; nobody = refl; equal = refl; many = refl; seventeenTasks = refl; seventeenLong = refl; acceptedMessages = (refl, refl); freed = refl; freedSecond = refl; freedTwice = refl; withdrawn = refl; season = refl; sixBytes = refl; sixByNobody = refl; cyclic = refl; done = refl }
+the-answers = record { accepted = (refl, refl); settled = refl; filled = refl; started = refl; ticked = refl; told = refl; wakingTick = refl; wakingPut = refl; acceptedThree = (refl, refl); early = refl; suspended = refl; ownNumber = refl; nobody = refl; equal = refl; many = refl; seventeenTasks = refl; seventeenLong = refl; acceptedMessages = (refl, refl); freed = refl; freedSecond = refl; freedTwice = refl; withdrawn = refl; season = refl; sixBytes = refl; sixByNobody = refl; cyclic = refl; again = refl; acceptedTimers = (refl, refl); together = refl; done = refl }

@@ -1,12 +1,13 @@
 -- What is proved of the definitions alone.
 -- The sheet's theorems:
 --   Settling: settles, one-end, at-most-2T, loop-at-most-2T. Lowest: lowest-runs. Shown: lowest-shown, reissues-shown. Refused: refused-changes-nothing. HandedOut: handed-out. HandedOver: handed-over. Sound: sound. ToldAfter: signal-tells. Callers: told-by-own-signal.
---   Starts: executes-after, started-after, begins-after. Freed: dropped-frees.
+--   Starts: executes-after, started-after, begins-after. Freed: dropped-frees. Turns: misses-no-turn. Turns/Pair: one-at-a-time, no-second, this-very-timer. Turns/Signalled: turn-signals. Turns/Passed: tocks-are. TurnsSeen: none-missed, each-signals.
 
 -- laws of lists, of checks and of signals
 pub mod Items
 pub mod Parts
 pub mod Checks
+pub mod Keeps
 pub mod Twos
 pub mod Signals
 pub mod Fresh
@@ -54,3 +55,6 @@ pub mod Lines
 pub mod TockValues
 pub mod AsTimer
 pub mod Nearest
+-- a timer misses no turn (misses-no-turn), and each turn signals (turn-signals); so it is in what a host would see of the ledger (none-missed, each-signals)
+pub mod Turns
+pub mod TurnsSeen

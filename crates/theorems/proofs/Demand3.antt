@@ -3,22 +3,26 @@
 --     demand-3             every list of calls on the ride controller
 --     module-demand-3      on the brake module, against the same ledger
 --     both-alike           a configuration that both accept, and the same frames
+--     every-turn, module-every-turn     no timer misses a turn in what a host sees of a list of calls
 use Prim.Native.Nat.{ℕ}
-use mathlib.Core.Path.{_≡_, _∙_}
+use mathlib.Core.Path.{_≡_, refl, ap, subst, _∙_}
 use mathlib.Core.Bool.{true}
-use mathlib.Core.List.{List, [], _∷_}
+use mathlib.Core.List.{List, _∷_}
 use denote.Ref.{now}
 use contract.Lifetimes.{Lfts}
 use borrow.Fn.World.{ArgsD, ResD}
 use borrow.Fn.Kinds.{endedOf}
 use denote.Triple.Clauses.{Lasts, atExit}
-use Rattle.ledger.specs.Config.{Limits, controller, brakeModule, configRefusal, configRefusalBy}
+use Rattle.ledger.specs.Config.{Config, Limits, controller, brakeModule, configIn, configRefusal, configRefusalBy}
+use Rattle.ledger.specs.Seen.{Seen}
 use Rattle.ledger.specs.Theorems.Within.{controller-gives}
 use Rattle.configuration.specs.Limits.{controller-made, brake-module-made}
 use Rattle.mcx11.specs.Contract.{Memory, memory, fullSize, Configures, Frames}
 use Rattle.theorems.specs.Calls as calls
+use Rattle.theorems.specs.Calls.{Calls, none, call, seenCall, seen}
 use Rattle.mcx11.specs.Answer.{answerOf}
 use Rattle.theorems.specs.Same.{Same, every-list}
+use Rattle.theorems.specs.TurnsKept.{TurnsKept, turns-kept}
 use Rattle.theorems.specs.Alike.{Alike, alike, module-accepts}
 use Rattle.mcx11.proofs.entries.mcx11_configure_blocks as configure
 use Rattle.mcx11.proofs.entries.mcx11_configure_blocks.Kinds as configure-kinds
@@ -63,15 +67,20 @@ pub record FrameCallOf (L : FrameLearnt) (f : List ℕ) (m m' : Memory) (r : ℕ
   pub number : n ≡ r
 
 -- A list of such calls, each lent the memory as the call before it left it, with their answers and numbers
-pub data FrameCallsOf (L : FrameLearnt) : (m : Memory) (frames answers : List (List ℕ)) (numbers : List ℕ) (m' : Memory) → Type 0 where
-  none : {m : Memory} → FrameCallsOf L m [] [] [] m
-  call : {f : List ℕ} {m m₁ m' : Memory} {r : ℕ} {fs answers : List (List ℕ)} {numbers : List ℕ}
-      → FrameCallOf L f m m₁ r → FrameCallsOf L m₁ fs answers numbers m' → FrameCallsOf L m (f ∷ fs) (answerOf m₁ ∷ answers) (r ∷ numbers) m'
+abbrev pub FrameCallsOf : FrameLearnt → (m : Memory) (frames answers : List (List ℕ)) (numbers : List ℕ) (m' : Memory) → Type 0
+FrameCallsOf L = Calls (FrameCallOf L)
 
 by-contract : {k : Limits} (L : FrameLearnt) → ((f : List ℕ) (m m' : Memory) (r : ℕ) → FrameCallOf L f m m' r → Frames k f m m' r)
     → {m m' : Memory} {fs answers : List (List ℕ)} {numbers : List ℕ} → FrameCallsOf L m fs answers numbers m' → calls.FrameCalls k m fs answers numbers m'
-by-contract L says none = calls.none
-by-contract L says (call s more) = calls.call (says _ _ _ _ s) (by-contract L says more)
+by-contract L says none = none
+by-contract L says (call s more) = call (says _ _ _ _ s) (by-contract L says more)
+
+-- a host sees the same of them
+same-seen : {k : Limits} (L : FrameLearnt) (says : (f : List ℕ) (m m' : Memory) (r : ℕ) → FrameCallOf L f m m' r → Frames k f m m' r) (c : Config)
+    → {m m' : Memory} {fs answers : List (List ℕ)} {numbers : List ℕ} (all : FrameCallsOf L m fs answers numbers m') → seen c (by-contract L says all) ≡ seen c all
+unfolding seen by-contract
+same-seen L says c none = refl
+same-seen L says c (call {f} {m} {m₁} {r = r} s more) = ap (λ (ss : List Seen). seenCall c f m m₁ r ∷ ss) (same-seen L says c more)
 
 -- ---- the ride controller
 
@@ -102,6 +111,13 @@ pub demand-3 : {g : List ℕ} {m₀ m₁ m : Memory} {r : ℕ} {fs answers : Lis
     → Same controller g m₀ fs (answerOf m₁ ∷ answers) (r ∷ numbers) m
 demand-3 {g} h full s more = every-list controller-made (controller-gives g ∙ h) full (configures s) (by-contract frameLearnt (λ f m m' r. frames) more)
 
+-- no timer misses a turn
+pub every-turn : {g : List ℕ} {m₀ m₁ m : Memory} {r : ℕ} {fs answers : List (List ℕ)} {numbers : List ℕ}
+    → configRefusal g ≡ 0 → fullSize controller m₀ ≡ true → ConfigureCall g m₀ m₁ r → (all : FrameCalls m₁ fs answers numbers m) → TurnsKept (configIn g) (seen (configIn g) all)
+every-turn {g} h full s all =
+    subst (TurnsKept (configIn g)) (same-seen frameLearnt (λ f m m' r. frames) (configIn g) all)
+    (turns-kept controller-made (controller-gives g ∙ h) full (configures s) (by-contract frameLearnt (λ f m m' r. frames) all))
+
 -- ---- the brake module
 
 abbrev moduleConfigureLearnt : ConfigureLearnt
@@ -130,6 +146,12 @@ pub module-demand-3 : {g : List ℕ} {m₀ m₁ m : Memory} {r : ℕ} {fs answer
     → configRefusalBy brakeModule g ≡ 0 → fullSize brakeModule m₀ ≡ true → ModuleConfigureCall g m₀ m₁ r → ModuleFrameCalls m₁ fs answers numbers m
     → Same brakeModule g m₀ fs (answerOf m₁ ∷ answers) (r ∷ numbers) m
 module-demand-3 h full s more = every-list brake-module-made h full (module-configures s) (by-contract moduleFrameLearnt (λ f m m' r. module-frames) more)
+
+pub module-every-turn : {g : List ℕ} {m₀ m₁ m : Memory} {r : ℕ} {fs answers : List (List ℕ)} {numbers : List ℕ}
+    → configRefusalBy brakeModule g ≡ 0 → fullSize brakeModule m₀ ≡ true → ModuleConfigureCall g m₀ m₁ r → (all : ModuleFrameCalls m₁ fs answers numbers m) → TurnsKept (configIn g) (seen (configIn g) all)
+module-every-turn {g} h full s all =
+    subst (TurnsKept (configIn g)) (same-seen moduleFrameLearnt (λ f m m' r. module-frames) (configIn g) all)
+    (turns-kept brake-module-made h full (module-configures s) (by-contract moduleFrameLearnt (λ f m m' r. module-frames) all))
 
 -- ---- both: what the module accepts the controller accepts too
 pub both-alike : {g : List ℕ} {m₀ m₁ m n₀ n₁ n : Memory} {r t : ℕ} {fs answers₁ answers₂ : List (List ℕ)} {numbers₁ numbers₂ : List ℕ} → configRefusalBy brakeModule g ≡ 0

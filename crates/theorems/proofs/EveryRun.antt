@@ -3,10 +3,11 @@
 --     runs           from there a configuration and a list of frames have runs, one after the other, as demand 3 says
 --     every-run      and every such runs are as demand 3 says: the machine has one run from one memory
 --     every-answer, every-number           its first two parts, as plain equations
+--     run-every-turn                       nor does a timer miss a turn in what a host sees of them
 --     every-frame, every-configuration     one call, whatever the blocks hold and however large they are: it is as its contract
 --                                          says
 use Prim.Native.Nat.{ℕ}
-use mathlib.Core.Path.{_≡_, subst}
+use mathlib.Core.Path.{_≡_, refl, subst}
 use mathlib.Core.Logic.{∥∥₁-prop, ∥∥₁-elim, ∥∥₁-map}
 use mathlib.Core.Bool.{true}
 use mathlib.Core.HLevel.{hedberg}
@@ -17,17 +18,21 @@ use base.Logic.{emp}
 use prog.Memory as machine
 use ghost.Model as closed
 use Rattle.running.specs.Memories.{Loads}
-use Rattle.ledger.specs.Config.{Limits, configIn, configRefusalBy}
+use Rattle.running.specs.Machine.{Cells, _∗_}
+use Rattle.ledger.specs.Config.{Config, Limits, configIn, configRefusalBy}
 use Rattle.ledger.specs.Session as ledger
 use Rattle.ledger.specs.Theorems.Parts.{Every}
 use Rattle.mcx11.specs.Contract.{Memory, fullSize, Configures, Frames}
 use Rattle.mcx11.specs.Answer.{answerOf}
 use Rattle.theorems.specs.Numbers as refused
+use Rattle.theorems.specs.Calls.{FrameCalls, seen}
 use Rattle.theorems.specs.Same.{Same, every-list}
+use Rattle.theorems.specs.TurnsKept.{TurnsKept, turns-kept}
 use Rattle.theorems.proofs.OneCall.{Executive}
-use Rattle.theorems.proofs.Runs.{lengthsOf, ConfigureRuns, FrameRuns, SessionRuns, session, FitsBuffer, feeds}
+use Rattle.theorems.proofs.Runs.{lengthsOf, ConfigureRuns, FrameRuns, SessionRuns, session, seenSession, FitsBuffer, feeds}
 use Rattle.theorems.proofs.SessionStart.{SessionStarts, sessionStart, placesOf, othersAt, others, rooms, frame-runs-from, configure-runs-from}
-use Rattle.theorems.proofs.SessionOneRun.{call-one, session-one}
+use Rattle.theorems.proofs.CallOneRun.{known}
+use Rattle.theorems.proofs.RunCalls.{run-calls}
 
 -- ---- there are runs
 
@@ -56,32 +61,51 @@ pub record Asks (x : Executive) (m : Memory) (buffer others g : List ℕ) (fs : 
   pub frames : Every (FitsBuffer (length buffer)) fs
 
 module _ (x : Executive) where
+  -- ---- so what demand 3 says holds of every one
+
+  -- the calls of a session's runs, with what the configuration's contract says
+  record SessionCalls (m : Memory) (d o g : List ℕ) {fs answers : List (List ℕ)} {numbers : List ℕ} {last : machine.Memory} {m' : Memory}
+      (runs : SessionRuns x (placesOf m) (lengthsOf m) (sessionStart m d o) g fs answers numbers last m') : Type 0 where
+    begun : Memory
+    result : ℕ
+    rest : List (List ℕ)
+    returned : List ℕ
+    all-answers : answers ≡ answerOf begun ∷ rest
+    all-numbers : numbers ≡ result ∷ returned
+    configures : Configures (x .limits) g m begun result
+    calls : FrameCalls (x .limits) begun fs rest returned m'
+    sees : (c : Config) → seen c calls ≡ seenSession c runs
+    others : Loads last 0 (othersAt m d) o
+
+  session-calls : {g : List ℕ} {fs : List (List ℕ)} {m : Memory} {buffer others : List ℕ} → Asks x m buffer others g fs
+      → {answers : List (List ℕ)} {numbers : List ℕ} {last : machine.Memory} {m' : Memory} (r : SessionRuns x (placesOf m) (lengthsOf m) (sessionStart m buffer others) g fs answers numbers last m')
+      → ∥ SessionCalls m buffer others g r ∥₁
+  unfolding seenSession
+  session-calls {g} {fs} {m} {buffer = d} {others = o} a (session {σ₁ = σ₁} {m₁ = m₁} {r = r} {answers = xs} {numbers = rs} c more) =
+      let b = a .starts in
+      ∥∥₁-elim (configure-runs-from m d o b x (a .configuration)) ∥∥₁-prop (λ k.
+      let w = known k c in
+      ∥∥₁-map (run-calls x (placesOf m) (lengthsOf m) (rooms m d o b) (length d) (b .buffer .size) (others m d o b) (emp closed.𝓤) (a .frames) m₁ (c .lies .sizes) (k .buffer) (k .size) σ₁ (w .holds) more) (λ t.
+      record { begun = m₁; result = r; rest = xs; returned = rs; all-answers = refl; all-numbers = refl; configures = w .says; calls = t .calls; sees = t .seen; others = t .others .0 }))
+
+  pub every-run : {g : List ℕ} {fs : List (List ℕ)} {m : Memory} {buffer others : List ℕ} → Asks x m buffer others g fs
+      → {answers : List (List ℕ)} {numbers : List ℕ} {last : machine.Memory} {m' : Memory} → SessionRuns x (placesOf m) (lengthsOf m) (sessionStart m buffer others) g fs answers numbers last m'
+      → ∥ AsTheLedger (x .limits) m buffer others g fs answers numbers last m' ∥₁
+  every-run a r = ∥∥₁-map (session-calls a r) (λ k. rw (k .all-answers, k .all-numbers) (record { same = every-list (x .made) (a .accepted) (a .full) (k .configures) (k .calls); others = k .others }))
+
   pub runs : {g : List ℕ} {fs : List (List ℕ)} {m : Memory} {buffer others : List ℕ} → Asks x m buffer others g fs → ∥ SessionRan x m buffer others g fs ∥₁
   runs {g} {fs} {m} {buffer = d} {others = o} a =
       let b = a .starts in
       ∥∥₁-elim (configure-runs-from m d o b x (a .configuration)) ∥∥₁-prop (λ k.
-      ∥∥₁-map (feeds x (placesOf m) (lengthsOf m) (rooms m d o b) (length d) (b .buffer .size) (a .frames) (others m d o b) (k .memory) (k .runs .lies .sizes) (k .buffer) (k .size) (k .last) (emp closed.𝓤) (k .holds)) (λ t.
-      record {
-        answers = answerOf (k .memory) ∷ t .answers;
-        numbers = k .result ∷ t .numbers;
-        last = t .last;
-        memory = t .memory;
-        runs = session (k .runs) (t .runs);
-        says = record { same = every-list (x .made) (a .accepted) (a .full) (k .says) (t .calls); others = t .others .0 };
-      }))
+      ∥∥₁-elim (feeds x (placesOf m) (lengthsOf m) (rooms m d o b) (length d) (b .buffer .size) (a .frames) (k .memory) (k .runs .lies .sizes) (k .buffer) (k .size) (k .last) (Cells (others m d o b) ∗ emp closed.𝓤) (k .holds)) ∥∥₁-prop (λ t.
+      let r = session (k .runs) (t .runs) in
+      ∥∥₁-map (every-run a r) (λ w. record { answers = answerOf (k .memory) ∷ t .answers; numbers = k .result ∷ t .numbers; last = t .last; memory = t .memory; runs = r; says = w })))
 
-  -- ---- so what demand 3 says holds of every one
-  pub every-run : {g : List ℕ} {fs : List (List ℕ)} {m : Memory} {buffer others : List ℕ} → Asks x m buffer others g fs
-      → {answers : List (List ℕ)} {numbers : List ℕ} {last : machine.Memory} {m' : Memory} → SessionRuns x (placesOf m) (lengthsOf m) (sessionStart m buffer others) g fs answers numbers last m'
-      → ∥ AsTheLedger (x .limits) m buffer others g fs answers numbers last m' ∥₁
-  every-run {g} {fs} {m} {buffer = d} {others = o} a {answers} {numbers} {last} {m'} r =
-      ∥∥₁-map (runs a) (λ k.
-      let e = session-one (k .runs) r in
-      let j : Limits = x .limits in
-      subst (λ (xs : List (List ℕ)). AsTheLedger j m d o g fs xs numbers last m') (e .0)
-      (subst (λ (rs : List ℕ). AsTheLedger j m d o g fs (k .answers) rs last m') (e .1)
-      (subst (λ (σ : machine.Memory). AsTheLedger j m d o g fs (k .answers) (k .numbers) σ m') (e .2)
-      (subst (λ (y : Memory). AsTheLedger j m d o g fs (k .answers) (k .numbers) (k .last) y) (e .3) (k .says)))))
+  -- and no timer misses a turn
+  pub run-every-turn : {g : List ℕ} {fs : List (List ℕ)} {m : Memory} {buffer others : List ℕ} → Asks x m buffer others g fs
+      → {answers : List (List ℕ)} {numbers : List ℕ} {last : machine.Memory} {m' : Memory} (r : SessionRuns x (placesOf m) (lengthsOf m) (sessionStart m buffer others) g fs answers numbers last m')
+      → ∥ TurnsKept (configIn g) (seenSession (configIn g) r) ∥₁
+  run-every-turn {g} a r = ∥∥₁-map (session-calls a r) (λ k. subst (TurnsKept (configIn g)) (k .sees (configIn g)) (turns-kept (x .made) (a .accepted) (a .full) (k .configures) (k .calls)))
 
   -- the answers and the numbers, as plain equations
   pub every-answer : {g : List ℕ} {fs : List (List ℕ)} {m : Memory} {buffer others : List ℕ} → Asks x m buffer others g fs
@@ -97,12 +121,8 @@ module _ (x : Executive) where
   -- ---- one call, whatever the blocks hold
   pub every-frame : {f : List ℕ} {m : Memory} {buffer others : List ℕ} → SessionStarts m buffer others → FitsBuffer (length buffer) f
       → {last : machine.Memory} {m' : Memory} {r : ℕ} → FrameRuns x (placesOf m) (lengthsOf m) f (sessionStart m buffer others) last m' r → ∥ Frames (x .limits) f m m' r ∥₁
-  every-frame {f} {m} {buffer = d} {others = o} b l {last} {m'} {r} c =
-      ∥∥₁-map (frame-runs-from m d o b x l) (λ k.
-      let e = call-one (k .runs) c in subst (λ (y : Memory). Frames (x .limits) f m y r) (e .1) (subst (λ (n : ℕ). Frames (x .limits) f m (k .memory) n) (e .2) (k .says)))
+  every-frame {m = m} {buffer = d} {others = o} b l c = ∥∥₁-map (frame-runs-from m d o b x l) (λ k. known k c .says)
 
   pub every-configuration : {g : List ℕ} {m : Memory} {buffer others : List ℕ} → SessionStarts m buffer others → FitsBuffer (length buffer) g
       → {last : machine.Memory} {m' : Memory} {r : ℕ} → ConfigureRuns x (placesOf m) (lengthsOf m) g (sessionStart m buffer others) last m' r → ∥ Configures (x .limits) g m m' r ∥₁
-  every-configuration {g} {m} {buffer = d} {others = o} b l {last} {m'} {r} c =
-      ∥∥₁-map (configure-runs-from m d o b x l) (λ k.
-      let e = call-one (k .runs) c in subst (λ (y : Memory). Configures (x .limits) g m y r) (e .1) (subst (λ (n : ℕ). Configures (x .limits) g m (k .memory) n) (e .2) (k .says)))
+  every-configuration {m = m} {buffer = d} {others = o} b l c = ∥∥₁-map (configure-runs-from m d o b x l) (λ k. known k c .says)

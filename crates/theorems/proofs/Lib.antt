@@ -3,7 +3,8 @@ pub mod Demand3
 pub mod OneCall
 pub mod Runs
 pub mod SessionStart
-pub mod SessionOneRun
+pub mod CallOneRun
+pub mod RunCalls
 pub mod EveryRun
 pub mod BothRun
 -- of lines and milliseconds

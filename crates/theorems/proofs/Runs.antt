@@ -2,8 +2,7 @@
 -- bytes into its one buffer.
 --     CallRuns       one call: the stores, the run of the function's routine, and the bytes that the machine then loads
 --     SessionRuns    a configuration and a list of frames, each call from the memory in which the one before it ended
---     feeds          from every memory that holds the blocks and the buffer, there are such runs of frames, and each call is as
---                    its contract says
+--     feeds          from every memory that holds the blocks and the buffer, there are such runs of frames
 use Prim.Native.Nat.{ℕ, _<_, _≤_, _^_}
 use mathlib.Core.Path.{_≡_, sym, ap, _∙_, subst}
 use mathlib.Core.Logic.{∥∥₁-prop, ∥∥₁-elim, ∥∥₁-map}
@@ -12,20 +11,20 @@ use native.Mathlib.Omega.{arith}
 use lib.ListN.{length}
 use mir.Syntax.{w8}
 use mir.Val.{Val, vint}
-use base.Logic.{via, snd∗}
 use prog.Memory as machine
 use prog.Machine.{done as ended}
 use prog.Model.{AllFit}
 use prog.Routine.{Routine}
-use ghost.Model as closed
 use denote.Builtin.{u8}
 use denote.Slice.{sliceVal, Room}
 use denote.Steps.{only}
 use Rattle.running.specs.Slices.{mut, Slice, AreBytes}
 use Rattle.running.specs.Memories.{LoadsAll}
 use Rattle.running.specs.Stores.{Stores}
-use Rattle.running.specs.Machine.{Pr, Cells, _∗_, _⊨_, weaken, held-loads, bytesAt}
+use Rattle.running.specs.Machine.{Pr, Cells, _∗_, _⊨_, bytesAt}
 use Rattle.running.specs.Buffer.{Buffer, overwritten, as-long, Front, Rest, stored, lent-again}
+use Rattle.ledger.specs.Config.{Config}
+use Rattle.ledger.specs.Seen.{Seen}
 use Rattle.ledger.specs.Theorems.Parts.{Every, nil, cons}
 use Rattle.mcx11.specs.Contract.{Memory, Sizes, Configures, Frames}
 use Rattle.mcx11.specs.Answer.{answerOf}
@@ -70,10 +69,18 @@ pub data FramesRun (e : Executive) (q : Places) (s : Sizes) : (σ : machine.Memo
   call : {f : List ℕ} {σ σ₁ σ' : machine.Memory} {m m₁ m' : Memory} {r : ℕ} {fs answers : List (List ℕ)} {numbers : List ℕ}
       → FrameRuns e q s f σ σ₁ m₁ r → FramesRun e q s σ₁ m₁ fs answers numbers σ' m' → FramesRun e q s σ m (f ∷ fs) (answerOf m₁ ∷ answers) (r ∷ numbers) σ' m'
 
+-- what a host sees of them, if it looks at the blocks after each
+unfoldable pub seenRun : {e : Executive} {q : Places} {s : Sizes} {σ σ' : machine.Memory} {m m' : Memory} {fs answers : List (List ℕ)} {numbers : List ℕ} → Config → FramesRun e q s σ m fs answers numbers σ' m' → List Seen
+seenRun c none = []
+seenRun c (call {f} {m = m} {m₁ = m₁} {r = r} k more) = contracts.seenCall c f m m₁ r ∷ seenRun c more
+
 -- a configuration, and then frames
 pub data SessionRuns (e : Executive) (q : Places) (s : Sizes) (σ : machine.Memory) (g : List ℕ) (frames : List (List ℕ)) : (answers : List (List ℕ)) (numbers : List ℕ) (σ' : machine.Memory) (m' : Memory) → Type 0 where
   session : {σ₁ σ' : machine.Memory} {m₁ m' : Memory} {r : ℕ} {answers : List (List ℕ)} {numbers : List ℕ}
       → ConfigureRuns e q s g σ σ₁ m₁ r → FramesRun e q s σ₁ m₁ frames answers numbers σ' m' → SessionRuns e q s σ g frames (answerOf m₁ ∷ answers) (r ∷ numbers) σ' m'
+
+unfoldable pub seenSession : {e : Executive} {q : Places} {s : Sizes} {σ σ' : machine.Memory} {g : List ℕ} {m' : Memory} {fs answers : List (List ℕ)} {numbers : List ℕ} → Config → SessionRuns e q s σ g fs answers numbers σ' m' → List Seen
+seenSession c (session k more) = seenRun c more
 
 -- ---- one call, from a memory that holds the blocks and a buffer of n bytes
 
@@ -167,31 +174,18 @@ module _ (q : Places) (s : Sizes) (rooms : RoomsAt s) (n : ℕ) (small : n < 2 ^
         called (x .frame) (λ m' r. Frames (x .limits) f m m' r) stop m' (k .result) (ap only (k .is .0)) (record { sizes = e; loads = k .loads .1; bytes = k .bytes .1 }) (k .says) (k .is .1) (k .holds)))
 
 -- ---- a list of frames
-pub record FramesRan (x : Executive) (q : Places) (s : Sizes) (O : List Slice) (σ : machine.Memory) (m : Memory) (fs : List (List ℕ)) : Type 0 where
+pub record FramesRan (x : Executive) (q : Places) (s : Sizes) (σ : machine.Memory) (m : Memory) (fs : List (List ℕ)) : Type 0 where
   pub answers : List (List ℕ)
   pub numbers : List ℕ
   pub last : machine.Memory
   pub memory : Memory
   pub runs : FramesRun x q s σ m fs answers numbers last memory
-  pub calls : contracts.FrameCalls (x .limits) m fs answers numbers memory
-  pub others : LoadsAll last O
 
--- O is what else lies in the memory
-pub feeds : (x : Executive) (q : Places) (s : Sizes) → RoomsAt s → (n : ℕ) → n < 2 ^ 63 → {fs : List (List ℕ)} → Every (FitsBuffer n) fs → (O : List Slice) (m : Memory) → lengthsOf m ≡ s
-    → (d : List ℕ) → length d ≡ n → (σ : machine.Memory) (F : Pr) → σ ⊨ Cells (blocksOf q m) ∗ (Buffer (q .buffer) d ∗ (Cells O ∗ F)) → ∥ FramesRan x q s O σ m fs ∥₁
-feeds x q s rooms n small nil O m e d w σ F h =
-    let B : Pr = Cells (blocksOf q m) in
-    ∥∥₁-map (held-loads σ O F (weaken σ (via closed.𝓤 (Buffer (q .buffer) d ∗ (Cells O ∗ F)) (snd∗ closed.𝓤 B (Buffer (q .buffer) d ∗ (Cells O ∗ F))) (snd∗ closed.𝓤 (Buffer (q .buffer) d) (Cells O ∗ F))) h)) (λ o.
-    record { answers = []; numbers = []; last = σ; memory = m; runs = none; calls = contracts.none; others = o })
-feeds x q s rooms n small (cons {x = f} l ls) O m e d w σ F h =
-    ∥∥₁-elim (frame-called q s rooms n small f l m e d w σ (Cells O ∗ F) h x) ∥∥₁-prop (λ k.
-    ∥∥₁-map (feeds x q s rooms n small ls O (k .memory) (k .runs .lies .sizes) (k .buffer) (k .size) (k .last) F (k .holds)) (λ t.
-    record {
-      answers = answerOf (k .memory) ∷ t .answers;
-      numbers = k .result ∷ t .numbers;
-      last = t .last;
-      memory = t .memory;
-      runs = call (k .runs) (t .runs);
-      calls = contracts.call (k .says) (t .calls);
-      others = t .others;
-    }))
+-- F is what else lies in the memory
+pub feeds : (x : Executive) (q : Places) (s : Sizes) → RoomsAt s → (n : ℕ) → n < 2 ^ 63 → {fs : List (List ℕ)} → Every (FitsBuffer n) fs → (m : Memory) → lengthsOf m ≡ s
+    → (d : List ℕ) → length d ≡ n → (σ : machine.Memory) (F : Pr) → σ ⊨ Cells (blocksOf q m) ∗ (Buffer (q .buffer) d ∗ F) → ∥ FramesRan x q s σ m fs ∥₁
+feeds x q s rooms n small nil m e d w σ F h = ∣ record { answers = []; numbers = []; last = σ; memory = m; runs = none } ∣₁
+feeds x q s rooms n small (cons {x = f} l ls) m e d w σ F h =
+    ∥∥₁-elim (frame-called q s rooms n small f l m e d w σ F h x) ∥∥₁-prop (λ k.
+    ∥∥₁-map (feeds x q s rooms n small ls (k .memory) (k .runs .lies .sizes) (k .buffer) (k .size) (k .last) F (k .holds)) (λ t.
+    record { answers = answerOf (k .memory) ∷ t .answers; numbers = k .result ∷ t .numbers; last = t .last; memory = t .memory; runs = call (k .runs) (t .runs) }))

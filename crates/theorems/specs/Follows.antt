@@ -9,7 +9,7 @@ use Rattle.ledger.specs.Ledger.{Ledger}
 use Rattle.ledger.specs.Session.{step, runFrom}
 use Rattle.ledger.specs.Theorems.Once.{Once, once-step}
 use Rattle.configuration.specs.Limits.{Made}
-use Rattle.mcx11.specs.Contract.{Memory, configOf, lentWell, Displays, Tidily, OutsideStays}
+use Rattle.mcx11.specs.Contract.{Memory, configOf, lentWell, Displays, Tidily, OutsideStays, Frames}
 use Rattle.theorems.specs.Calls.{FrameCalls, none, call}
 use Rattle.mcx11.specs.Answer.{answer-is}
 use Rattle.theorems.specs.Numbers.{numbersFrom}
@@ -24,6 +24,26 @@ pub record FollowsLedger (k : Limits) (c : Config) (l : Ledger) (m : Memory) (fs
   pub well : lentWell k m' ≡ true
   pub outside : OutsideStays c m m'
 
+-- one call: the next finds the memory lent well and showing the next ledger, which has no message twice
+pub record Onward (k : Limits) (f : List ℕ) (l : Ledger) (m m₁ : Memory) : Type 0 where
+  pub config : configOf m₁ ≡ configOf m
+  pub well : lentWell k m₁ ≡ true
+  pub shown : Displays (configOf m₁) (step (configOf m) f l .ledger) m₁
+  pub once : Once (configOf m₁) (step (configOf m) f l .ledger .mailboxes)
+
+pub onward : {k : Limits} → Made k → {f : List ℕ} {m m₁ : Memory} {r : ℕ} (l : Ledger)
+    → lentWell k m ≡ true → Displays (configOf m) l m → Once (configOf m) (l .mailboxes) → Frames k f m m₁ r → Onward k f l m m₁
+onward made {f} {m} {m₁} l w h o s =
+    let c = configOf m in
+    let next = step c f l .ledger in
+    let e : configOf m₁ ≡ c = config-stays s in
+    record {
+      config = e;
+      well = well-again s made l w h o;
+      shown = subst (λ (x : Config). Displays x next m₁) (sym e) (s .good w l h .shown);
+      once = subst (λ (x : Config). Once x (next .mailboxes)) (sym e) (once-step c f l o);
+    }
+
 pub follows : {k : Limits} → Made k → {m m' : Memory} {fs answered : List (List ℕ)} {returned : List ℕ} (l : Ledger)
     → lentWell k m ≡ true → Displays (configOf m) l m → Once (configOf m) (l .mailboxes) → FrameCalls k m fs answered returned m' → FollowsLedger k (configOf m) l m fs answered returned m'
 unfolding runFrom numbersFrom
@@ -32,11 +52,9 @@ follows {k} made l w h o (call {f} {m} {m₁} {m'} {r} {fs} {answers} {numbers} 
     let c = configOf m in
     let next = step c f l in
     let g = s .good w l h in
-    let e : configOf m₁ ≡ c = config-stays s in
-    let h₁ : Displays (configOf m₁) (next .ledger) m₁ = subst (λ (x : Config). Displays x (next .ledger) m₁) (sym e) (g .shown) in
-    let o₁ : Once (configOf m₁) (next .ledger .mailboxes) = subst (λ (x : Config). Once x (next .ledger .mailboxes)) (sym e) (once-step c f l o) in
+    let n = onward made l w h o s in
     let rest : FollowsLedger k c (next .ledger) m₁ fs answers numbers m' =
-    subst (λ (x : Config). FollowsLedger k x (next .ledger) m₁ fs answers numbers m') e (follows made (next .ledger) (well-again s made l w h o) h₁ o₁ more) in
+    subst (λ (x : Config). FollowsLedger k x (next .ledger) m₁ fs answers numbers m') (n .config) (follows made (next .ledger) (n .well) (n .shown) (n .once) more) in
     let now = s .outside w in
     let later = rest .outside in
     record {

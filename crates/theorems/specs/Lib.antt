@@ -3,6 +3,7 @@ pub mod Numbers
 pub mod Follows
 pub mod Same
 pub mod AsBefore
+pub mod TurnsKept
 pub mod SomeLedger
 pub mod Agree
 pub mod OneValue

@@ -19,12 +19,12 @@ use Rattle.rings.specs.Laws.{holds-length}
 use Rattle.ledger.specs.Config.{Config, Limits, configIn, configRefusal}
 use Rattle.ledger.specs.Ledger as ledger
 use Rattle.ledger.specs.Ledger.{Ledger, mailbox, queue, held}
-use Rattle.ledger.specs.Lists.{within, all, keep}
+use Rattle.ledger.specs.Lists.{Bytes, within, all, keep}
 use Rattle.ledger.specs.Theorems.Checks.{and-left, and-right}
 use Rattle.ledger.specs.Services.{shape}
 use Rattle.ledger.specs.Session.{TimerLeft, timerLeft, run}
 use Rattle.ledger.specs.Theorems.Parts.{Every, every-at}
-use Rattle.ledger.specs.Theorems.Sound.{Bytes, sound}
+use Rattle.ledger.specs.Theorems.Sound.{sound}
 use Rattle.messages.specs.Pending as messages
 use Rattle.messages.specs.Pending.{letterOf, pendingIn, toTask, addressed, for, mailboxOf}
 use Rattle.messages.specs.Lying.{lying}

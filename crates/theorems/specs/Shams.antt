@@ -1,4 +1,4 @@
--- The shams that document 01 names, those of a signal that tells whom it woke, of a start only after, of a dropped message, of a season timer and of the brake module, and one in the memory, refuted: no executive that meets the contracts behaves so, whatever memory it is lent.
+-- The shams that document 01 names, those of a signal that tells whom it woke, of a start only after, of a dropped message, of a season timer, of a turn that is missed and of the brake module, and one in the memory, refuted: no executive that meets the contracts behaves so, whatever memory it is lent.
 use Prim.Native.Nat.{ℕ}
 use mathlib.Core.Path.{_≡_, sym, ap, _∙_}
 use mathlib.Core.Bool.{true}
@@ -9,7 +9,7 @@ use lib.ListN.{getD}
 use Rattle.ledger.specs.Lists.{byte}
 use Rattle.ledger.specs.Config.{Config, Limits, brakeModule, configIn, configRefusal, isWithin, configRefusalBy}
 use Rattle.ledger.specs.Session.{run, session}
-use Rattle.ledger.specs.Shams.{twoTasks, takes, puts, delays, starts, ticks, waits, waitsOwn, signals, exits, startsOther, threeTasks, executes, suspends, terminates, itself, tooMany, seventeen, seventeenAndMore, twoMessages, sends, sendsAndWaits, waitsOn, ends, startsSeason, startsShort, startsCyclic, the-answers}
+use Rattle.ledger.specs.Shams.{twoTasks, takes, puts, delays, starts, ticks, waits, waitsOwn, signals, exits, startsOther, threeTasks, executes, suspends, terminates, itself, tooMany, seventeen, seventeenAndMore, twoMessages, sends, sendsAndWaits, waitsOn, ends, startsSeason, startsShort, startsCyclic, twoTimers, startsFor, the-answers}
 use Rattle.tables.specs.Layout.{regions}
 use Rattle.tables.specs.Decode.{stateAs}
 use Rattle.tables.specs.Shows.{semaphoreCount}
@@ -192,6 +192,18 @@ module _ (a : List (List ℕ)) where
   no-unsigned-tocks x h =
       let is : shows 3 1 ≡ 1 = of-session x (the-answers .cyclic) 3 1 in
       omega (arith, h, is)
+
+  -- ---- a turn that is missed
+
+  -- its cyclic timer of one tock comes a tock late, or has one turn alone
+  pub no-late-turn : Played twoTasks (startsCyclic ∷ waitsOwn ∷ ticks ∷ waitsOwn ∷ ticks ∷ []) a → shows 5 1 ≡ 2 → ⊥
+  no-late-turn x h =
+      let is : shows 5 1 ≡ 1 = of-session x (the-answers .again) 5 1 in
+      omega (arith, h, is)
+
+  -- of two timers that are due in one tock it forgets one
+  pub no-forgotten-turn : Played twoTimers (startsFor 1 ∷ startsFor 2 ∷ waitsOwn ∷ waitsOwn ∷ ticks ∷ waitsOwn ∷ []) a → (shows 6 1 ≡ 2 → ⊥) → ⊥
+  no-forgotten-turn x h = h (of-session x (the-answers .together) 6 1)
 
   -- ---- the memory
 

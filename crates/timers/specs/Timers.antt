@@ -8,6 +8,7 @@ use lib.Dec.{ltb, eqb}
 use Rattle.ledger.specs.Lists.{keep, without, insertBy}
 use Rattle.ledger.specs.Ledger.{Timer}
 use Rattle.ledger.specs.Session.{TimerLeft}
+pub use Rattle.ledger.specs.Seen.{startedFor}
 use Rattle.rows.specs.Four.{le4, bytes4}
 use Rattle.rows.specs.Rows.{rowsOf}
 use Rattle.rows.specs.First.{firstOf, keepFrom}
@@ -79,9 +80,6 @@ tocksLeft t = t .left
 
 abbrev pub later : (left : ℕ) → TimerLeft → Bool
 later x t = ltb x (t .left)
-
-abbrev pub startedFor : (task semaphore : ℕ) → TimerLeft → Bool
-startedFor a b t = eqb (t .task) a && eqb (t .semaphore) b
 
 -- a purge of task a leaves the others' timers and, unless it takes all, those on other semaphores
 abbrev pub stays : (task : ℕ) (all : Bool) (semaphore : ℕ) → TimerLeft → Bool

@@ -36,7 +36,7 @@ fn engine(memory: &mut Lent, frame: &[u8]) -> Number {
     memory.frame(frame)
 }
 
-/// The prepared ones that the caller has room for, and random sessions.
+/// The prepared ones that the caller has room for, and random sessions, some of them with many cyclic timers.
 fn sessions(caller: Caller) -> impl Iterator<Item = (String, Script)> {
     let fits = move |script: &Script| Configuration::read_within(caller.limits(), &script.configuration).is_ok();
     let prepared = prepared().into_iter().filter(fits).enumerate();
@@ -45,7 +45,9 @@ fn sessions(caller: Caller) -> impl Iterator<Item = (String, Script)> {
         let tasks = TASKS[seed as usize % TASKS.len()];
         (format!("seed {seed}"), Generator::within(caller.limits(), seed).script(tasks..=tasks, 300))
     });
-    prepared.chain(random)
+    let beats = (first_seed()..first_seed() + 60)
+        .map(move |seed| (format!("beats, seed {seed}"), Generator::within(caller.limits(), seed).beats(300)));
+    prepared.chain(random).chain(beats)
 }
 
 fn sessions_of_every_size(caller: Caller) {

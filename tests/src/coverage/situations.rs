@@ -11,15 +11,17 @@ mod semaphores;
 mod settling;
 mod tasks;
 mod timers;
+mod turns;
 
 use super::Step;
 
 type Situation = (&'static str, fn(&Step) -> bool);
 
-const TABLES: [(&str, &[Situation]); 11] = [
+const TABLES: [(&str, &[Situation]); 12] = [
     ("answers", answers::TABLE),
     ("pairs", pairs::TABLE),
     ("season timers", seasons::TABLE),
+    ("turns", turns::TABLE),
     ("semaphores", semaphores::TABLE),
     ("messages", messages::TABLE),
     ("dropped", dropped::TABLE),
@@ -34,9 +36,9 @@ pub fn names() -> impl Iterator<Item = String> {
     TABLES.iter().flat_map(|(title, table)| table.iter().map(move |(name, _)| titled(title, name)))
 }
 
-/// Only accepted frames count, but for the answers, the pairs and the season timers.
+/// Only accepted frames count, but for the answers, the pairs, the season timers and the turns.
 pub fn reached(step: &Step) -> Vec<String> {
-    let tables = if step.answer.refusal() == 0 { &TABLES[..] } else { &TABLES[..3] };
+    let tables = if step.answer.refusal() == 0 { &TABLES[..] } else { &TABLES[..4] };
     let mut reached = Vec::new();
     for (title, table) in tables {
         reached.extend(table.iter().filter(|(_, fits)| fits(step)).map(|(name, _)| titled(title, name)));

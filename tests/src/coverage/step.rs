@@ -6,6 +6,7 @@ use crate::executive::Executive;
 use crate::semaphore::Semaphore;
 use crate::tasks::{Block, Blocks, Letter, Request, Task};
 use crate::timers::Timer;
+use crate::turns::Turns;
 
 pub struct Step<'a> {
     pub before: &'a Executive,
@@ -14,6 +15,8 @@ pub struct Step<'a> {
     pub after: &'a Executive,
     /// Task and semaphore of each season timer that is active before the frame: the timer itself doesn't tell.
     pub seasons: &'a [(u8, u8)],
+    /// All timers of the session, behind the frame.
+    pub turns: &'a Turns,
 }
 
 impl Step<'_> {

@@ -13,15 +13,15 @@ fn configuration(timers: u8) -> Vec<u8> {
     vec![2, 6, 0, timers, 0, 1, 0, 125, 0, 0]
 }
 
-fn tick() -> Vec<u8> {
+pub fn tick() -> Vec<u8> {
     service(TICK, 0, 0)
 }
 
-fn timer(task: u8, semaphore: u8, tocks: i16) -> Vec<u8> {
+pub fn timer(task: u8, semaphore: u8, tocks: i16) -> Vec<u8> {
     [vec![TIMER, task, semaphore], tocks.to_be_bytes().to_vec()].concat()
 }
 
-fn season(task: u8, semaphore: u8, tocks: i32) -> Vec<u8> {
+pub fn season(task: u8, semaphore: u8, tocks: i32) -> Vec<u8> {
     [vec![SEASON_TIMER, task, semaphore], tocks.to_be_bytes().to_vec()].concat()
 }
 

@@ -1,5 +1,5 @@
 //! Examples worked out by hand from the papers: those that document 01 marks, and sessions for each request of document 02 that
-//! changes what a frame or a configuration means.
+//! changes what a frame or a configuration means, or says more about frames.
 
 mod callers;
 mod dropped;
@@ -7,6 +7,7 @@ mod marked;
 mod pairs;
 mod season;
 mod told;
+mod turns;
 
 use plain_executive::executive::Executive;
 use plain_executive::line;

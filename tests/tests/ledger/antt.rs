@@ -3,6 +3,8 @@
 use plain_executive::items::{Items, OutcomeItem, RequestItem, TaskItem, TimerItem};
 use plain_executive::semaphore::Semaphore;
 use plain_executive::tasks::{Block, Letter};
+use plain_executive::tocks::Tocks;
+use plain_executive::turns::Followed;
 
 pub fn list(items: impl IntoIterator<Item = String>) -> String {
     let mut text = String::from("(");
@@ -79,4 +81,18 @@ fn letter(letter: &Letter) -> String {
 
 fn timer(timer: &TimerItem) -> String {
     format!("timer {} {} {} {}", timer.task, timer.semaphore, timer.tocks_left, timer.period)
+}
+
+pub fn tocks(value: Tocks) -> String {
+    match value {
+        Tocks::OneShot(tocks) => format!("oneShot {tocks}"),
+        Tocks::Cyclic(period) => format!("cyclic {period}"),
+    }
+}
+
+pub fn followed(timer: &Followed) -> String {
+    let spared = timer.is_spared();
+    let tocks = if spared { timer.tocks } else { 0 };
+    let value = self::tocks(timer.value);
+    format!("started {} {} ({value}) {} {spared} {tocks}", timer.task, timer.semaphore, timer.turns)
 }

@@ -46,7 +46,7 @@ module _ {B : Type 0} where
       let n = refusal c l f in
       cond (eqb n 0) (settleThen (2 * c .T) c (accept c f l) (λ r l′. k l′ (answer 0 r l′))) (k l (answer n 0 l))
 
-  stepThen-is : (c : Config) (f : List ℕ) (l : Ledger) (k : Ledger → List ℕ → B) → stepThen c f l k ≡ k (step c f l .ledger) (step c f l .answered)
+  pub stepThen-is : (c : Config) (f : List ℕ) (l : Ledger) (k : Ledger → List ℕ → B) → stepThen c f l k ≡ k (step c f l .ledger) (step c f l .answered)
   unfolding stepThen step
   stepThen-is c f l k = go (eqb (refusal c l f) 0)
     where

@@ -8,6 +8,7 @@ use plain_executive::limits::Limits;
 use plain_executive::numbers::Number;
 use plain_executive::session;
 use plain_executive::tocks::{self, Tocks};
+use plain_executive::turns::{Followed, Turns};
 
 /// What stands in front of facts about sessions.
 pub const SESSIONS: &str = "\
@@ -24,6 +25,17 @@ use Rattle.ledger.specs.Lines.{output}
 use Rattle.ledger.specs.Computing.Hex.{hex}
 use Rattle.ledger.specs.Computing.Quick.{everything}
 use Rattle.sessions.specs.Compared.{all, compared, task, letter, timer}
+";
+
+/// What stands in front of facts about turns.
+pub const TURNS: &str = "\
+use Prim.Native.Nat.{ℕ}
+use Prim.Native.String.{String}
+use mathlib.Core.Path.{_≡_, refl}
+use mathlib.Core.Bool.{Bool, true, false}
+use mathlib.Core.List.{List, [], _∷_}
+use Rattle.ledger.specs.Time.{TockValue, oneShot, cyclic}
+use Rattle.sessions.specs.Followed.{allFollowed, followedIn, started}
 ";
 
 /// What stands in front of facts about tocks.
@@ -62,10 +74,24 @@ impl Results {
     }
 }
 
+/// The timers that a session starts, as this implementation follows them.
+pub fn followed(script: &Script) -> Vec<Followed> {
+    let mut executive = Executive::configure(&script.configuration).expect("an accepted configuration");
+    let mut turns = Turns::fresh(executive.configuration());
+    let mut after = executive.items();
+    for frame in &script.frames {
+        let before = after;
+        let number = executive.frame(frame).refusal();
+        after = executive.items();
+        turns.watch(frame, number, &before, &after);
+    }
+    turns.timers().to_vec()
+}
+
 /// That the ledger leads to these results.
 pub fn session(number: usize, script: &Script, results: &Results) -> Fact {
     let configuration = antt::digits(&script.configuration);
-    let frames = antt::list(script.frames.iter().map(|frame| antt::digits(frame)));
+    let frames = frames(script);
     let answers = antt::list(results.answers.iter().map(|answer| antt::digits(answer)));
     let items = antt::items(&results.items);
     Fact {
@@ -74,6 +100,23 @@ pub fn session(number: usize, script: &Script, results: &Results) -> Fact {
         unfolding: "all",
         replay: replay(&script.lines()),
     }
+}
+
+/// That the ledger starts these timers and no others, with these turns.
+pub fn turns(number: usize, script: &Script, timers: &[Followed]) -> Fact {
+    let configuration = antt::digits(&script.configuration);
+    let frames = frames(script);
+    let timers = antt::list(timers.iter().map(antt::followed));
+    Fact {
+        name: format!("turns-{number}"),
+        equation: format!("followedIn {configuration} {frames}\n  ≡ {timers}"),
+        unfolding: "allFollowed",
+        replay: replay(&script.lines()),
+    }
+}
+
+fn frames(script: &Script) -> String {
+    antt::list(script.frames.iter().map(|frame| antt::digits(frame)))
 }
 
 /// A frame behind a refused configuration is not answered.
@@ -123,11 +166,7 @@ pub fn season_tock_value(number: usize, x: u32) -> Fact {
 }
 
 fn written(value: Result<Tocks, Number>) -> String {
-    match value {
-        Ok(Tocks::OneShot(tocks)) => format!("oneShot {tocks}"),
-        Ok(Tocks::Cyclic(period)) => format!("cyclic {period}"),
-        Err(_) => "none".into(),
-    }
+    value.map_or("none".into(), antt::tocks)
 }
 
 pub fn milliseconds(number: usize, milliseconds: u16, per_tock: u16) -> Fact {

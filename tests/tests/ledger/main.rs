@@ -1,23 +1,28 @@
-//! The ledger's own definitions, computed by the checker on random sessions: their answers byte for byte and their items
-//! afterwards are those of this implementation.
+//! The ledger's own definitions, computed by the checker on random sessions: their answers byte for byte, their items
+//! afterwards and the turns of the timers that they start are those of this implementation.
 
 mod antt;
 mod compared;
 mod facts;
+mod followed;
 mod scratch;
 
 use std::iter::once;
 
-use facts::{Fact, Results};
+use facts::{followed, Fact, Results};
+use plain_executive::command::{PURGE, TICK, TIMER};
 use plain_executive::coverage::Coverage;
 use plain_executive::generator::{largest, prepared, Generator, Script};
 use plain_executive::limits::Limits;
 use plain_executive::random::Random;
+use plain_executive::turns::{Ended, Followed};
 use scratch::File;
 
 const FRAMES: usize = 60;
 const FURTHER: usize = 60;
 const REFUSED: usize = 60;
+const BEATS: usize = 28;
+const BEAT_FRAMES: usize = 50;
 
 /// Other seeds, by the variable SEED, give other sessions.
 fn seed() -> u64 {
@@ -73,6 +78,39 @@ fn covered(scripts: &[Script]) -> Coverage {
 fn sessions(scripts: &[Script]) -> Vec<Fact> {
     let numbered = scripts.iter().enumerate();
     numbered.map(|(number, script)| facts::session(number, script, &Results::of(script))).collect()
+}
+
+/// Sessions with timers that together reach every situation of turns: the prepared ones but for the longest, and random ones.
+fn timed() -> Vec<Script> {
+    let starts = |script: &Script| !followed(script).is_empty();
+    let short = prepared().into_iter().filter(|script| script.frames.len() <= 100);
+    let mut scripts: Vec<Script> = short.filter(starts).collect();
+    let mut coverage = covered(&scripts);
+    let random = (10_000..20_000).map(|session| Generator::new(seed() + session).beats(BEAT_FRAMES));
+    scripts.extend(chosen(random.filter(starts), BEATS, |script| {
+        coverage.watch_script(script);
+        missing_of_turns(&coverage).len()
+    }));
+    scripts
+}
+
+fn missing_of_turns(coverage: &Coverage) -> Vec<String> {
+    coverage.missing_of_frames().into_iter().filter(|name| name.starts_with("turns: ")).collect()
+}
+
+/// All timers of these sessions.
+fn turns() -> Vec<Fact> {
+    let scripts = timed();
+    let timers: Vec<Followed> = scripts.iter().flat_map(followed).collect();
+    let cyclic = timers.iter().filter(|timer| timer.is_cyclic()).count();
+    let ended = timers.iter().filter(|timer| !timer.is_spared()).count();
+    let turns: u64 = timers.iter().map(|timer| timer.turns).sum();
+    println!("{} timers, {cyclic} cyclic, {ended} that a frame ended, {turns} turns", timers.len());
+    assert!(cyclic > 120 && ended > 35 && turns > 400);
+    let missing = missing_of_turns(&covered(&scripts));
+    assert!(missing.is_empty(), "not compared: {missing:#?}");
+    let numbered = scripts.iter().enumerate();
+    numbered.map(|(number, script)| facts::turns(number, script, &followed(script))).collect()
 }
 
 /// Frames that together have every cause of a refused configuration.
@@ -138,6 +176,7 @@ fn the_ledger_computes_the_same() {
     let scripts = scripts();
     let sessions = sessions(&scripts);
     let mut files: Vec<File> = sessions.chunks(8).map(|group| (facts::SESSIONS, group.to_vec())).collect();
+    files.extend(turns().chunks(8).map(|group| (facts::TURNS, group.to_vec())));
     files.push((facts::SESSIONS, refused_configurations()));
     files.push((facts::SESSIONS, configurations_of_the_module()));
     files.push((facts::SESSIONS, inputs()));
@@ -149,18 +188,43 @@ fn the_ledger_computes_the_same() {
     assert!(missing.is_empty(), "not compared: {missing:#?}");
 }
 
-/// The comparison can fail: on one altered byte of an answer, and on one altered item.
-#[test]
-fn an_altered_session_is_found() {
+/// What stands in front of two facts, of which the second doesn't hold.
+type Altered = (&'static str, Fact, Fact);
+
+/// One altered byte of an answer, and one altered item.
+fn altered_sessions() -> Vec<Altered> {
     let script = Generator::new(seed()).script(5..=5, 12);
     let honest = Results::of(&script);
     let mut altered = [honest.clone(), honest.clone()];
     altered[0].answers[7][1] ^= 1;
     altered[1].items.ticks ^= 1;
-    for (number, results) in (1..).zip(&altered) {
-        let facts = [facts::session(0, &script, &honest), facts::session(number, &script, results)];
-        let found = scratch::check("ledger-altered", &[(facts::SESSIONS, facts.to_vec())]);
+    let fact = |number, results| facts::session(number, &script, results);
+    (1..).zip(&altered).map(|(number, results)| (facts::SESSIONS, fact(0, &honest), fact(number, results))).collect()
+}
+
+/// Of two timers the second is purged. A turn too many, a tock too many, each taken for one as the other is, and a timer too few.
+fn altered_turns() -> Vec<Altered> {
+    let timer = |semaphore: u8| [TIMER, 0, semaphore, 0xFF, 0xFF];
+    let tick = [TICK, 0, 0, 0, 0];
+    let frames = [timer(1), timer(2), tick, [PURGE, 0, 2, 0, 1], tick].map(Vec::from);
+    let script = Script { configuration: vec![1, 2, 0, 2, 0, 1, 0, 125, 0], frames: frames.to_vec() };
+    let honest = followed(&script);
+    let mut altered = vec![honest.clone(); 5];
+    altered[0][0].turns += 1;
+    altered[1][0].tocks += 1;
+    altered[2][0].ended = Some(Ended::Purged);
+    altered[3][1] = Followed { ended: None, tocks: 0, ..honest[1] };
+    altered[4].pop();
+    let fact = |number, timers| facts::turns(number, &script, timers);
+    (1..).zip(&altered).map(|(number, timers)| (facts::TURNS, fact(0, &honest), fact(number, timers))).collect()
+}
+
+/// The comparison can fail.
+#[test]
+fn an_altered_result_is_found() {
+    for (head, honest, altered) in altered_sessions().into_iter().chain(altered_turns()) {
+        let found = scratch::check("ledger-altered", &[(head, vec![honest, altered.clone()])]);
         let difference = found.expect_err("a difference");
-        assert!(difference.starts_with(&format!("session-{number} differs")), "{difference}");
+        assert!(difference.starts_with(&format!("{} differs", altered.name)), "{difference}");
     }
 }

@@ -6,6 +6,7 @@ use std::process::Command;
 
 use crate::compared::COMPARED;
 use crate::facts::Fact;
+use crate::followed::FOLLOWED;
 
 const LIBRARY: &str = "// Random sessions.\n";
 const CRATES: &str = "ledger:\nsessions: ledger\n";
@@ -39,15 +40,15 @@ fn write_ledger(from: &Path, to: &Path) {
     copy(&from.join("specs"), &to.join("specs"));
     let root = to.join("specs/Lib.antt");
     let modules = fs::read_to_string(&root).expect("the ledger's list of modules");
-    let kept = modules.lines().filter(|line| !line.contains("Theorems") && !line.contains("Examples"));
+    let kept = modules.lines().filter(|line| !is_left_out(line));
     write(&root, &(kept.collect::<Vec<&str>>().join("\n") + "\n"));
 }
 
 fn copy(from: &Path, to: &Path) {
     fs::create_dir_all(to).expect("a folder of the scratch repository");
     let entries = fs::read_dir(from).unwrap_or_else(|error| panic!("{}: {error}", from.display()));
-    for path in entries.flatten().map(|entry| entry.path()).filter(|path| !is_left_out(path)) {
-        let copied = to.join(path.file_name().expect("a name"));
+    for entry in entries.flatten().filter(|entry| !is_left_out(&entry.file_name().to_string_lossy())) {
+        let (path, copied) = (entry.path(), to.join(entry.file_name()));
         if path.is_dir() {
             copy(&path, &copied);
         } else {
@@ -56,9 +57,9 @@ fn copy(from: &Path, to: &Path) {
     }
 }
 
-fn is_left_out(path: &Path) -> bool {
-    let stem = path.file_stem().unwrap_or_default();
-    stem == "Theorems" || stem == "Examples"
+/// A module, by its file's name or the line that names it.
+fn is_left_out(module: &str) -> bool {
+    module.contains("Theorems") || module.contains("Examples")
 }
 
 fn write_sessions(scratch: &Path, files: &[File]) {
@@ -67,7 +68,8 @@ fn write_sessions(scratch: &Path, files: &[File]) {
     write(&scratch.join("crates.txt"), CRATES);
     write(&sessions.join("src/lib.rt"), LIBRARY);
     write(&sessions.join("specs/Compared.antt"), COMPARED);
-    let mut root = String::from("pub mod Compared\n");
+    write(&sessions.join("specs/Followed.antt"), FOLLOWED);
+    let mut root = String::from("pub mod Compared\npub mod Followed\n");
     for (number, (head, facts)) in files.iter().enumerate() {
         let texts: String = facts.iter().map(text).collect();
         write(&sessions.join(format!("specs/Facts{number}.antt")), &format!("{head}\n{texts}"));

@@ -35,8 +35,12 @@ expireAll (t ∷ ts) l = expireAll ts (expire t l)
 unfoldable pub due : Ledger → Timer → Bool
 due l t = leb (t .due) (l .N)
 
+-- those that a tock removes as due, in the order in which they then signal
+abbrev pub dueNow : Ledger → List Timer
+dueNow l = keep (due l) (l .timers)
+
 unfoldable pub tock : Ledger → Ledger
-tock l = expireAll (keep (due l) (l .timers)) (setTimers (keep (λ t. not (due l t)) (l .timers)) l)
+tock l = expireAll (dueNow l) (setTimers (keep (λ t. not (due l t)) (l .timers)) l)
 
 -- after K ticks a tock passes
 unfoldable pub tick : Config → Ledger → Ledger

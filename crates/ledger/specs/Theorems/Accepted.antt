@@ -11,7 +11,7 @@ use lib.ListN.{length}
 use Rattle.ledger.specs.Lists.{first, within, byte}
 use Rattle.ledger.specs.Config.{Config}
 use Rattle.ledger.specs.Ledger.{Ledger, running}
-use Rattle.ledger.specs.Services.{Code, WAIT, SIGNAL, PEND, SEND, SENDW, RECEIVE, DEQUEUE, ENQUEUE, RESUME, SUSPEND, TERMINATE, EXECUTE, DELAY, TIMER, PURGE, TICK, EXIT, SEASON-TIMER, shape}
+use Rattle.ledger.specs.Services.{Code, WAIT, SIGNAL, PEND, SEND, SENDW, RECEIVE, DEQUEUE, ENQUEUE, RESUME, SUSPEND, TERMINATE, EXECUTE, DELAY, TIMER, PURGE, TICK, EXIT, SEASON-TIMER, codes, shape}
 use Rattle.ledger.specs.Refusals.{FieldA, noA, aTask, toStart, selfOrTask, anyOrTask, aQueue, FieldB, noB, ofSelf, ofTask, orNone, FieldX, noX, aMessage, aTockValue, aSwitch, Fields, fields, Follows, xAlone, xAndEntry, longX, Call, meantTask, meantSemaphore, codeAt, call, wrongTask, wrongSemaphore, wrongQueue, isMessage, isTockValue, wrongEntry, meets25, meets26, meets21, inAMailbox, haveTimer, fromInput, fromState, refusal}
 use Rattle.ledger.specs.Theorems.Items.{Numbered}
 use Rattle.ledger.specs.Theorems.Checks.{or-left, asked, within-numbered, passes, passes-joined, Numbers}
@@ -197,6 +197,22 @@ good c self f h e =
     let s : fields k .service ≡ true → Numbered (c .T) self = λ v. record { from = omega (arith, eqb-false self 0 (asked (fields k .service) _ null v)); upto = h } in
     let u = used c self (byte 1 f) (byte 2 f) k s task queue sem in
     record { self = s; A = u .A; B = u .B; X = goodNumber c _ _ message tocks; entry = goodEntry c _ _ _ width }
+
+-- 4, and of a frame with a tock value 9, 24 and 23, whatever the number of tasks
+pub accepted-code : (c : Config) (l : Ledger) (f : List ℕ) → refusal c l f ≡ 0 → Numbered (length codes) (byte 0 f)
+unfolding refusal fromInput
+accepted-code c l f e =
+    let (short, (code, rest)) = passes _ refl (passes-joined (fromInput c (running l) f) _ (input-numbers c (running l) f) e .0) in
+    within-numbered (length codes) (byte 0 f) (not-false _ code)
+
+pub accepted-tocks : (c : Config) (l : Ledger) (f : List ℕ) → refusal c l f ≡ 0 → isTockValue (fields (codeAt (byte 0 f)) .X) ≡ true
+    → let k = call c (running l) f in GoodTocks c l (k .a) (k .b) (k .x)
+unfolding refusal fromInput fromState call
+accepted-tocks c l f e v =
+    let p = passes-joined (fromInput c (running l) f) (fromState c l (call c (running l) f)) (input-numbers c (running l) f) e in
+    let (short, (code, (long, (null, (task, (sem, (queue, (message, (tocks, (width, done)))))))))) = passes _ refl (p .0) in
+    let (busy, (before, (lies, (waits, (timer, (full, none)))))) = passes _ refl (p .1) in
+    record { some = eqb-false _ 0 (asked _ _ tocks v); single = asked _ _ timer v; free = leb-false _ _ (asked _ _ full v) }
 
 pub accepted : (c : Config) (l : Ledger) (f : List ℕ) → length (l .tasks) ≡ c .T → refusal c l f ≡ 0 → Accepted c l (call c (running l) f)
 unfolding refusal fromState call

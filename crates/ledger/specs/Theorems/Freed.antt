@@ -1,26 +1,25 @@
 -- A dropped message frees its sender: nobody is left waiting on the semaphore of a message in the mailbox of a terminated task.
 -- Each is signalled, after the terminated task's own wait was withdrawn; and settling lets only a task with an open request wait again, and on a queue's semaphore alone.
-use Prim.Native.Nat.{ℕ, _*_}
+use Prim.Native.Nat.{ℕ}
 use mathlib.Core.Path.{_≡_, refl, sym, _∙_, ap, subst}
 use mathlib.Core.Bool.{Bool, true, false}
 use mathlib.Core.List.{List, [], map}
-use borrow.Author.Tests.{eq-eqb, ne-eqb, eqb-true, eqb-false}
+use borrow.Author.Tests.{ne-eqb, eqb-true, eqb-false}
 use lib.Dec.{eqb}
 use Rattle.ledger.specs.Lists.{at, put, byte}
 use Rattle.ledger.specs.Config.{Config, configIn, configRefusal}
 use Rattle.ledger.specs.Ledger.{PENDING, WAITING, plain, Task, Ledger, nullTask, task, semaphoreOf, mailbox, running, setOutcome}
 use Rattle.ledger.specs.Services.{signalAll, notWaiting, dropMessages, terminate, TERMINATE, effect}
 use Rattle.ledger.specs.Refusals.{selfOrTask, fields, meantTask, codeAt, call, refusal}
-use Rattle.ledger.specs.Session.{Settles, isOpen, settle, accept, step, run}
+use Rattle.ledger.specs.Session.{Settles, isOpen, accept, step, run}
 use Rattle.ledger.specs.Theorems.Items.{at-put-other, at-put-part, at-map, put-here}
 use Rattle.ledger.specs.Theorems.Parts.{Every, every-to, every-both, every-unmap}
 use Rattle.ledger.specs.Theorems.Changes.{updates}
 use Rattle.ledger.specs.Theorems.Configured.{configured}
-use Rattle.ledger.specs.Theorems.Sizes.{of-accept, step-settles}
+use Rattle.ledger.specs.Theorems.Sizes.{step-is-the-loop}
 use Rattle.ledger.specs.Theorems.Named.{Named}
 use Rattle.ledger.specs.Theorems.Terminated.{withdrawn, ended}
-use Rattle.ledger.specs.Theorems.Steps.{any-values, accepts}
-use Rattle.ledger.specs.Theorems.Kept.{named-through}
+use Rattle.ledger.specs.Theorems.Kept.{accept-named}
 use Rattle.ledger.specs.Theorems.HandedOver.{ready-run}
 use Rattle.ledger.specs.Theorems.Told.{waits, acceptAs}
 pub mod Tasks
@@ -95,12 +94,8 @@ module _ (c : Config) (f : List ℕ) (l : Ledger) (named : Named c l) (z : refus
   is = ap (acceptAs c f l) e
 
   -- what settling makes of the ledger that the signals left
-  settled : Settles c (accept c f l) (settle (2 * c .T) c (accept c f l) .reissues) (step c f l .ledger)
-  unfolding step
-  settled = rw (eq-eqb (refusal c l f) 0 z) (step-settles c f l (named .tasks))
-
-  still-named : Named c (accept c f l)
-  still-named = named-through (accepts c (λ v. Unit {0}) f l (any-values f) named z) (of-accept c f l) named
+  settled : Settles c (accept c f l) (byte 2 (step c f l .answered)) (step c f l .ledger)
+  settled = step-is-the-loop c f l (named .tasks) z
 
   free : Every (λ m. (t : ℕ) → semaphoreOf l (m .semaphore) ≡ WAITING t → waits (accept c f l) t ≡ false) (mailbox l ending)
   unfolding updates
@@ -114,7 +109,7 @@ module _ (c : Config) (f : List ℕ) (l : Ledger) (named : Named c l) (z : refus
   nobody-left : Every (λ m. Unwaited (step c f l .ledger) (m .semaphore)) (mailbox l ending)
   unfolding updates
   nobody-left =
-      every-both (λ m s g. unwaited-on c (m .semaphore) (s .semaphore .upto) settled still-named (subst (λ k. Unwaited k (m .semaphore)) (sym is) g))
+      every-both (λ m s g. unwaited-on c (m .semaphore) (s .semaphore .upto) settled (accept-named c f l named z) (subst (λ k. Unwaited k (m .semaphore)) (sym is) g))
       (named .messages ending) (gone ending begun)
 
   terminate-frees : Frees c f l (call c (running l) f .a)

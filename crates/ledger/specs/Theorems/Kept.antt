@@ -16,7 +16,7 @@ use Rattle.ledger.specs.Theorems.Sizes.{sizes, sizesOf, of-accept, of-re
 use Rattle.ledger.specs.Theorems.Fresh.{fresh-task, fresh-mailbox}
 use Rattle.ledger.specs.Theorems.Changes.{Asks, Sent, Change, Changes, start, _⨾_}
 use Rattle.ledger.specs.Theorems.Named.{Timed, Named, requests-kept, timed-kept, sent-kept}
-use Rattle.ledger.specs.Theorems.Steps.{Values, accepts, reissues}
+use Rattle.ledger.specs.Theorems.Steps.{Values, any-values, accepts, reissues}
 
 pub fresh-named : (c : Config) → length (c .states) ≡ c .T → Named c (fresh c)
 unfolding sizes sizesOf fresh
@@ -39,6 +39,10 @@ named-through {c} k e n = record {
   timers = through (λ l. Every (Timed c) (l .timers)) (λ l l′ s. timed-kept s) k (n .timers);
   messages = through (λ l. (t : ℕ) → Every (Sent c) (mailbox l t)) (λ l l′ s. sent-kept s) k (n .messages);
 }
+
+-- before settling
+pub accept-named : (c : Config) (f : List ℕ) (l : Ledger) → Named c l → refusal c l f ≡ 0 → Named c (accept c f l)
+accept-named c f l n z = named-through (accepts c (λ v. Unit {0}) f l (any-values f) n z) (of-accept c f l) n
 
 module _ (c : Config) (X : TockValue → Type 0) (P : Ledger → Type 0) (change : (l l′ : Ledger) → Change c X l l′ → P l → P l′) where
   -- with what the steps rely on

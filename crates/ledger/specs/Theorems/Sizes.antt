@@ -87,7 +87,7 @@ of-signalled PENDING b l = simp items
 of-signalled DONE b l = simp items
 of-signalled (WAITING t) b l = simp (of-event, items)
 
-of-signal : (b : ℕ) (l : Ledger) → sizes (signal b l .ledger) ≡ sizes l
+pub of-signal : (b : ℕ) (l : Ledger) → sizes (signal b l .ledger) ≡ sizes l
 unfolding signal
 of-signal b l = of-signalled (semaphoreOf l b) b l
 

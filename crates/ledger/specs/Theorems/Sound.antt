@@ -3,7 +3,7 @@ use Prim.Native.Nat.{ℕ, _<_}
 use mathlib.Core.Path.{_≡_, _∙_}
 use mathlib.Core.List.{List}
 use native.Mathlib.Omega.{arith}
-use Rattle.ledger.specs.Lists.{byte, word, longWord}
+use Rattle.ledger.specs.Lists.{byte, word, longWord, Bytes}
 use Rattle.ledger.specs.Config.{Config, configIn, configRefusal}
 use Rattle.ledger.specs.Ledger.{Ledger, fresh}
 use Rattle.ledger.specs.Time.{tockValue, longTockValue}
@@ -47,10 +47,6 @@ pub record Sound (c : Config) (l : Ledger) : Type 0 where
   pub waits : SoundWaits c (l .tasks) (l .semaphores)
   -- slots of 16 bytes, an entry outcome is the slot's front
   pub slots : SoundSlots c (l .tasks)
-
--- a frame of bytes
-abbrev pub Bytes : List ℕ → Type 0
-Bytes f = (i : ℕ) → byte i f < 256
 
 -- its tock value, of two bytes or of four
 timed : (u : Follows) (f : List ℕ) → Bytes f → Value (Tocks mostTocks) u (valueX u f)

@@ -4,7 +4,7 @@ use mathlib.Core.Path.{_≡_, _∙_, ap}
 use mathlib.Core.Bool.{false}
 use mathlib.Core.List.{List}
 use borrow.Author.Tests.{eq-eqb}
-use Rattle.ledger.specs.Lists.{byte}
+use Rattle.ledger.specs.Lists.{byte, Bytes}
 use Rattle.ledger.specs.Config.{Config, configIn, configRefusal}
 use Rattle.ledger.specs.Ledger.{woke, Ledger, task, running}
 use Rattle.ledger.specs.Services.{SIGNAL}
@@ -16,7 +16,7 @@ use Rattle.ledger.specs.Theorems.Settling.{settles}
 use Rattle.ledger.specs.Theorems.Sizes.{of-accept}
 use Rattle.ledger.specs.Theorems.Steps.{any-values, accepts}
 use Rattle.ledger.specs.Theorems.Kept.{through, named-through}
-use Rattle.ledger.specs.Theorems.Sound.{Bytes, Sound, sound}
+use Rattle.ledger.specs.Theorems.Sound.{Sound, sound}
 use Rattle.ledger.specs.Theorems.Sound.Queues.{SoundQueues, queues-kept}
 use Rattle.ledger.specs.Theorems.Untaken.{Beside}
 use Rattle.ledger.specs.Theorems.HandedOver.{settling, Ready, ready-run}

@@ -1,4 +1,4 @@
--- Semaphores: a signal leaves PENDING or DONE, and settling lets a task wait on a queue's semaphore alone.
+-- Semaphores: a signal leaves PENDING or DONE, and settling touches a queue's semaphores alone.
 use Prim.Native.Nat.{ℕ, _+_, _≤_}
 use mathlib.Core.Path.{_≡_, refl, _∙_, ap}
 use mathlib.Core.Bool.{Bool, true, false}
@@ -15,7 +15,7 @@ use Rattle.ledger.specs.Theorems.Items.{Numbered, at-put-other, at-put-e
 use Rattle.ledger.specs.Theorems.Checks.{cond-both}
 use Rattle.ledger.specs.Theorems.Parts.{Every, nil, cons}
 use Rattle.ledger.specs.Theorems.Sizes.{of-reissue}
-use Rattle.ledger.specs.Theorems.Signals.{signals-keep}
+use Rattle.ledger.specs.Theorems.Signals.{signals-keep, other-signal}
 use Rattle.ledger.specs.Theorems.Changes.{Asks, updates}
 use Rattle.ledger.specs.Theorems.Named.{Named}
 use Rattle.ledger.specs.Theorems.Steps.{reissues}
@@ -60,20 +60,10 @@ all-unwaited (b ∷ bs) l = cons (of-signalAll bs b (signal b l .ledger) (here-s
 
 -- ---- settling
 
--- b is no queue's semaphore
+-- b is no queue's semaphore: it stays as it is
 module _ (c : Config) (b : ℕ) (low : b ≤ c .S + c .T) where
-  of-woken : (s : Semaphore) (d : ℕ) (l : Ledger) → Unwaited l b → Unwaited (woken s d l) b
-  unfolding woken
-  of-woken PENDING d l h = h
-  of-woken DONE d l h = h
-  of-woken (WAITING t) d l h = of-signal d b l h
-
-  of-wakeWaiter : (d : ℕ) (l : Ledger) → Unwaited l b → Unwaited (wakeWaiter d l) b
-  unfolding wakeWaiter
-  of-wakeWaiter d l h = of-woken (semaphoreOf l d) d l h
-
-  elsewhere : (d : ℕ) (v : Semaphore) (ss : List Semaphore) → (b ≡ d → ⊥) → isWaiting (at ss b PENDING) ≡ false → isWaiting (at (put ss d v) b PENDING) ≡ false
-  elsewhere d v ss n h = ap isWaiting (at-put-other ss d b v PENDING n) ∙ h
+  abbrev Stays : Ledger → Ledger → Type 0
+  Stays l l′ = semaphoreOf l′ b ≡ semaphoreOf l b
 
   not-notEmpty : (q : ℕ) → Numbered (c .Q) q → b ≡ notEmpty c q → ⊥
   unfolding notEmpty
@@ -83,34 +73,47 @@ module _ (c : Config) (b : ℕ) (low : b ≤ c .S + c .T) where
   unfolding notFull
   not-notFull q n e = omega (arith, n .from)
 
-  received-on : (t a : ℕ) (o : Option Message) (l : Ledger) → Unwaited l b → Unwaited (received t a o l) b
+  of-woken : (s : Semaphore) (d : ℕ) (l : Ledger) → (b ≡ d → ⊥) → Stays l (woken s d l)
+  unfolding woken
+  of-woken PENDING d l n = refl
+  of-woken DONE d l n = refl
+  of-woken (WAITING t) d l n = other-signal d b l n
+
+  of-wakeWaiter : (d : ℕ) (l : Ledger) → (b ≡ d → ⊥) → Stays l (wakeWaiter d l)
+  unfolding wakeWaiter
+  of-wakeWaiter d l n = of-woken (semaphoreOf l d) d l n
+
+  received-on : (t a : ℕ) (o : Option Message) (l : Ledger) → Stays l (received t a o l)
   unfolding updates setRequest setMessageWait received
-  received-on t a nothing l h = h
-  received-on t a (some m) l h = h
+  received-on t a nothing l = refl
+  received-on t a (some m) l = refl
 
-  dequeued-on : (t q : ℕ) (es : List (List ℕ)) (l : Ledger) → Numbered (c .Q) q → Unwaited l b → Unwaited (dequeued c t q es l) b
+  dequeued-on : (t q : ℕ) (es : List (List ℕ)) (l : Ledger) → Numbered (c .Q) q → Stays l (dequeued c t q es l)
   unfolding updates setRequest dequeued
-  dequeued-on t q [] l n h = elsewhere (notEmpty c q) (WAITING t) (l .semaphores) (not-notEmpty q n) h
-  dequeued-on t q (e ∷ es) l n h = of-wakeWaiter (notFull c q) (takeEntry c t q e l) h
+  dequeued-on t q [] l n = at-put-other (l .semaphores) (notEmpty c q) b (WAITING t) PENDING (not-notEmpty q n)
+  dequeued-on t q (e ∷ es) l n = of-wakeWaiter (notFull c q) (takeEntry c t q e l) (not-notFull q n)
 
-  enqueued-on : (t q : ℕ) (e : List ℕ) (f : Bool) (l : Ledger) → Numbered (c .Q) q → Unwaited l b → Unwaited (enqueued c t q e f l) b
+  enqueued-on : (t q : ℕ) (e : List ℕ) (f : Bool) (l : Ledger) → Numbered (c .Q) q → Stays l (enqueued c t q e f l)
   unfolding updates setRequest enqueued
-  enqueued-on t q e true l n h = elsewhere (notFull c q) (WAITING t) (l .semaphores) (not-notFull q n) h
-  enqueued-on t q e false l n h = of-wakeWaiter (notEmpty c q) (putEntry q e l) h
+  enqueued-on t q e true l n = at-put-other (l .semaphores) (notFull c q) b (WAITING t) PENDING (not-notFull q n)
+  enqueued-on t q e false l n = of-wakeWaiter (notEmpty c q) (putEntry q e l) (not-notEmpty q n)
 
-  issue-on : (t : ℕ) (r : Request) (l : Ledger) → Asks c r → Unwaited l b → Unwaited (issue c t r l) b
+  issue-on : (t : ℕ) (r : Request) (l : Ledger) → Asks c r → Stays l (issue c t r l)
   unfolding issue
-  issue-on t none l a h = h
-  issue-on t (receive f) l a h = received-on t f (find (wanted f) (mailbox l t)) l h
-  issue-on t (dequeue q) l a h = dequeued-on t q (held (queue l q)) l a h
-  issue-on t (enqueue q e) l a h = enqueued-on t q e (full c l q) l (a .0) h
+  issue-on t none l a = refl
+  issue-on t (receive f) l a = received-on t f (find (wanted f) (mailbox l t)) l
+  issue-on t (dequeue q) l a = dequeued-on t q (held (queue l q)) l a
+  issue-on t (enqueue q e) l a = enqueued-on t q e (full c l q) l (a .0)
 
-  reissue-on : (l : Ledger) → Named c l → Unwaited l b → Unwaited (reissue c l) b
+  reissue-on : (l : Ledger) → Named c l → Stays l (reissue c l)
   unfolding updates setRequest reissue issueAgain openRequest
-  reissue-on l n h =
+  reissue-on l n =
       let m = setRequest (running l) none l in
-      cond-both (λ k. Unwaited k b) (refused21 c (openRequest l) m) (setOutcome (running l) (refused 21) m) (issue c (running l) (openRequest l) m) h (issue-on (running l) (openRequest l) m (n .requests (running l)) h)
+      cond-both (Stays l) (refused21 c (openRequest l) m) (setOutcome (running l) (refused 21) m) (issue c (running l) (openRequest l) m) refl (issue-on (running l) (openRequest l) m (n .requests (running l)))
+
+  pub semaphore-on : {l l′ : Ledger} {n : ℕ} → Settles c l n l′ → Named c l → Stays l l′
+  semaphore-on (stops e) n = refl
+  semaphore-on {l} (goesOn o s) n = semaphore-on s (named-through (reissues c (λ v. Unit {0}) l n o) (of-reissue c l) n) ∙ reissue-on l n
 
   pub unwaited-on : {l l′ : Ledger} {n : ℕ} → Settles c l n l′ → Named c l → Unwaited l b → Unwaited l′ b
-  unwaited-on (stops e) n h = h
-  unwaited-on {l} (goesOn o s) n h = unwaited-on s (named-through (reissues c (λ v. Unit {0}) l n o) (of-reissue c l) n) (reissue-on l n h)
+  unwaited-on s n h = ap isWaiting (semaphore-on s n) ∙ h

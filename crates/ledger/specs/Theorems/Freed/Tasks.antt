@@ -15,7 +15,7 @@ use Rattle.ledger.specs.Session.{Settles, stops, goesOn, openRequest, is
 use Rattle.ledger.specs.Theorems.Items.{at-put-other, at-put-each, put-here}
 use Rattle.ledger.specs.Theorems.Checks.{cond-both}
 use Rattle.ledger.specs.Theorems.Parts.{Every, nil, cons, every-to}
-use Rattle.ledger.specs.Theorems.Signals.{signals-keep}
+use Rattle.ledger.specs.Theorems.Signals.{signals-keep, other-signal}
 use Rattle.ledger.specs.Theorems.Changes.{updates}
 use Rattle.ledger.specs.Theorems.Terminated.{withoutEventWait}
 use Rattle.ledger.specs.Theorems.Told.{waits}
@@ -104,17 +104,6 @@ woken-now b t l = put-here (λ k. k .blocks .eventWait ≡ false) (l .tasks) t _
 wakes : (b t : ℕ) (l : Ledger) → semaphoreOf l b ≡ WAITING t → waits (signal b l .ledger) t ≡ false
 unfolding signal
 wakes b t l e = subst (λ s. waits (signalled s b l .ledger) t ≡ false) (sym e) (woken-now b t l)
-
--- a signal leaves the other semaphores
-other-signalled : (s : Semaphore) (b d : ℕ) (l : Ledger) → (d ≡ b → ⊥) → semaphoreOf (signalled s b l .ledger) d ≡ semaphoreOf l d
-unfolding updates signalled
-other-signalled PENDING b d l n = at-put-other (l .semaphores) b d DONE PENDING n
-other-signalled DONE b d l n = at-put-other (l .semaphores) b d DONE PENDING n
-other-signalled (WAITING t) b d l n = at-put-other (l .semaphores) b d PENDING PENDING n
-
-other-signal : (b d : ℕ) (l : Ledger) → (d ≡ b → ⊥) → semaphoreOf (signal b l .ledger) d ≡ semaphoreOf l d
-unfolding signal
-other-signal b d l n = other-signalled (semaphoreOf l b) b d l n
 
 -- the task that semaphore b was WAITING for has no event wait once all of bs are signalled
 abbrev pub Woken : List ℕ → Ledger → ℕ → Type 0

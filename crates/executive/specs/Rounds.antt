@@ -1,4 +1,4 @@
--- Turns of settling: after n of them the rest of the ledger's settling is what is left of its fuel.
+-- Rounds of settling: after n of them the rest of the ledger's settling is what is left of its fuel.
 use mathlib.Core.Path.{_≡_, refl, sym, ap, _∙_}
 use mathlib.Core.Bool.{true, false}
 use Prim.Native.Nat.{ℕ, zero, suc, _+_, _-_, _≤_}
@@ -9,23 +9,23 @@ use Rattle.ledger.specs.Config.{Config}
 use Rattle.ledger.specs.Ledger.{Ledger}
 use Rattle.ledger.specs.Session.{Settled, openRequest, isOpen, reissue, settle}
 
-unfoldable pub turns : ℕ → Config → Ledger → Ledger
-turns zero c L = L
-turns (suc n) c L = reissue c (turns n c L)
+unfoldable pub rounds : ℕ → Config → Ledger → Ledger
+rounds zero c L = L
+rounds (suc n) c L = reissue c (rounds n c L)
 
 abbrev pub bump : ℕ → Settled → Settled
 bump n s = record { ledger = s .ledger; reissues = n + s .reissues }
 
 abbrev pub Rest : Config → Ledger → ℕ → Type 0
-Rest c L n = (k : ℕ) → settle (n + k) c L ≡ bump n (settle k c (turns n c L))
+Rest c L n = (k : ℕ) → settle (n + k) c L ≡ bump n (settle k c (rounds n c L))
 
-pub turns-one : (c : Config) (L : Ledger) (n : ℕ) → reissue c (turns n c L) ≡ turns (n + 1) c L
-unfolding turns
-turns-one c L n = rw (add-one n)
+pub rounds-one : (c : Config) (L : Ledger) (n : ℕ) → reissue c (rounds n c L) ≡ rounds (n + 1) c L
+unfolding rounds
+rounds-one c L n = rw (add-one n)
 
 module _ (c : Config) (L : Ledger) where
   pub rest-start : Rest c L 0
-  unfolding turns
+  unfolding rounds
   rest-start k =
       ap (λ (j : ℕ). settle j c L) (zero-add k)
       ∙ λ i. record { ledger = settle k c L .ledger; reissues = sym (zero-add (settle k c L .reissues)) i }
@@ -40,26 +40,26 @@ module _ (c : Config) (L : Ledger) where
     settle-closed zero M e = refl
     settle-closed (suc k) M e = rw (sym e, settle)
 
-    pub rest-next : true ≡ isOpen (openRequest (turns n c L)) → Rest c L (n + 1)
+    pub rest-next : true ≡ isOpen (openRequest (rounds n c L)) → Rest c L (n + 1)
     rest-next e k =
-        let M : Ledger = turns n c L in
+        let M : Ledger = rounds n c L in
         let N : Ledger = reissue c M in
-        let tn : N ≡ turns (n + 1) c L = turns-one c L n in
+        let tn : N ≡ rounds (n + 1) c L = rounds-one c L n in
         let p : n + 1 + k ≡ n + suc k = omega arith in
         let q : n + suc (settle k c N .reissues) ≡ n + 1 + settle k c N .reissues = omega arith in
         ap (λ (j : ℕ). settle j c L) p ∙ r (suc k) ∙ ap (bump n) (settle-open k M e)
         ∙ (λ i. record { ledger = settle k c N .ledger; reissues = q i })
         ∙ ap (λ (x : Ledger). bump (n + 1) (settle k c x)) tn
 
-    pub rest-stop : (m : ℕ) → n ≤ m → false ≡ isOpen (openRequest (turns n c L)) → settle m c L ≡ record { ledger = turns n c L; reissues = n }
+    pub rest-stop : (m : ℕ) → n ≤ m → false ≡ isOpen (openRequest (rounds n c L)) → settle m c L ≡ record { ledger = rounds n c L; reissues = n }
     rest-stop m l e =
         let p : m ≡ n + (m - n) = omega arith in
-        ap (λ (j : ℕ). settle j c L) p ∙ r (m - n) ∙ ap (bump n) (settle-closed (m - n) (turns n c L) e)
-        ∙ (λ i. record { ledger = turns n c L; reissues = add-zero n i })
+        ap (λ (j : ℕ). settle j c L) p ∙ r (m - n) ∙ ap (bump n) (settle-closed (m - n) (rounds n c L) e)
+        ∙ (λ i. record { ledger = rounds n c L; reissues = add-zero n i })
 
-    pub rest-out : (m : ℕ) → n ≤ m → m ≤ n → settle m c L ≡ record { ledger = turns n c L; reissues = n }
+    pub rest-out : (m : ℕ) → n ≤ m → m ≤ n → settle m c L ≡ record { ledger = rounds n c L; reissues = n }
     unfolding settle
     rest-out m l g =
         let p : m ≡ n + 0 = omega arith in
         ap (λ (j : ℕ). settle j c L) p ∙ r 0
-        ∙ (λ i. record { ledger = turns n c L; reissues = add-zero n i })
+        ∙ (λ i. record { ledger = rounds n c L; reissues = add-zero n i })
