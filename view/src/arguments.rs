@@ -3,7 +3,7 @@
 use c::caller::Caller;
 
 pub const USAGE: &str = "\
-view words [FILE] [--names NAMES] [--module]              each frame and its answer in words
+view words [FILE] [--names NAMES] [--module]              each frame and its answer in words, then the turns of timers
 view page FILE [-o PAGE] [--names NAMES] [--module]       one page for a browser
 view page FILE FILE [-o PAGE] [--names NAMES] [--module]  two sessions side by side
 FILE is a session: lines of upper-case digits, first the configuration; '-' is standard input.

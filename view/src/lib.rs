@@ -15,4 +15,5 @@ pub mod refusals;
 pub mod replay;
 pub mod stuck;
 pub mod summary;
+pub mod turns;
 pub mod words;

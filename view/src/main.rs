@@ -14,6 +14,7 @@ use view::page;
 use view::progress::Progress;
 use view::refusals::configuration_rule;
 use view::replay::{Replay, Stop};
+use view::turns::Turns;
 use view::words::{counted, grouped, Words};
 
 const REFUSED: i32 = 1;
@@ -87,7 +88,7 @@ fn print_words(caller: Caller, file: &str, names: &Names) {
     check_names(names, &configuration);
     let words = Words { configuration: &configuration, names };
     let mut out = BufWriter::new(io::stdout().lock());
-    let mut progress = Progress::default();
+    let (mut progress, mut turns) = (Progress::default(), Turns::default());
     let mut print = |line: &str| match writeln!(out, "{line}") {
         Err(error) if error.kind() == ErrorKind::BrokenPipe => exit(0),
         Err(error) => stop(WRONG, &format!("the words cannot be written: {error}")),
@@ -98,12 +99,21 @@ fn print_words(caller: Caller, file: &str, names: &Names) {
     for (place, line) in rest.enumerate() {
         let mut room = [0; MOST_BYTES];
         match replay.feed(line, &mut room) {
-            Ok(step) => print(&words.line(&step)),
+            Ok(step) => {
+                print(&words.line(&step));
+                turns.step(&step);
+            }
             Err(why) => stop(DIFFERS, &differs(file, place + 2, &why)),
         }
         progress.at(place + 1);
     }
     progress.end();
+    for (place, line) in turns.lines(&words).iter().enumerate() {
+        if place == 0 {
+            print("");
+        }
+        print(line);
+    }
     if let Err(error) = out.flush() {
         if error.kind() != ErrorKind::BrokenPipe {
             stop(WRONG, &format!("the words cannot be written: {error}"));

@@ -1,4 +1,4 @@
-//! What a whole session amounts to: shares, longest waits, high-water marks, lost signals, refusals, and who is stuck.
+//! What a whole session amounts to: shares, longest waits, high-water marks, turns of timers, lost signals, refusals, and who is stuck.
 
 use std::collections::BTreeMap;
 
@@ -13,6 +13,7 @@ use crate::json::Json;
 use crate::refusals::SHORT;
 use crate::replay::Step;
 use crate::stuck::Wakers;
+use crate::turns::Turns;
 use crate::words::{grouped, queue_of, Side, Words};
 
 #[derive(Clone, Copy, Debug, PartialEq, Eq, PartialOrd, Ord)]
@@ -70,6 +71,7 @@ pub struct Summary {
     fill: Vec<Most>,
     messages: Most,
     timers: Most,
+    turns: Turns,
     lost: BTreeMap<u8, Counted>,
     refusals: BTreeMap<Number, Counted>,
     wakers: Wakers,
@@ -87,6 +89,7 @@ impl Summary {
             fill: vec![Most::default(); configuration.queues.len()],
             messages: Most::default(),
             timers: Most::default(),
+            turns: Turns::default(),
             lost: BTreeMap::new(),
             refusals: BTreeMap::new(),
             wakers: Wakers::default(),
@@ -97,6 +100,7 @@ impl Summary {
         self.frames = step.number;
         self.tocks = step.other.clock().tocks();
         self.ran[usize::from(step.running())] += 1;
+        self.turns.step(step);
         if step.refusal() != 0 {
             return count(&mut self.refusals, step.refusal(), step.number);
         }
@@ -145,6 +149,7 @@ impl Summary {
     /// All tables, after the last step.
     pub fn tables(mut self, words: &Words, items: &Items) -> Json {
         let still = std::mem::take(&mut self.waiting);
+        let turns = std::mem::take(&mut self.turns);
         for (task, wait) in (0..).zip(&still) {
             if let Some(wait) = wait {
                 self.ended(task, *wait, self.frames);
@@ -154,6 +159,7 @@ impl Summary {
             self.shares(words),
             self.longest_waits(words, &still),
             self.high_water(words),
+            turns.table(words),
             self.lost_signals(words),
             self.refused(),
             self.wakers.table(words, items, &still),

@@ -87,7 +87,7 @@ impl Words<'_> {
     }
 
     /// A semaphore in a sentence about a task: the task's own is its own, where only the task has a name.
-    fn semaphore_of(&self, task: u8, number: u8) -> String {
+    pub fn semaphore_of(&self, task: u8, number: u8) -> String {
         let own = task > 0 && number == self.configuration.semaphore_of_task(task);
         if own && self.names.of('t', task).is_some() && self.names.of('s', number).is_none() {
             return "its own semaphore".to_string();

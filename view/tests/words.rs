@@ -1,4 +1,4 @@
-//! `view words` as a program: the words of every story, the rule of every refusal, statuses and messages.
+//! `view words` as a program: the words of every story, the rule of every refusal, the turns of timers, statuses and messages.
 
 use std::collections::BTreeSet;
 use std::fs;
@@ -35,11 +35,23 @@ fn text(bytes: &[u8]) -> String {
     String::from_utf8(bytes.to_vec()).expect("UTF-8")
 }
 
-/// What it prints for an input that it takes.
-fn words(input: &[u8]) -> String {
+/// What it prints for an input that it takes: a line a frame, and behind an empty line one for each timer.
+fn told(input: &[u8]) -> (String, String) {
     let output = view(&["words"], input);
     assert_eq!(output.status.code(), Some(0), "{}", text(&output.stderr));
-    text(&output.stdout)
+    parted(&text(&output.stdout))
+}
+
+fn parted(said: &str) -> (String, String) {
+    match said.split_once("\n\n") {
+        Some((frames, timers)) => (format!("{frames}\n"), timers.to_string()),
+        None => (said.to_string(), String::new()),
+    }
+}
+
+/// The frames' lines.
+fn words(input: &[u8]) -> String {
+    told(input).0
 }
 
 /// A file with this content, for the time of a test.
@@ -227,6 +239,107 @@ fn a_signal_that_is_lost_says_whether_the_semaphore_was_done() {
     is_told(FOUR, &frames);
 }
 
+/// Tasks 1 and 2, a named semaphore, 8 timers, two ticks a tock.
+const TWO: &str = "02010008000200640000";
+const TICK: &str = "1000000000";
+
+/// What is said of the timers of a session; T stands for a tock.
+fn timers(frames: &str) -> Vec<String> {
+    let tock = format!("{TICK}\n{TICK}");
+    let lines: Vec<&str> = frames.split_whitespace().map(|frame| if frame == "T" { &tock } else { frame }).collect();
+    let (_, said) = told(format!("{TWO}\n{}\n", lines.join("\n")).as_bytes());
+    said.lines().map(str::to_string).collect()
+}
+
+#[test]
+fn each_timer_says_its_turns_and_how_it_ended() {
+    assert_eq!(timers("0200010000 T 0E00010000"), Vec::<String>::new());
+    // every 2 tocks, from the middle of a tock on; a second start is refused, and neither a purge of others nor an execute ends it
+    let due = "timer of task 2 on semaphore 1, every 2 tocks, started #2: 3 turns in 7 tocks, 2 signals lost on DONE; runs on";
+    assert_eq!(
+        timers("1000000000 0E0201FFFE 0E0201FFFE 0F02000001 0F00000000 T 0C02000000 T T 0A02000000 T T T T")[..],
+        [due]
+    );
+    // one-shots: one that is due, one that is not yet, one for the same task and semaphore behind the first
+    let due = [
+        "timer of task 1 on semaphore 1, once after 2 tocks, started #1: 1 turn in 2 tocks; had its turn #6",
+        "timer of task 1 on semaphore 1, once after 1 tock, started #7: 1 turn in 1 tock, 1 signal lost on DONE; had its turn #9",
+        "timer of task 1 on semaphore 2, once after 70,000 tocks, started #2: 0 turns in 3 tocks; runs on",
+    ];
+    assert_eq!(timers("0E00010002 12000000011170 T T 0E00010001 T"), due);
+    // a purge of one, a purge of all, a terminate; one of the same task and semaphore behind it
+    let due = [
+        "timer of task 1 on semaphore 1, every 1 tock, started #1: 1 turn in 1 tock; purged #5",
+        "timer of task 1 on semaphore 2, every 1 tock, started #2: 2 turns in 2 tocks, 1 signal lost on DONE; purged #9",
+        "timer of task 2 on semaphore 3, every 2 tocks, started #6: 0 turns in 1 tock; ended by terminate #10",
+        "timer of task 2 on semaphore 3, every 3 tocks, started #11: 0 turns in 0 tocks; runs on",
+    ];
+    assert_eq!(timers("0E0001FFFF 0E0000FFFF T 0F00010001 0E0200FFFE T 0F00000000 0B02000000 0E0200FFFD"), due);
+}
+
+/// Four have a line each; the fifth, and it may have another tock value, makes them one.
+#[test]
+fn many_timers_of_a_task_on_a_semaphore_share_a_line() {
+    let cyclic = "0E0001FFFE T T T 0F00010001 ";
+    assert_eq!(timers(&cyclic.repeat(4)).len(), 4);
+    let due = "5 timers of task 1 on semaphore 1, every 2 tocks, started #1 to #33: 5 turns in 15 tocks, 4 signals lost on DONE; 5 purged";
+    assert_eq!(timers(&cyclic.repeat(5))[..], [due]);
+    let once = "0D00000001 T 0E00000003 0F00000000 ".repeat(3);
+    let due = "7 timers of task 1 on semaphore 2, once after 1 to 3 tocks, started #1 to #16: 3 turns in 4 tocks; 3 had their turn, 3 purged, 1 runs on";
+    assert_eq!(timers(&format!("0A02000000 {once}")).len(), 1);
+    assert_eq!(timers(&format!("{once} 0E00000002 T"))[..], [due]);
+    let due = "5 timers of task 1 on semaphore 2, once after 1 tock, started #1 to #13: 4 turns in 4 tocks; 4 had their turn, 1 ended by terminate";
+    assert_eq!(timers(&format!("{} 0D00000001 0B01000000 T", "0D00000001 T ".repeat(4)))[..], [due]);
+}
+
+/// What a line says of a timer: whether it is cyclic, its tock value, its turns and the tocks that passed.
+fn turns_of(line: &str) -> (bool, usize, usize, usize) {
+    let number = |behind: &str| {
+        let (_, rest) = line.split_once(behind).unwrap_or_else(|| panic!("{behind}: {line}"));
+        rest.split([' ', ';']).next().unwrap().replace(',', "").parse::<usize>().unwrap_or_else(|_| panic!("{line}"))
+    };
+    let cyclic = line.contains(", every ");
+    let value = number(if cyclic { ", every " } else { ", once after " });
+    (cyclic, value, number(": "), number(" in "))
+}
+
+/// Over random sessions: n tocks have n / p turns of a period p, and a one-shot of p one if they are p.
+#[test]
+fn no_timer_misses_a_turn() {
+    let mut met = BTreeSet::new();
+    for seed in 0..200 {
+        let input = Generator::new(1300 + seed).script(1..=12, 600).lines();
+        let (frames, timers) = told(&input);
+        let (mut turns, mut started) = (0, 0);
+        for line in timers.lines() {
+            let (cyclic, value, had, tocks) = turns_of(line);
+            turns += had;
+            started +=
+                line.split_once(" timers of ").map_or(1, |(many, _)| many.replace(',', "").parse::<usize>().unwrap());
+            if line.starts_with("timer of ") {
+                assert_eq!(had, if cyclic { tocks / value } else { usize::from(tocks >= value) }, "{line}");
+                met.insert((cyclic, value > 65_535, had.min(3)));
+            }
+        }
+        let accepted = frames.lines().filter(|line| !line.contains(": refused "));
+        let starts = |line: &&str| {
+            [" starts a timer", " starts a season timer", " delays "].iter().any(|word| line.contains(word))
+        };
+        assert_eq!(started, accepted.filter(starts).count(), "seed {seed}");
+        assert_eq!(turns, frames.matches(", a timer of ").count(), "seed {seed}");
+    }
+    let due = [
+        (true, false, 0),
+        (true, false, 1),
+        (true, false, 3),
+        (true, true, 0),
+        (false, false, 0),
+        (false, false, 1),
+        (false, true, 0),
+    ];
+    assert!(due.iter().all(|met_by| met.contains(met_by)), "{met:?}");
+}
+
 #[test]
 fn pairs_say_who_starts_only_after_whom() {
     let frames = [
@@ -365,9 +478,9 @@ fn a_session_of_the_module_is_told_as_the_controllers() {
         let input = Generator::within(Limits::MODULE, 700 + seed).script(1..=16, 300).lines();
         let output = view(&["words", "--module"], &input);
         assert_eq!(output.status.code(), Some(0), "{}", text(&output.stderr));
-        let (first, rest) = (text(&output.stdout), words(&input));
+        let first = text(&output.stdout);
         assert_eq!(first.matches("; on the brake module").count(), 1);
-        assert_eq!(first.replace("; on the brake module", ""), rest);
+        assert_eq!(parted(&first.replace("; on the brake module", "")), told(&input));
     }
 }
 
@@ -427,7 +540,9 @@ fn a_million_frames_in_seconds_with_a_line_on_the_way() {
     let output = view(&["words"], &input);
     let took = began.elapsed();
     println!("a million frames in words: {took:?}");
-    assert_eq!(text(&output.stdout).lines().count(), plain_executive::session::lines(&input).count());
+    let (frames, timers) = parted(&text(&output.stdout));
+    assert_eq!(frames.lines().count(), plain_executive::session::lines(&input).count());
+    assert!(timers.lines().count() < 1000, "as many lines as readers may bear");
     assert!(text(&output.stderr).contains("view: 500,000 frames"), "{}", text(&output.stderr));
     assert!(took.as_secs() < 60, "{took:?}");
 }

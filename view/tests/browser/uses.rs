@@ -1,5 +1,8 @@
 //! How the page is used: keys, mouse, search, links, two sessions; and how fast it is.
 
+use std::collections::BTreeMap;
+
+use plain_executive::executive::Executive;
 use view::json::Json;
 
 use crate::chromium::Browser;
@@ -253,6 +256,30 @@ fn the_whole_session_is_counted_right() {
     assert_eq!(stuck, waiting.join(","));
     let busiest = browser.text("document.querySelector('.busiest').textContent");
     assert!(busiest.contains("frames: from #"), "{busiest}");
+    turns_are_counted_right(browser, &states);
+}
+
+/// By task, semaphore and whether they are cyclic: the turns of the table's rows, and the timers that were due when a tock passed.
+fn turns_are_counted_right(browser: &mut Browser, states: &[Executive]) {
+    let rows = browser.text("[...document.querySelectorAll('table[data-title=\"Turns of timers\"] tbody tr')].map(row => [...row.cells].map(cell => cell.textContent).join('|')).join('\\n')");
+    let (mut shown, mut due) = (BTreeMap::<_, Vec<usize>>::new(), BTreeMap::<_, usize>::new());
+    for row in rows.lines() {
+        let [whose, on, goes, _, turns, ..] = row.split('|').collect::<Vec<_>>()[..] else { panic!("{row}") };
+        let of = (whose.to_string(), on.to_string(), goes.starts_with("every "));
+        shown.entry(of).or_default().push(turns.replace(',', "").parse().expect("a number"));
+    }
+    for two in states.windows(2) {
+        let now = two[1].clock().tocks();
+        let all = two[0].timers().active().iter().filter(|_| now > two[0].clock().tocks());
+        for timer in all.filter(|timer| timer.due == now) {
+            let of = (format!("task {}", timer.task), format!("semaphore {}", timer.semaphore), timer.period != 0);
+            *due.entry(of).or_default() += 1;
+        }
+    }
+    assert!(shown.values().all(|rows| rows.len() <= 4), "more than four have one row");
+    let shown = shown.into_iter().map(|(of, rows)| (of, rows.iter().sum::<usize>())).filter(|(_, turns)| *turns > 0);
+    assert!(due.keys().any(|of| of.2) && due.keys().any(|of| !of.2), "of both kinds");
+    assert_eq!(shown.collect::<BTreeMap<_, _>>(), due);
 }
 
 /// Measured in the browser: how long a session of 50,000 frames takes to load, and each picture of it to draw.
