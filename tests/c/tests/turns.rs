@@ -324,9 +324,10 @@ const FAULTS: [Fault; 13] = [
         }
         number
     }),
-    ("a tick is refused while no task runs", Found::Fewer, |memory, frame, configuration| {
+    // of several ticks a tock it would also begin tocks at another tick, and give a timer that starts in between a turn too many
+    ("the one tick of a tock is refused while no task runs", Found::Fewer, |memory, frame, configuration| {
         let runs = memory.items(configuration).tasks.iter().any(|task| task.blocks.is_empty());
-        if code(frame) == TICK && !runs {
+        if code(frame) == TICK && !runs && configuration.ticks_per_tock == 1 {
             return NULL_TASK_RUNS;
         }
         memory.frame(frame)
