@@ -1,5 +1,5 @@
 // The exported C functions, thin over the proved crates: the entries of the ride controller and of the brake module, over one executive
-// (by_limits), and lines and milliseconds.
+// (by_limits), lines and milliseconds, and the busiest stretch of a run's records.
 // Promises: each result and each byte of a lent buffer is the ledger's, for every argument; no call asks anything of its caller.
 // Rests on the crates below it, and on a caller that lends each slice as a pointer with its length.
 //
@@ -13,8 +13,10 @@ ghost use mathlib.Core.Path.{_≡_};
 ghost use lib.ListN.{length};
 ghost use Rattle.ledger.specs.Lines as lines;
 ghost use Rattle.ledger.specs.Time as time;
+ghost use Rattle.stretch.specs.Busiest.{busiestOf, Gives};
 ghost use Rattle.mcx11.specs.Results.{refused, Returns, returnedTocks, ofWritten, Short};
 use line::Written;
+use stretch::Record;
 use tocks::Tocks;
 
 fn refusal(number: u8) -> i32
@@ -58,4 +60,18 @@ pub extern "C" fn mcx11_milliseconds(ms: u16, per: u16) -> i32
         Tocks::Are(n) => n as i32,
         Tocks::Refused(number) => refusal(number),
     }
+}
+
+// The busiest stretch of w records: 0 with its sum and its place, or the number that refuses the call. Proved by hand, since the list is
+// of structs.
+#[no_mangle]
+pub extern "C" fn mcx11_busiest(
+    records: &[Record],
+    w: usize,
+    sum: &mut u32,
+    place: &mut usize,
+) -> u8
+    ensures { λ r. ⌜ Gives (busiestOf (now (records .entry)) w) (now (sum .entry)) (now (place .entry)) (now (sum .exit)) (now (place .exit)) r ⌝ }
+{
+    stretch::give(stretch::busiest(records, w), sum, place)
 }
