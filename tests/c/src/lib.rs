@@ -12,6 +12,7 @@ pub mod lent;
 pub mod rules;
 pub mod stack;
 pub mod strange;
+pub mod stretch;
 pub mod tidy;
 
 use plain_executive::numbers::Number;
