@@ -9,6 +9,7 @@ mod session;
 mod sessions;
 mod stage;
 mod storm;
+mod stretch;
 mod worst;
 
 use measure::{Cost, Counted};
@@ -23,6 +24,8 @@ fn main() {
         [only] if only == worst::RUN_ALL => worst::run_all(),
         [only] if only == "worst" => return worst::print(),
         [only] if only == "callers" => return callers::print(),
+        [only] if only == "stretch" => return stretch::print(),
+        [only, who, count, w, calls] if only == stretch::RUN_ONE => stretch::run_one(who, [count, w, calls]),
         _ => {}
     }
     let (recorded, random, growing) = (sessions::recorded(), mixes::random(), sessions::growing());
@@ -37,6 +40,7 @@ fn main() {
     print(&["Frame", "T", "Runs", "Q", "Messages", "Timers"], &growing);
     callers::print();
     worst::print();
+    stretch::print();
 }
 
 fn processor() -> String {

@@ -81,20 +81,23 @@ pub fn instructions(session: &Session) -> Option<Counted> {
 
 /// Of a frame, by callgrind, with the frames less without them. None where valgrind is missing.
 pub fn instructions_of(session: &Session, who: &str) -> Option<f64> {
-    let program = std::env::current_exe().expect("a name");
-    let file = program.with_file_name("session.txt");
+    let file = std::env::current_exe().expect("a name").with_file_name("session.txt");
     fs::write(&file, session.lines()).expect("a file beside the program");
-    let count = |frames: &str| {
-        let output = Command::new("valgrind")
-            .args(["--tool=callgrind", "--callgrind-out-file=/dev/null"])
-            .arg(&program)
-            .args([who, file.to_str().expect("a name"), &session.before.len().to_string(), frames])
-            .output()
-            .ok()?;
-        let said = String::from_utf8_lossy(&output.stderr).into_owned();
-        assert!(output.status.success(), "{said}");
-        let collected = said.lines().find_map(|line| line.split("Collected :").nth(1)).expect("callgrind's count");
-        collected.trim().parse::<f64>().ok()
-    };
+    let (file, before) = (file.to_str().expect("a name"), session.before.len().to_string());
+    let count = |frames: &str| counted(&[who, file, &before, frames]);
     Some((count("frames")? - count("none")?) / session.frames.len() as f64)
+}
+
+/// By callgrind, of all that this program does with these arguments. None where valgrind is missing.
+pub fn counted(arguments: &[&str]) -> Option<f64> {
+    let output = Command::new("valgrind")
+        .args(["--tool=callgrind", "--callgrind-out-file=/dev/null"])
+        .arg(std::env::current_exe().expect("a name"))
+        .args(arguments)
+        .output()
+        .ok()?;
+    let said = String::from_utf8_lossy(&output.stderr).into_owned();
+    assert!(output.status.success(), "{said}");
+    let collected = said.lines().find_map(|line| line.split("Collected :").nth(1)).expect("callgrind's count");
+    collected.trim().parse::<f64>().ok()
 }
