@@ -5,3 +5,5 @@ pub mod OneRun
 pub mod Machine
 pub mod Buffer
 pub mod One
+pub mod Rows
+pub mod Loans

@@ -9,6 +9,8 @@ pub mod EveryRun
 pub mod BothRun
 -- of lines and milliseconds
 pub mod LineRuns
+-- of the busiest stretch
+pub mod BusiestRuns
 -- of the session program's functions
 pub mod OneFeed
 pub mod InputRuns
