@@ -9,7 +9,9 @@ view page FILE FILE [-o PAGE] [--names NAMES] [--module]  two sessions side by s
 FILE is a session: lines of upper-case digits, first the configuration; '-' is standard input.
 NAMES has lines such as 't1 gate', 's2 train-in', 'q1 orders', 'm1 go'. PAGE is page.html if it is not told.
 With --module it is a session of the brake module, with its limits and its memory, not of the controller.
-Ends with 0; with 1 if a configuration is refused; with 2 if the command or a file is wrong; with 3 if the two
+With --busiest W they also show which W frames in a row have the most reissues; W is 1 up to the number of frames,
+which are at most 4,096.
+Ends with 0; with 1 if a configuration is refused; with 2 if the command, a file or W is wrong; with 3 if the two
 implementations differ, and then no page is written.
 ";
 
@@ -26,18 +28,22 @@ pub struct Arguments {
     pub names: Option<String>,
     /// Whose session it is.
     pub caller: Caller,
+    /// The frames of a stretch.
+    pub busiest: Option<usize>,
 }
 
 pub fn read(words: impl IntoIterator<Item = String>) -> Result<Arguments, String> {
     let (mut names, mut page, mut plain, mut caller) = (None, None, Vec::new(), Caller::Controller);
+    let mut busiest = None;
     let mut words = words.into_iter();
     while let Some(word) = words.next() {
-        let mut value = || words.next().ok_or_else(|| format!("'{word}' needs a file behind it"));
+        let mut value = |what| words.next().ok_or_else(|| format!("'{word}' needs a {what} behind it"));
         match word.as_str() {
-            "-h" | "--help" => return Ok(Arguments { task: Task::Help, names: None, caller }),
+            "-h" | "--help" => return Ok(Arguments { task: Task::Help, names: None, caller, busiest }),
             "--module" => caller = Caller::Module,
-            "--names" => names = Some(value()?),
-            "-o" => page = Some(value()?),
+            "--busiest" => busiest = Some(number_of_frames(&value("number of frames")?)?),
+            "--names" => names = Some(value("file")?),
+            "-o" => page = Some(value("file")?),
             option if option.starts_with('-') && option != "-" => return Err(format!("there is no option '{option}'")),
             _ => plain.push(word),
         }
@@ -54,5 +60,9 @@ pub fn read(words: impl IntoIterator<Item = String>) -> Result<Arguments, String
         ("page", _) => return Err("'page' takes one file, or two to compare them".to_string()),
         _ => return Err(format!("there is no command '{command}': say 'words' or 'page'")),
     };
-    Ok(Arguments { task, names, caller })
+    Ok(Arguments { task, names, caller, busiest })
+}
+
+fn number_of_frames(word: &str) -> Result<usize, String> {
+    word.parse().map_err(|_| format!("'{word}' is no number of frames: write '--busiest 10'"))
 }

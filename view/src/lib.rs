@@ -3,6 +3,7 @@
 
 pub mod arguments;
 pub mod base64;
+pub mod busiest;
 pub mod changes;
 pub mod deflate;
 pub mod differences;

@@ -1,4 +1,5 @@
-//! `view words FILE`, `view page FILE -o page.html`, `view page A B -o page.html`; `--module` for the brake module's.
+//! `view words FILE`, `view page FILE -o page.html`, `view page A B -o page.html`; `--module` for the brake module's,
+//! `--busiest W` for the busiest stretch.
 
 use std::fs;
 use std::io::{self, BufWriter, ErrorKind, Read, Write};
@@ -9,6 +10,7 @@ use plain_executive::configuration::Configuration;
 use plain_executive::line::MOST_BYTES;
 use plain_executive::session::lines;
 use view::arguments::{self, Task, USAGE};
+use view::busiest::{self, Stretch};
 use view::names::Names;
 use view::page;
 use view::progress::Progress;
@@ -27,11 +29,11 @@ fn main() {
         exit(WRONG)
     });
     let names = arguments.names.as_deref().map_or_else(Names::default, read_names);
-    let caller = arguments.caller;
+    let (caller, w) = (arguments.caller, arguments.busiest);
     match arguments.task {
         Task::Help => print!("{USAGE}"),
-        Task::Words { file } => print_words(caller, &file, &names),
-        Task::Page { files, page } => write_page(caller, &files, &names, &page),
+        Task::Words { file } => print_words(caller, &file, &names, w),
+        Task::Page { files, page } => write_page(caller, &files, &names, w, &page),
     }
 }
 
@@ -76,8 +78,24 @@ fn check_names(names: &Names, configuration: &Configuration) {
     names.fit(configuration).unwrap_or_else(|what| stop(WRONG, &format!("the names do not fit: {what}")));
 }
 
+/// Ends the program where there is no such stretch.
+fn busiest(caller: Caller, file: &str, input: &[u8], w: usize) -> Stretch {
+    let mut records =
+        busiest::records(caller, input).unwrap_or_else(|(line, why)| stop(DIFFERS, &differs(file, line, &why)));
+    let found = busiest::of(&mut records, w, c::stretch::busiest);
+    found.unwrap_or_else(|why| match why {
+        Stop::Refused(number) => {
+            let rule = busiest::rule(records.len(), w);
+            stop(WRONG, &format!("{file}: --busiest {w} is refused with {number}: {rule}"))
+        }
+        Stop::Differs(what) => {
+            stop(DIFFERS, &format!("{file}: the two implementations differ: {what}. Report this with the file"))
+        }
+    })
+}
+
 /// A reader that goes away is no failure.
-fn print_words(caller: Caller, file: &str, names: &Names) {
+fn print_words(caller: Caller, file: &str, names: &Names, w: Option<usize>) {
     let input = read_file(file);
     let first = lines(&input).next().unwrap_or_default();
     if let (false, Err(Stop::Refused(number))) = (input.is_empty(), Replay::begin(caller, first)) {
@@ -86,6 +104,7 @@ fn print_words(caller: Caller, file: &str, names: &Names) {
     let mut replay = begin(caller, file, &input);
     let configuration = replay.other().configuration().clone();
     check_names(names, &configuration);
+    let stretch = w.map(|w| busiest(caller, file, &input, w));
     let words = Words { configuration: &configuration, names };
     let mut out = BufWriter::new(io::stdout().lock());
     let (mut progress, mut turns) = (Progress::default(), Turns::default());
@@ -108,11 +127,12 @@ fn print_words(caller: Caller, file: &str, names: &Names) {
         progress.at(place + 1);
     }
     progress.end();
-    for (place, line) in turns.lines(&words).iter().enumerate() {
+    let whole = turns.lines(&words).into_iter().chain(stretch.map(|stretch| stretch.line()));
+    for (place, line) in whole.enumerate() {
         if place == 0 {
             print("");
         }
-        print(line);
+        print(&line);
     }
     if let Err(error) = out.flush() {
         if error.kind() != ErrorKind::BrokenPipe {
@@ -125,14 +145,16 @@ fn differs(file: &str, line: usize, why: &Stop) -> String {
     format!("{file}: line {line}: the two implementations differ: {why:?}. Report this with the file")
 }
 
-fn write_page(caller: Caller, files: &[String], names: &Names, page: &str) {
+fn write_page(caller: Caller, files: &[String], names: &Names, w: Option<usize>, page: &str) {
     let inputs: Vec<Vec<u8>> = files.iter().map(|file| read_file(file)).collect();
     for (file, input) in files.iter().zip(&inputs) {
         let replay = begin(caller, file, input);
         check_names(names, replay.other().configuration());
     }
     let sessions: Vec<(&str, &[u8])> = files.iter().map(String::as_str).zip(inputs.iter().map(Vec::as_slice)).collect();
-    let made = page::make(caller, &sessions, names).unwrap_or_else(|(file, line, why)| {
+    let stretch = |(file, input): &(&str, &[u8])| Some(busiest(caller, file, input, w?));
+    let stretches: Vec<Stretch> = sessions.iter().filter_map(stretch).collect();
+    let made = page::make(caller, &sessions, names, &stretches).unwrap_or_else(|(file, line, why)| {
         stop(DIFFERS, &format!("{}. No page is written", differs(&file, line, &why)))
     });
     fs::write(page, &made.html).unwrap_or_else(|error| stop(WRONG, &format!("{page} cannot be written: {error}")));

@@ -4,6 +4,7 @@ use c::caller::Caller;
 use c::lent::Lent;
 
 use crate::base64;
+use crate::busiest::Stretch;
 use crate::deflate;
 use crate::differences;
 use crate::json::Json;
@@ -13,7 +14,7 @@ use crate::replay::{Call, Stop};
 
 const FRAME: &str = include_str!("../page/page.html");
 const STYLE: &str = include_str!("../page/style.css");
-const SCRIPTS: [&str; 11] = [
+const SCRIPTS: [&str; 10] = [
     include_str!("../page/data.js"),
     include_str!("../page/state.js"),
     include_str!("../page/axis.js"),
@@ -24,8 +25,10 @@ const SCRIPTS: [&str; 11] = [
     include_str!("../page/tables.js"),
     include_str!("../page/summary.js"),
     include_str!("../page/search.js"),
-    include_str!("../page/main.js"),
 ];
+/// The busiest stretch, on pages that show it.
+const STRETCH: (&str, &str) = (include_str!("../page/stretch.css"), include_str!("../page/stretch.js"));
+const MAIN: &str = include_str!("../page/main.js");
 
 pub struct Made {
     pub frames: usize,
@@ -35,17 +38,23 @@ pub struct Made {
 /// A file, the line in it, and why it does not go on.
 pub type Failure = (String, usize, Stop);
 
-/// A page of one session of a caller or of two, each with its file's name and its lines.
-pub fn make(caller: Caller, sessions: &[(&str, &[u8])], names: &Names) -> Result<Made, Failure> {
-    make_with(caller, sessions, names, Lent::frame)
+/// A page of one session of a caller or of two, each with its file's name and its lines. It shows a stretch of each, or none.
+pub fn make(caller: Caller, sessions: &[(&str, &[u8])], names: &Names, stretches: &[Stretch]) -> Result<Made, Failure> {
+    make_with(caller, sessions, names, stretches, Lent::frame)
 }
 
-pub fn make_with(caller: Caller, sessions: &[(&str, &[u8])], names: &Names, call: Call) -> Result<Made, Failure> {
+pub fn make_with(
+    caller: Caller,
+    sessions: &[(&str, &[u8])],
+    names: &Names,
+    stretches: &[Stretch],
+    call: Call,
+) -> Result<Made, Failure> {
     let mut packed = String::new();
     let mut frames = 0;
-    for (file, input) in sessions {
-        let recording =
-            Recording::of(caller, file, input, names, call).map_err(|(line, why)| (file.to_string(), line, why))?;
+    for (place, (file, input)) in sessions.iter().enumerate() {
+        let recording = Recording::of(caller, file, input, names, stretches.get(place), call)
+            .map_err(|(line, why)| (file.to_string(), line, why))?;
         frames += recording.frames;
         let data = base64::write(&deflate::write(&recording.bytes()));
         packed += &format!("<script type=\"application/octet-stream\" class=\"packed\">{data}</script>\n");
@@ -56,11 +65,17 @@ pub fn make_with(caller: Caller, sessions: &[(&str, &[u8])], names: &Names, call
     };
     let title = sessions.iter().map(|(file, _)| file_name(file)).collect::<Vec<_>>().join(" and ");
     let about = Json::Object(vec![("differences", differences)]);
+    let (mut style, mut scripts) = (STYLE.to_string(), SCRIPTS.to_vec());
+    if !stretches.is_empty() {
+        style += STRETCH.0;
+        scripts.push(STRETCH.1);
+    }
+    scripts.push(MAIN);
     let html = FRAME
         .replace("{{title}}", &escaped(&title))
-        .replace("{{style}}", STYLE)
+        .replace("{{style}}", &style)
         .replace("{{about}}", &about.to_string())
-        .replace("{{script}}", &SCRIPTS.join("\n"))
+        .replace("{{script}}", &scripts.join("\n"))
         .replace("{{sessions}}", &packed);
     Ok(Made { frames, html })
 }

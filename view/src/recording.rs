@@ -9,6 +9,7 @@ use plain_executive::configuration::Configuration;
 use plain_executive::line::MOST_BYTES;
 use plain_executive::session::lines;
 
+use crate::busiest::Stretch;
 use crate::changes::{long, Changes};
 use crate::json::Json;
 use crate::names::Names;
@@ -50,7 +51,14 @@ pub type Failure = (usize, Stop);
 
 impl Recording {
     /// Of a caller's session whose configuration is accepted.
-    pub fn of(caller: Caller, file: &str, input: &[u8], names: &Names, call: Call) -> Result<Self, Failure> {
+    pub fn of(
+        caller: Caller,
+        file: &str,
+        input: &[u8],
+        names: &Names,
+        stretch: Option<&Stretch>,
+        call: Call,
+    ) -> Result<Self, Failure> {
         let mut rest = lines(input);
         let first = rest.next().unwrap_or_default();
         let mut replay = Replay::begin_with(caller, first, call).map_err(|why| (1, why))?;
@@ -66,7 +74,7 @@ impl Recording {
             progress.at(place + 1);
         }
         progress.end();
-        Ok(writer.end(caller, file))
+        Ok(writer.end(caller, file, stretch))
     }
 
     /// All of it: each part behind its length.
@@ -119,17 +127,18 @@ impl<'a> Writer<'a> {
         Ok(())
     }
 
-    fn end(self, caller: Caller, file: &str) -> Recording {
+    fn end(self, caller: Caller, file: &str, stretch: Option<&Stretch>) -> Recording {
         let Writer { words, frames, asked, answered, changes, summary } = self;
-        let header = Json::Object(vec![
+        let mut header = vec![
             ("file", file.into()),
             ("on", on(caller).into()),
             ("frames", frames.into()),
             ("configuration", configured(words.configuration)),
             ("names", Json::List(words.names.all().map(|(key, name)| vec![key.as_str(), name].into()).collect())),
             ("tables", summary.tables(words, changes.before())),
-        ]);
-        Recording { frames, header, asked, answered, bytes: changes.bytes }
+        ];
+        header.extend(stretch.map(|stretch| ("busiest", stretch.json())));
+        Recording { frames, header: Json::Object(header), asked, answered, bytes: changes.bytes }
     }
 }
 

@@ -12,9 +12,9 @@ use plain_executive::trail::Event;
 /// Why a session does not go on.
 #[derive(Debug, PartialEq, Eq)]
 pub enum Stop {
-    /// The configuration met this number.
+    /// The configuration, or the asked-for stretch, met this number.
     Refused(Number),
-    /// The other implementation has another answer or item.
+    /// The other implementation has another answer, item or stretch.
     Differs(String),
 }
 

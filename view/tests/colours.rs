@@ -1,4 +1,4 @@
-//! The colours of the lanes, as people see them who lack one kind of cone, and as grey print has them.
+//! The colours of the lanes, as people see them who lack one kind of cone, and as grey print has them; and of the marks.
 
 type Three = [f64; 3];
 
@@ -14,6 +14,8 @@ const STATES: [&str; 6] = ["running", "ready", "event", "message", "suspended", 
 /// Distances in CIELAB; about 2 can just be told apart side by side.
 const LEAST_DISTANCE: f64 = 15.0;
 const LEAST_GREY: f64 = 9.0;
+/// Of what is drawn to what it is drawn on, by WCAG 2.
+const LEAST_CONTRAST: f64 = 3.0;
 
 /// The colour of a state in the part of the styles that begins with this.
 fn colour(part: &str, state: &str) -> Three {
@@ -57,6 +59,19 @@ fn everybody_tells_the_states_apart() {
                 let distance = one_seen.iter().zip(other_seen).map(|(a, b)| (a - b).powi(2)).sum::<f64>().sqrt();
                 assert!(distance > LEAST_DISTANCE, "{theme} {name}: {one} and {other} are {distance:.0} apart");
             }
+        }
+    }
+}
+
+/// The marks above the lanes; a stretch has the border of those that are reissued.
+#[test]
+fn the_marks_are_seen_on_the_panel() {
+    let light = |[red, green, blue]: Three| 0.2126 * red + 0.7152 * green + 0.0722 * blue + 0.05;
+    for theme in [":root {", ":root.dark {"] {
+        for mark in ["refused", "reissued", "interrupt"] {
+            let [mark_light, panel] = [mark, "panel"].map(|name| light(colour(theme, name)));
+            let contrast = mark_light.max(panel) / mark_light.min(panel);
+            assert!(contrast > LEAST_CONTRAST, "{theme} {mark}: {contrast:.1}");
         }
     }
 }

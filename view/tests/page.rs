@@ -1,4 +1,5 @@
-//! What needs no browser: a page is refused where the implementations differ, two sessions' first differences, and the packing.
+//! What needs no browser: a page is refused where the implementations differ, the stretch that it is told of, two sessions' first
+//! differences, and the packing.
 
 use std::fs;
 use std::path::{Path, PathBuf};
@@ -6,12 +7,15 @@ use std::process::Command;
 
 use c::caller::Caller;
 use c::lent::{slot, Lent};
+use c::stretch::Record;
 use plain_executive::numbers::Number;
 use plain_executive::random::Random;
-use view::differences;
+use plain_executive::stretch::Busiest;
+use view::busiest::{self, Find, Stretch};
 use view::names::Names;
+use view::recording::Recording;
 use view::replay::Stop;
-use view::{deflate, page};
+use view::{deflate, differences, page};
 
 fn repository() -> PathBuf {
     Path::new(env!("CARGO_MANIFEST_DIR")).join("..")
@@ -42,14 +46,55 @@ fn no_page_where_the_other_implementation_differs() {
     let station = story("station");
     let sessions: [(&str, &[u8]); 1] = [("station.session", &station)];
     for caller in Caller::ALL {
-        assert!(page::make(caller, &sessions, &Names::default()).is_ok());
+        assert!(page::make(caller, &sessions, &Names::default(), &[]).is_ok());
         for (call, line) in [(wrong_answer as fn(&mut Lent, &[u8]) -> Number, 2), (wrong_item, 2)] {
-            let failed = page::make_with(caller, &sessions, &Names::default(), call).err().expect("no page");
+            let failed = page::make_with(caller, &sessions, &Names::default(), &[], call).err().expect("no page");
             assert!(
                 matches!(&failed, (file, at, Stop::Differs(_)) if file == "station.session" && *at == line),
                 "{failed:?}"
             );
         }
+    }
+}
+
+/// The exported function, but a record too far on, a reissue too many, always refused, never refused.
+const WRONG: [Find; 4] = [
+    |records, w| c::stretch::busiest(records, w).map(|found| Busiest { place: found.place + 1, ..found }),
+    |records, w| c::stretch::busiest(records, w).map(|found| Busiest { sum: found.sum + 1, ..found }),
+    |_, _| Err(28),
+    |records, w| c::stretch::busiest(records, w).or(Ok(Busiest { sum: 0, place: 0 })),
+];
+
+fn records(name: &str) -> Vec<Record> {
+    busiest::records(Caller::Controller, &story(name)).expect("no difference")
+}
+
+#[test]
+fn no_stretch_where_the_other_implementation_differs() {
+    let mut records = records("race");
+    let found = Stretch { reissues: 4, frames: (10, 14), tocks: (0, 0) };
+    assert_eq!(busiest::of(&mut records, 5, c::stretch::busiest), Ok(found));
+    assert_eq!(busiest::of(&mut records, 0, c::stretch::busiest), Err(Stop::Refused(28)));
+    for (find, w) in WRONG.into_iter().zip([5, 5, 5, 0]) {
+        let differs = busiest::of(&mut records, w, find);
+        assert!(matches!(differs, Err(Stop::Differs(_))), "{differs:?}");
+    }
+}
+
+/// Only a page that shows a stretch has what that needs.
+#[test]
+fn a_page_is_told_of_the_stretch() {
+    let (race, names) = (story("race"), Names::default());
+    let found = busiest::of(&mut records("race"), 5, c::stretch::busiest).expect("found");
+    let due = "\"busiest\":{\"from\":10,\"to\":14,\"label\":\"busiest stretch of 5: 4 reissues\",\
+               \"words\":\"busiest stretch of 5 frames, #10 to #14: 4 reissues, tock 0\"}}";
+    let stretches = [found];
+    for shown in [&stretches[..], &[]] {
+        let recording =
+            Recording::of(Caller::Controller, "race", &race, &names, shown.first(), Lent::frame).expect("recorded");
+        assert_eq!(recording.header.to_string().ends_with(due), !shown.is_empty());
+        let html = page::make(Caller::Controller, &[("race", &race)], &names, shown).expect("a page").html;
+        assert!(html.contains("stretch-label") != shown.is_empty() && !html.contains("{{"));
     }
 }
 

@@ -23,6 +23,8 @@ pub struct Browser {
 
 const READY: &str = "location.protocol === 'file:' && document.documentElement.dataset.ready === 'yes'";
 const PATIENCE: Duration = Duration::from_secs(60);
+/// Keys that do nothing without their code.
+const CODES: [(&str, u64); 2] = [("Tab", 9), ("Enter", 13)];
 
 /// Where the browser is, if it is there.
 pub fn program() -> Option<PathBuf> {
@@ -139,14 +141,18 @@ impl Browser {
 
     /// A key, pressed and let go. `code` is its name, `text` what it types.
     pub fn key(&mut self, key: &str) {
-        let text = if key.chars().count() == 1 { key } else { "" };
+        let text = match key {
+            "Enter" => "\r",
+            _ if key.chars().count() == 1 => key,
+            _ => "",
+        };
         for kind in ["keyDown", "keyUp"] {
             let mut parameters = vec![("type", kind.into()), ("key", key.into())];
             if kind == "keyDown" && !text.is_empty() {
                 parameters.push(("text", text.into()));
             }
-            if key == "Enter" {
-                parameters.push(("windowsVirtualKeyCode", Json::Number(13)));
+            if let Some((_, code)) = CODES.iter().find(|(name, _)| *name == key) {
+                parameters.push(("windowsVirtualKeyCode", Json::Number(*code)));
             }
             self.call("Input.dispatchKeyEvent", parameters);
         }

@@ -5,6 +5,7 @@ mod expected;
 mod lively;
 mod looks;
 mod pictures;
+mod stretch;
 mod uses;
 mod value;
 
@@ -14,6 +15,7 @@ use std::sync::{Mutex, MutexGuard, PoisonError};
 
 use c::caller::Caller;
 use chromium::Browser;
+use view::busiest::{self, Stretch};
 use view::names::Names;
 use view::page;
 
@@ -50,7 +52,23 @@ pub fn page_of(name: &str, sessions: &[(&str, &[u8])], names: &str) -> PathBuf {
 
 pub fn page_of_caller(caller: Caller, name: &str, sessions: &[(&str, &[u8])], names: &str) -> PathBuf {
     let names = Names::read(names).expect("names");
+    written(name, &page::make(caller, sessions, &names, &[]).expect("a page").html)
+}
+
+/// With the busiest stretch of w frames of each.
+pub fn page_with_stretches(name: &str, sessions: &[(&str, &[u8])], w: usize) -> PathBuf {
+    let stretches: Vec<Stretch> = sessions.iter().map(|(_, input)| busiest_of(input, w)).collect();
+    let made = page::make(Caller::Controller, sessions, &Names::default(), &stretches);
+    written(name, &made.expect("a page").html)
+}
+
+pub fn busiest_of(input: &[u8], w: usize) -> Stretch {
+    let mut records = busiest::records(Caller::Controller, input).expect("no difference");
+    busiest::of(&mut records, w, c::stretch::busiest).expect("found")
+}
+
+fn written(name: &str, html: &str) -> PathBuf {
     let path = Path::new(env!("CARGO_TARGET_TMPDIR")).join(format!("{name}.html"));
-    fs::write(&path, page::make(caller, sessions, &names).expect("a page").html).expect("written");
+    fs::write(&path, html).expect("written");
     path
 }

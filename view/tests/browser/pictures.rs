@@ -1,7 +1,7 @@
 //! Pictures for people who change how the page looks.
 
 use crate::chromium::{self, Browser};
-use crate::{lively, repository};
+use crate::{busiest_of, lively, repository, story};
 
 /// Writes pictures to look at: `cargo test --offline -p view --test browser -- --ignored pictures`.
 #[test]
@@ -15,14 +15,18 @@ fn pictures() {
     let station = std::fs::read(repository().join("examples/station.session")).unwrap();
     let other: Vec<u8> = String::from_utf8(station.clone()).unwrap().replace("1100020000", "1100030000").into_bytes();
     let long = lively::session(1, 50_000);
-    let make = |sessions: &[(&str, &[u8])], names| {
-        view::page::make(c::caller::Caller::Controller, sessions, names).expect("a page").html
+    let (race, busy) = (story("race"), lively::session(2, 4_096));
+    let make = |sessions: &[(&str, &[u8])], names, w: Option<usize>| {
+        let stretches: Vec<_> = sessions.iter().filter_map(|(_, input)| w.map(|w| busiest_of(input, w))).collect();
+        view::page::make(c::caller::Caller::Controller, sessions, names, &stretches).expect("a page").html
     };
     let none = view::names::Names::default();
     let pages = [
-        ("station", make(&[("station.session", &station)], &names)),
-        ("long", make(&[("long.session", &long)], &none)),
-        ("two", make(&[("station.session", &station), ("other.session", &other)], &names)),
+        ("station", make(&[("station.session", &station)], &names, None)),
+        ("long", make(&[("long.session", &long)], &none, None)),
+        ("two", make(&[("station.session", &station), ("other.session", &other)], &names, None)),
+        ("race", make(&[("race.session", &race)], &none, Some(5))),
+        ("busy", make(&[("busy.session", &busy)], &none, Some(40))),
     ];
     for (name, html) in &pages {
         std::fs::write(folder.join(format!("{name}.html")), html).unwrap();
@@ -32,13 +36,18 @@ fn pictures() {
     };
     for (width, height) in [(1280, 800), (1920, 1080)] {
         browser.size(width, height);
-        for (name, hash) in [("station", "#f=9"), ("long", "#f=25000"), ("two", "#f=14")] {
+        let shown = [("station", "#f=9"), ("long", "#f=25000"), ("two", "#f=14"), ("race", "#f=12"), ("busy", "")];
+        for (name, hash) in shown {
             browser.open(&folder.join(format!("{name}.html")), hash);
             if name == "long" {
                 browser.key("0");
                 save(&mut browser, &format!("{name}-{width}-whole"));
                 (0..10).for_each(|_| browser.key("+"));
                 browser.key("p");
+            }
+            if name == "race" {
+                browser.key("p");
+                browser.eval("document.querySelector('.summary').scrollTop = 10000");
             }
             save(&mut browser, &format!("{name}-{width}"));
             browser.key("d");
