@@ -34,39 +34,36 @@ class Summary {
 
   busiest() {
     const { session } = this.view;
+    const frames = session.count - 1; // behind the configuration
+    if (frames === 0) return;
     this.box.append(element("h2", "", "Busiest stretch"));
     const line = element("p");
     const input = element("input");
-    const value = clamp(Math.round(session.count / 10), 1, STRETCH);
-    Object.assign(input, { type: "number", min: 1, max: session.count, value });
+    const value = clamp(Math.round(frames / 10), 1, STRETCH);
+    Object.assign(input, { type: "number", min: 1, max: frames, value });
     input.setAttribute("aria-label", "Frames of the stretch");
     const told = element("span", "busiest");
     const tell = () => {
-      const width = clamp(Number(input.value) || 1, 1, session.count);
-      const { from, work } = busiestStretch(session, width);
-      told.replaceChildren(" frames: from ", frameLink(from), " to ", frameLink(from + width - 1),
-        `, ${grouped(work)} services, interrupts and reissues`);
+      const width = clamp(Number(input.value) || 1, 1, frames);
+      const { from, sum } = busiestStretch(session, width);
+      told.replaceChildren(" frames: from ", frameLink(from), " to ", frameLink(from + width - 1), `, ${grouped(sum)} reissues`);
     };
     input.addEventListener("input", tell);
     tell();
-    line.append("Of ", input, told, ". Ticks and refused frames do not count.");
+    line.append("Of ", input, told, ".");
     this.box.append(line);
   }
 }
 
 const isNumber = (text) => /^[\d,.]+( %)?$/.test(text);
 
-// What a frame is worth: one if it is accepted and no tick, and its reissues.
+// Of the stretches of so many frames behind the configuration the earliest with the most reissues.
 function busiestStretch(session, width) {
-  let work = 0, most = -1, from = 0;
-  const worth = (frame) => {
-    if (frame === 0 || session.refusal(frame)) return 0;
-    return (session.codes[session.ask[frame]] === 0x10 ? 0 : 1) + session.reissues(frame);
-  };
-  for (let frame = 0; frame < session.count; frame++) {
-    work += worth(frame);
-    if (frame >= width) work -= worth(frame - width);
-    if (frame >= width - 1 && work > most) [most, from] = [work, frame - width + 1];
+  let sum = 0, most = -1, from = 1;
+  for (let frame = 1; frame < session.count; frame++) {
+    sum += session.reissues(frame);
+    if (frame > width) sum -= session.reissues(frame - width);
+    if (frame >= width && sum > most) [most, from] = [sum, frame - width + 1];
   }
-  return { from, work: most };
+  return { from, sum: most };
 }

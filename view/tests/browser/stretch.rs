@@ -4,7 +4,7 @@ use crate::chromium::Browser;
 use crate::{browser, lively, page_with_stretches, story};
 
 /// By the answers alone: the first and the last frame, and the reissues.
-fn busiest(input: &[u8], w: usize) -> (usize, usize, u32) {
+pub fn busiest(input: &[u8], w: usize) -> (usize, usize, u32) {
     let answers = String::from_utf8(plain_executive::session::run(input)).unwrap();
     let reissues: Vec<u32> =
         answers.lines().skip(1).map(|answer| u32::from_str_radix(&answer[4..6], 16).unwrap()).collect();
