@@ -1,14 +1,20 @@
 /* A host of the executive: it configures, feeds frames as a ride's tasks and interrupts would, says what each answer means, and
-   what to do about a refusal. A real host also switches stacks where it says "switch" here; see docs/HOST.md. */
+   what to do about a refusal. It keeps a record of each frame, and says at the end which frames were the busiest. A real host also
+   switches stacks where it says "switch" here; see docs/HOST.md. */
 #include <stdio.h>
 #include <stdlib.h>
 
 #include "mcx11.h"
 
 #define TOCK_MS 125
+#define TICKS_PER_TOCK 1
 
 static mcx11_t ride;   /* static, so that all bytes are 0 */
 static uint8_t before; /* the task that ran before the call */
+
+static mcx11_record_t records[MCX11_MOST_RECORDS]; /* of the frames that have an answer, oldest first */
+static size_t kept;                                /* how many */
+static uint32_t ticks;                             /* since the configuration */
 
 /* What to do about each number. */
 static const char *advice(uint8_t number)
@@ -33,6 +39,7 @@ static const char *advice(uint8_t number)
     case MCX11_NUMBER_IDLE_OR_WAITING: return "delay tasks that are neither idle nor waiting";
     case MCX11_NUMBER_BEFORE_FIRST: return "execute its first tasks before it";
     case MCX11_NUMBER_ABOVE_MODULE: return "give the module a smaller part of the ride: host/both.c";
+    case MCX11_NUMBER_STRETCH: return "give at most 4,096 records, and ask for a stretch of 1 up to all of them";
     default: return "this number is new: see docs/HOST.md";
     }
 }
@@ -81,8 +88,8 @@ static void print_outcome(void)
     }
 }
 
-/* Tells what came of a call, and which task is to run. */
-static void tell(const char *asked, uint8_t number)
+/* What came of a call, and which task is to run. */
+static void print_call(const char *asked, uint8_t number)
 {
     printf("%s\n    ", asked);
     if (number == MCX11_NUMBER_MEMORY) {
@@ -110,6 +117,24 @@ static void tell(const char *asked, uint8_t number)
     printf("\n");
 }
 
+/* Tells what came of a frame, and keeps a record of it if it has an answer: a refused one has, one that gave 11 has not. */
+static void tell(const char *asked, uint8_t number)
+{
+    print_call(asked, number);
+    if (number != MCX11_NUMBER_MEMORY && kept < MCX11_MOST_RECORDS)
+        records[kept++] = mcx11_record(&ride, ticks / TICKS_PER_TOCK);
+}
+
+/* The clock ticks. How many tocks have passed no answer tells: for its records the host counts the ticks. */
+static void tick(void)
+{
+    const uint8_t number = mcx11_tick(&ride);
+
+    if (number == MCX11_ACCEPTED)
+        ticks++;
+    tell("clock: tick", number);
+}
+
 /* A station, task 1, signals the gate, task 2, and sees whether it was waiting. If not, the signal is taken back: the gate is
    not to open unasked later. The outcome in the answer is task 1's, for task 1 has the lower number and goes on. */
 static void open_the_gate(void)
@@ -117,6 +142,17 @@ static void open_the_gate(void)
     tell("task 1: signal semaphore 1, for the gate", mcx11_signal(&ride, 1));
     if (mcx11_outcome(&ride) == MCX11_OUTCOME_WOKE && mcx11_woke(&ride) == 0)
         tell("task 1: the gate was not waiting, so pend semaphore 1", mcx11_pend(&ride, 1));
+}
+
+/* Task 1 takes the numbers of three cars as task 2 puts them: it waits each time, and its request is reissued. */
+static void count_the_cars(void)
+{
+    uint8_t car;
+
+    for (car = 1; car <= 3; car++) {
+        tell("task 1: take from queue 1", mcx11_dequeue(&ride, 1));
+        tell("task 2: put a car's number into queue 1", mcx11_enqueue(&ride, 1, &car, sizeof car));
+    }
 }
 
 /* A tock value for milliseconds. */
@@ -163,6 +199,22 @@ static void inspect_the_wheels(void)
     tell("task 1: season timer of 30 days", mcx11_season_timer(&ride, MCX11_SELF, MCX11_OWN, MCX11_SEASON_EVERY(tocks)));
 }
 
+/* Which w consecutive frames had the most reissues, the first frame behind the configuration being frame 1. */
+static void print_the_busiest(size_t w)
+{
+    uint32_t sum;
+    size_t place;
+    const uint8_t number = mcx11_busiest(records, kept, w, &sum, &place);
+
+    printf("the busiest %u of %u frames\n    ", (unsigned)w, (unsigned)kept);
+    if (number == MCX11_ACCEPTED)
+        printf("frames %u to %u, %u reissued, from tock %u on", (unsigned)(place + 1), (unsigned)(place + w), (unsigned)sum,
+               (unsigned)records[place].tocks);
+    else
+        print_refusal(number);
+    printf("\n");
+}
+
 int main(void)
 {
     static const uint8_t entry[] = {0x41};
@@ -174,7 +226,7 @@ int main(void)
     configuration.queues = 1;
     configuration.timers = 1;
     configuration.messages = 1;
-    configuration.ticks_per_tock = 1;
+    configuration.ticks_per_tock = TICKS_PER_TOCK;
     configuration.milliseconds_per_tock = TOCK_MS;
     configuration.queue[1].width = 1;
     configuration.queue[1].depth = 1;
@@ -185,15 +237,15 @@ int main(void)
 
     tell("tick before the configuration", mcx11_tick(&ride));
     number = mcx11_configure_from(&ride, &configuration);
-    tell("configuration", number);
+    print_call("configuration", number);
     if (number != MCX11_ACCEPTED)
         return EXIT_FAILURE;
 
     tell("task 1: take from queue 1", mcx11_dequeue(&ride, 1));
     tell("task 2: put $41 into queue 1", mcx11_enqueue(&ride, 1, entry, sizeof entry));
     tell("task 1: delay of 250 ms", mcx11_delay(&ride, MCX11_SELF, MCX11_OWN, once(250)));
-    tell("clock: tick", mcx11_tick(&ride));
-    tell("clock: tick", mcx11_tick(&ride));
+    tick();
+    tick();
     tell("task 1: take from queue 2", mcx11_dequeue(&ride, 2));
     tell("task 1: wait for semaphore 1", mcx11_wait(&ride, 1));
     tell("task 2: wait for semaphore 1", mcx11_wait(&ride, 1));
@@ -201,16 +253,19 @@ int main(void)
     tell("device: interrupt exit with semaphore 1", mcx11_interrupt_exit(&ride, 1));
     open_the_gate();
     tell("task 1: resume task 2", mcx11_resume(&ride, 2));
+    count_the_cars();
     tell("task 1: delay of 125 ms", mcx11_delay(&ride, MCX11_SELF, MCX11_OWN, once(125)));
     tell("task 2: wait for semaphore 1", mcx11_wait(&ride, 1));
-    tell("clock: tick", mcx11_tick(&ride));
+    tick();
     open_the_gate();
     tell("task 1: terminate itself", mcx11_terminate(&ride, MCX11_SELF));
     start_the_lap();
     tell("task 2: suspend itself", mcx11_suspend(&ride, MCX11_SELF));
     tell("task 3: pend semaphore 1, so that the gate stays shut", mcx11_pend(&ride, 1)); /* its first service: it has begun */
-    tell("clock: tick", mcx11_tick(&ride));
+    tick();
     end_the_lap();
     inspect_the_wheels();
+    print_the_busiest(5);
+    print_the_busiest(kept + 1);
     return EXIT_SUCCESS;
 }

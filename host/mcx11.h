@@ -27,9 +27,9 @@ extern "C" {
 /** @name The version: docs/CHANGES.md says what each changed for hosts
  * @{ */
 #define MCX11_VERSION_MAJOR 5 /**< a host has to be changed */
-#define MCX11_VERSION_MINOR 1 /**< something is new, or the lent memory has another layout */
+#define MCX11_VERSION_MINOR 2 /**< something is new, or the lent memory has another layout */
 #define MCX11_VERSION_PATCH 0 /**< something is mended */
-#define MCX11_VERSION "5.1.0" /**< the three as a text */
+#define MCX11_VERSION "5.2.0" /**< the three as a text */
 /** @} */
 
 /** @name The sizes of the lent blocks
@@ -53,6 +53,7 @@ extern "C" {
 #define MCX11_LINE_DIGITS 652       /**< the longest line of digits */
 #define MCX11_ENTRY_BYTES 16        /**< the widest entry of a queue */
 #define MCX11_MOST_PAIRS 64         /**< pairs of tasks in a configuration, on the module too */
+#define MCX11_MOST_RECORDS 4096     /**< records in a list for mcx11_busiest, of the module's too */
 #define MCX11_MOST_TASKS 126        /**< T */
 #define MCX11_MOST_QUEUES 32        /**< Q */
 #define MCX11_MOST_TIMERS 64        /**< R */
@@ -142,10 +143,24 @@ enum mcx11_number {
     MCX11_NUMBER_HAS_A_TIMER = 24,        /**< $18: task and semaphore have a timer */
     MCX11_NUMBER_IDLE_OR_WAITING = 25,    /**< $19: delay of a task that is idle or waiting */
     MCX11_NUMBER_BEFORE_FIRST = 26,       /**< $1A: execute before a first task, one that is idle */
-    MCX11_NUMBER_ABOVE_MODULE = 27        /**< $1B: a configuration for the controller that is above the module's limits */
+    MCX11_NUMBER_ABOVE_MODULE = 27,       /**< $1B: a configuration for the controller that is above the module's limits */
+    MCX11_NUMBER_STRETCH = 28             /**< $1C: above 4,096 records, or a stretch of none or of more than there are; in no answer */
 };
 
-/* ---- The archive's own functions. Of these a host needs the last three alone. */
+/** What a host keeps of a frame for mcx11_busiest; mcx11_record makes it. */
+typedef struct mcx11_record_t {
+    uint32_t tocks;    /**< since the start, as the host counts them */
+    uint8_t running;   /**< the running task of the answer, 0 for the null task */
+    uint16_t reissues; /**< of the answer; mcx11_busiest reads these alone */
+} mcx11_record_t;
+
+/** @cond the archive has 8 bytes, aligned to 4, and reissues at byte 6; under another layout, as packed structs have, this is refused */
+struct mcx11_record_behind_a_byte { uint8_t byte; mcx11_record_t record; };
+typedef char mcx11_record_layout[sizeof(mcx11_record_t) == 8 && offsetof(mcx11_record_t, reissues) == 6 &&
+                                 sizeof(struct mcx11_record_behind_a_byte) == 12 ? 1 : -1];
+/** @endcond */
+
+/* ---- The archive's own functions. Of these a host needs the last four alone. */
 
 /** Configures over blocks, each its address and its length. Blocks and frame do not overlap. @see mcx11_configure */
 uint8_t mcx11_configure_blocks(const uint8_t *frame, size_t length, uint8_t *config, size_t config_bytes, uint8_t *tables,
@@ -173,6 +188,18 @@ int32_t mcx11_write_line(const uint8_t *frame, size_t length, uint8_t *line, siz
 /** Milliseconds as the nearest number of tocks of per milliseconds each; an exact half goes up. @return the tocks, 1 to 32,767, for
  * MCX11_ONCE, or a number with a minus sign: 10 where it is another number of tocks, 3 where per is 0 */
 int32_t mcx11_milliseconds(uint16_t ms, uint16_t per);
+
+/**
+ * The busiest stretch of a run: the largest sum of reissues over any w consecutive records, and where the earliest such stretch begins.
+ * One walk over the records, whatever w is. They are the host's own array: only read, and where they lie.
+ * @param records the records of one run, the controller's or the module's, oldest first; where count is 0 it may be NULL
+ * @param count   how many, at most MCX11_MOST_RECORDS
+ * @param w       how many records a stretch has, 1 to count
+ * @param sum     where the sum is written; it and place are two places, and neither overlaps the records
+ * @param place   where the place of that stretch's first record is written; the list's first has place 0
+ * @return the number: 0, or 28 where count or w is another, and then nothing is written
+ */
+uint8_t mcx11_busiest(const mcx11_record_t *records, size_t count, size_t w, uint32_t *sum, size_t *place);
 
 /* ---- The trace hooks */
 
@@ -311,10 +338,11 @@ static inline const char *mcx11_number_name(uint8_t number)
     static const char *const from_0[] = {"accepted",  "line",  "length",  "configuration", "code",         "task",
                                          "semaphore", "queue", "message", "tock value",    "milliseconds", "memory"};
     static const char *const from_20[] = {"null task runs", "semaphore waiting", "message in mailbox", "all timers active",
-                                          "has a timer",    "idle or waiting",   "before first",      "above module"};
+                                          "has a timer",    "idle or waiting",   "before first",      "above module",
+                                          "stretch"};
     if (number <= MCX11_NUMBER_MEMORY)
         return from_0[number];
-    if (number >= MCX11_NUMBER_NULL_TASK_RUNS && number <= MCX11_NUMBER_ABOVE_MODULE)
+    if (number >= MCX11_NUMBER_NULL_TASK_RUNS && number <= MCX11_NUMBER_STRETCH)
         return from_20[number - MCX11_NUMBER_NULL_TASK_RUNS];
     return "unknown";
 }

@@ -46,6 +46,7 @@
 #define mcx11_value mcx11_module_value
 #define mcx11_value_length mcx11_module_value_length
 #define mcx11_woke mcx11_module_woke
+#define mcx11_record mcx11_module_record
 
 /* mcx11_readers.h */
 #define mcx11_layout mcx11_module_layout
@@ -110,6 +111,7 @@
 #undef mcx11_value
 #undef mcx11_value_length
 #undef mcx11_woke
+#undef mcx11_record
 
 /* mcx11_readers.h */
 #undef mcx11_layout

@@ -184,3 +184,10 @@ static inline uint8_t mcx11_woke(const mcx11_t *m)
 {
     return mcx11_outcome(m) == MCX11_OUTCOME_WOKE ? mcx11_value(m)[0] : (uint8_t)0;
 }
+
+/** What to keep of a frame for mcx11_busiest: the tocks as given, and of the answer the running task and the reissues. */
+static inline mcx11_record_t mcx11_record(const mcx11_t *m, uint32_t tocks)
+{
+    const mcx11_record_t kept = {tocks, mcx11_running(m), mcx11_reissues(m)};
+    return kept;
+}

@@ -1,6 +1,7 @@
 /* Lines of a session from standard input. Each is fed twice: through the call of host/mcx11.h that has its code's name, and as
    a frame to a copy of the memory. What the trace hook gets from the first is written to standard output: the line that was
-   fed, the answer, the number and what was called. Exit status 1 where the two memories differ. Valid as C and as C++. */
+   fed, the answer, the record of it, the number and what was called. Exit status 1 where the two memories differ. Valid as C and
+   as C++. */
 #define MCX11_TRACE written_down
 #include "mcx11.h"
 
@@ -8,12 +9,18 @@
 #include <string.h>
 
 static mcx11_t ride, copy;
+static uint32_t tocks_told = 0xFFFFFFF0; /* one more at each call, past the largest too */
 
 static void print_line(const uint8_t *bytes, size_t length)
 {
     uint8_t line[MCX11_LINE_DIGITS];
     const int32_t digits = mcx11_write_line(bytes, length, line, sizeof line);
     printf("%.*s", digits < 0 ? 0 : (int)digits, (const char *)line);
+}
+
+static void print_record(mcx11_record_t record)
+{
+    printf(" %u:%u:%u", (unsigned)record.tocks, (unsigned)record.running, (unsigned)record.reissues);
 }
 
 void written_down(const mcx11_t *m, enum mcx11_traced what, const uint8_t *bytes, size_t length, uint8_t number)
@@ -23,6 +30,7 @@ void written_down(const mcx11_t *m, enum mcx11_traced what, const uint8_t *bytes
     print_line(bytes, length);
     printf(" ");
     print_line(mcx11_answer(m), mcx11_answer_length(m));
+    print_record(mcx11_record(m, tocks_told++));
     printf(" %s, %s %s\n", mcx11_number_name(number), what == MCX11_TRACED_CONFIGURATION ? "configuration" : "frame",
            what == MCX11_TRACED_CONFIGURATION || length == 0 ? "" : mcx11_code_name(bytes[0]));
 }

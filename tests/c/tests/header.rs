@@ -1,4 +1,5 @@
-//! host/mcx11.h: its calls by names feed the frames that they should, its trace hooks get every call, its texts are its names.
+//! host/mcx11.h: its calls by names feed the frames that they should, its trace hooks get every call, its texts are its names; its
+//! records are of the answers, and its busiest stretch is theirs.
 //! host/mcx11_state.h: its readers of the state tell what the other implementation has, whatever the memory holds.
 //! All of it for the controller and for the module, whose names are in host/mcx11_as_module.h.
 
@@ -68,7 +69,7 @@ fn sessions(caller: Caller) -> Vec<Vec<u8>> {
     stories.chain(random).chain(configurations).collect()
 }
 
-/// What the hook writes of a session: line, answer and number of each call.
+/// What the hook writes of a session: line, answer, record and number of each call.
 fn traced(program: &std::path::Path, input: &[u8]) -> String {
     printed(&mut Command::new(program), input)
 }
@@ -109,6 +110,12 @@ fn canonical(frame: &[u8]) -> Vec<u8> {
     frame
 }
 
+/// The record of an answer, with the tocks that tests/c/calls.c gives for this call.
+fn record(call: usize, answer: &[u8]) -> String {
+    let bytes = line::read(answer).expect("an answer is a line");
+    format!("{}:{}:{}", 0xFFFF_FFF0_u32.wrapping_add(call as u32), bytes[1], bytes[2])
+}
+
 fn the_calls_by_names_feed_their_frames_and_are_traced(caller: Caller) {
     let folder = scratch(&format!("calls {caller:?}"));
     let told =
@@ -131,7 +138,8 @@ fn the_calls_by_names_feed_their_frames_and_are_traced(caller: Caller) {
             let number = &numbers[usize::from(line::read(&answer[..2]).expect("a refusal")[0])];
             let code = code.map_or("", |&code| &code_names[usize::from(code)]);
             let digits = String::from_utf8(line::write(&called).expect("a line")).expect("digits");
-            writeln!(expected, "{digits} {} {number}, {what} {code}", String::from_utf8_lossy(answer)).unwrap();
+            let (answer, record) = (String::from_utf8_lossy(answer), record(index, answer));
+            writeln!(expected, "{digits} {answer} {record} {number}, {what} {code}").unwrap();
         }
         for program in &programs {
             assert_eq!(traced(program, &input), expected, "{}", program.display());
@@ -301,6 +309,58 @@ fn the_texts_are_the_enumerators_names() {
     let all = ["code", "outcome_kind", "number"].map(names);
     let due = (0..256).map(|value| format!("{}|{}|{}", all[0][value], all[1][value], all[2][value]));
     assert!(told.lines().eq(due.clone()), "{:?}", told.lines().zip(due).find(|(ours, due)| ours != due));
+}
+
+// ---- the busiest stretch
+
+/// What tests/c/busiest.c prints: of six records with 2, 5, 1, 4, 3 and 0 reissues, where 2 + 5 and 4 + 3 are the same, and of the last
+/// four; of no record; of many with 65,535 each.
+const BUSIEST: &str = "8 bytes: 0, 4, 6
+0 of 6 few: stretch, 77 at 88
+1 of 6 few: accepted, 5 at 1
+2 of 6 few: accepted, 7 at 0
+3 of 6 few: accepted, 10 at 1
+4 of 6 few: accepted, 13 at 1
+5 of 6 few: accepted, 15 at 0
+6 of 6 few: accepted, 15 at 0
+7 of 6 few: stretch, 77 at 88
+2 of 4 few: accepted, 7 at 1
+4294967295 of 6 few: stretch, 77 at 88
+0 of 0 none: stretch, 77 at 88
+1 of 0 none: stretch, 77 at 88
+4096 of 4096 many: accepted, 268431360 at 0
+1 of 4096 many: accepted, 65535 at 0
+1 of 4097 many: stretch, 77 at 88
+";
+
+#[test]
+fn every_language_asks_for_the_busiest_stretch() {
+    let folder = scratch("busiest");
+    for language in languages() {
+        let program = built(&folder, "busiest.c", language, &[]);
+        assert_eq!(printed(&mut Command::new(&program), b""), BUSIEST, "{language:?}");
+    }
+}
+
+/// A compiler that lays the record out otherwise than the archive does refuses the header.
+#[test]
+fn a_record_has_the_archives_layout_or_the_header_is_refused() {
+    for (compiler, language) in languages() {
+        let tried = |told: &[&str]| {
+            let mut compile = Command::new(compiler);
+            compile.args(language).args(told).args(["-fsyntax-only", "-I"]).arg(repository().join("host")).arg("-");
+            run(&mut compile, b"#include \"mcx11.h\"\n")
+        };
+        assert!(tried(&[]).status.success(), "{compiler} {language:?}");
+        for packed in ["-fpack-struct=1", "-fpack-struct=2"] {
+            let output = tried(&[packed]);
+            let errors = String::from_utf8_lossy(&output.stderr);
+            assert!(
+                !output.status.success() && errors.contains("mcx11_record_layout"),
+                "{compiler} {packed}: {errors}"
+            );
+        }
+    }
 }
 
 /// Doxygen finds everything documented.

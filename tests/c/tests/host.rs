@@ -81,6 +81,9 @@ fn numbers() -> Vec<(String, u32)> {
     constants("tests/src/numbers.rs", "Number")
 }
 
+/// Records in a list, by document 02's W9.
+const MOST_RECORDS: usize = 4096;
+
 const BLOCKS: [&str; 5] = ["config", "tables", "slots", "timers", "answer"];
 
 /// What a caller's names begin with, behind MCX11_ or mcx11_.
@@ -108,7 +111,8 @@ fn the_sizes_and_limits_are_the_papers() {
     let most = ["TASKS", "QUEUES", "TIMERS", "MESSAGES", "QUEUE_BYTES"];
     let limits = |caller: Caller| constants_of(caller, "MOST_", most, "", limits(caller));
     let both = [("FRAME_BYTES", MOST_BYTES), ("LINE_DIGITS", MOST_DIGITS), ("ENTRY_BYTES", SLOT_BYTES)];
-    let both = both.into_iter().chain([("MOST_PAIRS", MOST_PAIRS)]).map(|(name, size)| (name.to_string(), size as u32));
+    let both = both.into_iter().chain([("MOST_PAIRS", MOST_PAIRS), ("MOST_RECORDS", MOST_RECORDS)]);
+    let both = both.map(|(name, size)| (name.to_string(), size as u32));
     let due = Caller::ALL.into_iter().flat_map(sizes).chain(both).chain(Caller::ALL.into_iter().flat_map(limits));
     let defined = named(&text("host/mcx11.h"), "#define MCX11_", " ", ' ').into_iter();
     let defined: Vec<_> = defined.filter(|(name, _)| !name.starts_with("VERSION")).collect();

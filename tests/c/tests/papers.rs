@@ -12,7 +12,7 @@ mod tools;
 use std::fs;
 use std::path::Path;
 use std::process::Command;
-use tools::{checkout, installed, printed, repository, scratch, text, STRICT};
+use tools::{built, checkout, installed, printed, repository, scratch, text, two_languages, STRICT};
 
 const PAPERS: [&str; 5] = ["README.md", "docs/HOST.md", "docs/FRAMES.md", "examples/README.md", "tests/README.md"];
 
@@ -124,6 +124,19 @@ fn every_snippet_is_compiled_or_run() {
         let folder = checkout(&format!("paper {}", paper.replace('/', " ")));
         let run = run_all(paper, &folder);
         assert!(run > 0 || paper == "docs/FRAMES.md", "{paper}: no snippets");
+    }
+}
+
+/// What docs/HOST.md does about a run of more frames than a list may have misses no stretch.
+#[test]
+fn the_pages_long_run_misses_no_stretch() {
+    let folder = scratch("long run");
+    let busy = snippets("docs/HOST.md").into_iter().find(|snippet| snippet.body.contains("busiest_of_run("));
+    let busy = busy.expect("a snippet with busiest_of_run");
+    fs::write(folder.join(named(&busy, ".c")), &busy.body).unwrap();
+    for language in two_languages() {
+        let program = built(&folder, "long_run.c", language, &["-O2", "-I", &folder.display().to_string()]);
+        assert_eq!(printed(&mut Command::new(&program), b""), "27190 compared\n", "{language:?}");
     }
 }
 
