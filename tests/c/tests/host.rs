@@ -9,6 +9,7 @@ use plain_executive::configuration::MOST_PAIRS;
 use plain_executive::generator::Generator;
 use plain_executive::limits::Limits;
 use plain_executive::line::{MOST_BYTES, MOST_DIGITS};
+use plain_executive::stretch::MOST_RECORDS;
 use plain_executive::tasks::SLOT_BYTES;
 use std::fs;
 use std::process::Command;
@@ -80,9 +81,6 @@ fn codes_outcomes_and_numbers_are_the_papers() {
 fn numbers() -> Vec<(String, u32)> {
     constants("tests/src/numbers.rs", "Number")
 }
-
-/// Records in a list, by document 02's W9.
-const MOST_RECORDS: usize = 4096;
 
 const BLOCKS: [&str; 5] = ["config", "tables", "slots", "timers", "answer"];
 
