@@ -1,6 +1,7 @@
 //! Memory between closed pages: an access outside a lent part ends the test, and a byte written beside it is noticed.
 
 use std::cell::Cell;
+use std::process::Command;
 use std::slice;
 
 use plain_executive::numbers::Number;
@@ -168,6 +169,18 @@ thread_local! {
 /// What is told of a call that leaves its memory: the test's own numbers.
 pub fn now(case: [u64; 3]) {
     CASE.set(case);
+}
+
+/// The case of a test that dies on purpose.
+pub const DYING: [u64; 3] = [1, 2, 0xBEEF];
+
+/// A test of this program that is ignored, run as a child, dies of an access outside in that case.
+pub fn dies(test: &str) {
+    let this = std::env::current_exe().expect("a name");
+    let child = Command::new(this).args(["--exact", test, "--ignored"]).output().expect("a child");
+    assert!(!child.status.success(), "{test}");
+    let said = String::from_utf8_lossy(&child.stderr).into_owned();
+    assert!(said.contains("a call left its memory: case 00000001 00000002 0000BEEF"), "{test}: {said}");
 }
 
 fn watch_for_signals() {

@@ -2,12 +2,10 @@
 //! docs/MEMORY.md is broken, and then nothing is written; every other memory means a state, and the frame does to it what it
 //! does to the other implementation in that state.
 
-use std::process::Command;
-
 use c::caller::{Blocks, Caller};
 use c::damage::{damage, frames, Counts, Watch};
 use c::dropped::DROPPED;
-use c::fence::{now, Fences, Side};
+use c::fence::{dies, now, Fences, Side, DYING};
 use c::lent::{parts, Lent, Regions, COUNT, FRAME, PART, PLANE, PLANES, SIZES};
 use c::rules::{self, Rule};
 use c::strange::STRANGE;
@@ -327,25 +325,19 @@ fn a_write_beside_a_block_is_noticed() {
 /// The closed pages are closed: a child that reads one byte too far dies of it.
 #[test]
 fn a_read_outside_a_block_is_noticed() {
-    for name in ["reads_before_a_block", "reads_behind_a_block"] {
-        let this = std::env::current_exe().expect("a name");
-        let child = Command::new(this).args(["--exact", name, "--ignored"]).output().expect("a child");
-        assert!(!child.status.success(), "{name}");
-        let said = String::from_utf8_lossy(&child.stderr).into_owned();
-        assert!(said.contains("a call left its memory: case 00000001 00000002 0000BEEF"), "{name}: {said}");
-    }
+    ["reads_before_a_block", "reads_behind_a_block"].into_iter().for_each(dies);
 }
 
 #[test]
 #[ignore = "dies; run by a_read_outside_a_block_is_noticed"]
 fn reads_before_a_block() {
-    now([1, 2, 0xBEEF]);
+    now(DYING);
     Fences::new().read_outside(Side::Front);
 }
 
 #[test]
 #[ignore = "dies; run by a_read_outside_a_block_is_noticed"]
 fn reads_behind_a_block() {
-    now([1, 2, 0xBEEF]);
+    now(DYING);
     Fences::new().read_outside(Side::Back);
 }

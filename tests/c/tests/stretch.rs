@@ -1,10 +1,8 @@
 //! Document 02, W9, through the C function: the busiest stretch of lists of records, against the other implementation's double loop.
 //! Other seeds, by the variable SEED, give other lists and other sessions.
 
-use std::process::Command;
-
 use c::caller::Caller;
-use c::fence::{now, Side};
+use c::fence::{dies, now, Side, DYING};
 use c::lent::Lent;
 use c::stretch::lists::{self, any, edges, every_w, records, CONTENTS, SHORT};
 use c::stretch::{busiest, engine, mcx11_busiest, plain, right, Case, Exported, Fenced, Program, Record, EDGES, WRONG};
@@ -143,7 +141,7 @@ fn lists_between_closed_pages() {
 
 /// A call of it with three records.
 fn call_fenced(function: Exported, side: Side) {
-    now([1, 2, 0xBEEF]);
+    now(DYING);
     let list = records(&mut Random::new(7), &[1, 2, 3]);
     Fenced::new(3).call(function, (side, false), &list, 2, &mut Busiest { sum: 0, place: 0 });
 }
@@ -170,13 +168,7 @@ fn a_write_beside_the_sum_is_noticed() {
 /// A child that reads the record before a list or behind it dies of it.
 #[test]
 fn a_read_outside_a_list_is_noticed() {
-    for name in ["reads_before_a_list", "reads_behind_a_list"] {
-        let this = std::env::current_exe().expect("a name");
-        let child = Command::new(this).args(["--exact", name, "--ignored"]).output().expect("a child");
-        assert!(!child.status.success(), "{name}");
-        let said = String::from_utf8_lossy(&child.stderr).into_owned();
-        assert!(said.contains("a call left its memory: case 00000001 00000002 0000BEEF"), "{name}: {said}");
-    }
+    ["reads_before_a_list", "reads_behind_a_list"].into_iter().for_each(dies);
 }
 
 #[test]
