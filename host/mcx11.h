@@ -147,6 +147,7 @@ enum mcx11_number {
     MCX11_NUMBER_STRETCH = 28             /**< $1C: above 4,096 records, or a stretch of none or of more than there are; in no answer */
 };
 
+#pragma pack(push, 4) /* as the archive has it, also where structs are packed */
 /** What a host keeps of a frame for mcx11_busiest; mcx11_record makes it. */
 typedef struct mcx11_record_t {
     uint32_t tocks;    /**< since the start, as the host counts them */
@@ -154,11 +155,12 @@ typedef struct mcx11_record_t {
     uint16_t reissues; /**< of the answer; mcx11_busiest reads these alone */
 } mcx11_record_t;
 
-/** @cond the archive has 8 bytes, aligned to 4, and reissues at byte 6; under another layout, as packed structs have, this is refused */
+/** @cond the archive has 8 bytes, aligned to 4, and reissues at byte 6; under another layout this is refused */
 struct mcx11_record_behind_a_byte { uint8_t byte; mcx11_record_t record; };
 typedef char mcx11_record_layout[sizeof(mcx11_record_t) == 8 && offsetof(mcx11_record_t, reissues) == 6 &&
                                  sizeof(struct mcx11_record_behind_a_byte) == 12 ? 1 : -1];
 /** @endcond */
+#pragma pack(pop)
 
 /* ---- The archive's own functions. Of these a host needs the last four alone. */
 

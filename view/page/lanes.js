@@ -137,6 +137,7 @@ class Lanes {
     drawArrows(pen, paint, this);
     this.firstDifference(pen, paint, height);
     this.cursor(pen, paint, frame, height);
+    this.view.stretch?.drawInLanes(pen, paint, height);
   }
 
   // Of two sessions: a dashed line where they part.

@@ -79,6 +79,7 @@ class List {
     if (frame > 0 && session.tocks[frame] !== session.tocks[frame - 1]) row.classList.add("tock");
     if (this.view.matches(frame)) row.classList.add("match");
     if (this.view.differs(frame)) row.classList.add("differs");
+    if (this.view.stretch?.has(frame)) row.classList.add("in-stretch");
     const mark = session.refusal(frame) ? "\u2715" : session.reissues(frame) ? "\u25CB" : "";
     const text = element("span");
     text.append(element("span", "ask", session.askedWords(frame) + ": "), element("span", "say", session.answerWords(frame)));

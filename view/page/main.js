@@ -7,6 +7,7 @@ class View {
   constructor(app, session, part) {
     Object.assign(this, { app, session, part });
     this.axis = new Axis(session, app.window);
+    this.stretch = session.busiest && new Stretch(part, this);
     this.overview = new Overview(part, this);
     this.lanes = new Lanes(part, this);
     this.list = new List(part, this);

@@ -202,6 +202,7 @@ class Overview {
     pen.lineWidth = 1;
     pen.fillStyle = paint.chosenedge;
     pen.fillRect(axis.position(frame) * this.scale - 1, 0, 2, height);
+    this.view.stretch?.drawInOverview(pen, paint, this.scale);
   }
 
   // Dragging moves the window, its edges make it wider or narrower, a click elsewhere brings it there.

@@ -7,7 +7,8 @@ class Summary {
     this.view = view;
     this.box = part.querySelector(".summary");
     for (const table of view.session.tables) this.table(table);
-    this.busiest();
+    if (view.session.busiest) this.stretch(view.session.busiest.words);
+    else if (view.session.count > 1) this.busiest();
   }
 
   table({ title, note, columns, rows }) {
@@ -32,10 +33,17 @@ class Summary {
     for (const part of text.split(/(#\d+)/)) cell.append(/^#\d+$/.test(part) ? frameLink(Number(part.slice(1))) : part);
   }
 
+  // The busiest stretch that was asked for.
+  stretch(words) {
+    const line = element("p", "busiest");
+    this.cell(line, words[0].toUpperCase() + words.slice(1) + ".");
+    this.box.append(element("h2", "", "Busiest stretch"), line);
+  }
+
+  // That of as many frames as are typed in.
   busiest() {
     const { session } = this.view;
     const frames = session.count - 1; // behind the configuration
-    if (frames === 0) return;
     this.box.append(element("h2", "", "Busiest stretch"));
     const line = element("p");
     const input = element("input");
@@ -44,9 +52,9 @@ class Summary {
     input.setAttribute("aria-label", "Frames of the stretch");
     const told = element("span", "busiest");
     const tell = () => {
-      const width = clamp(Number(input.value) || 1, 1, frames);
+      const width = clamp(Math.trunc(Number(input.value)) || 1, 1, frames);
       const { from, sum } = busiestStretch(session, width);
-      told.replaceChildren(" frames: from ", frameLink(from), " to ", frameLink(from + width - 1), `, ${grouped(sum)} reissues`);
+      told.replaceChildren(" frames: from ", frameLink(from), " to ", frameLink(from + width - 1), `, ${grouped(sum)} reissue${sum === 1 ? "" : "s"}`);
     };
     input.addEventListener("input", tell);
     tell();

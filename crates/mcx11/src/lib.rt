@@ -1,7 +1,8 @@
 // The exported C functions, thin over the proved crates: the entries of the ride controller and of the brake module, over one executive
 // (by_limits), lines and milliseconds, and the busiest stretch of a run's records.
-// Promises: each result and each byte of a lent buffer is the ledger's, for every argument; no call asks anything of its caller.
-// Rests on the crates below it, and on a caller that lends each slice as a pointer with its length.
+// Promises: each result and each byte of a lent buffer is the ledger's, and those of the stretch are its definition's, for every argument;
+// no call asks anything of its caller.
+// Rests on the crates below it, and on a caller that lends each slice as a pointer with its length, and each number as a pointer.
 //
 // A call of the reader, the writer or milliseconds returns one int32_t: what was computed, from 0 up, or with a minus sign the
 // number of document 01 that refuses the call. No such number is 0, so a caller's test is `if (r < 0)`.

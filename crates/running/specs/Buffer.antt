@@ -16,10 +16,7 @@ use Rattle.running.specs.Slices.{shr, mut, Slice}
 use Rattle.running.specs.Memories as memories
 use Rattle.running.specs.Stores as stores
 use Rattle.running.specs.Stores.{Stores}
-use Rattle.running.specs.Machine.{Pr, A₀, W₀, Cell, Cells, _∗_, _⊨_, weaken, bytesAt}
-
-swap : (P Q R : Pr) → ent closed.𝓤 (P ∗ (Q ∗ R)) (Q ∗ (P ∗ R))
-swap P Q R = via closed.𝓤 ((P ∗ Q) ∗ R) (assoc′ closed.𝓤 P Q R) (via closed.𝓤 ((Q ∗ P) ∗ R) (monoL closed.𝓤 R (comm∗ closed.𝓤 P Q)) (assoc∗ closed.𝓤 Q P R))
+use Rattle.running.specs.Machine.{Pr, A₀, W₀, Cell, Cells, _∗_, _⊨_, weaken, swap, bytesAt}
 
 to-call : (X Y Z F : Pr) → ent closed.𝓤 (X ∗ (Y ∗ (Z ∗ F))) ((X ∗ Z) ∗ (Y ∗ F))
 to-call X Y Z F = via closed.𝓤 (X ∗ (Z ∗ (Y ∗ F))) (monoR closed.𝓤 X (swap Y Z F)) (assoc′ closed.𝓤 X Z (Y ∗ F))

@@ -8,7 +8,7 @@ use mathlib.Core.Logic.{∥∥₁-prop, ∥∥₁-elim, ∥∥₁-map}
 use Prim.Native.Nat.{ℕ}
 use mathlib.Core.List.{List, [], _∷_, _++_}
 use mir.Val.{Val}
-use base.Logic.{SProp, ent, sep, ex, emp, via, comm∗, assoc′, emp∗, mono∗, monoL, monoR, fst∗, exI, exE}
+use base.Logic.{SProp, ent, sep, ex, emp, via, comm∗, assoc∗, assoc′, emp∗, mono∗, monoL, monoR, fst∗, exI, exE}
 use base.Fml.{Fml}
 use prog.Memory.{Memory}
 use prog.Machine.{done as ended}
@@ -57,6 +57,9 @@ abbrev pub _⊨_ : Memory → Pr → Type 1
 infix 26 _⊨_
 pub weaken : (σ : Memory) {P Q : Pr} → ent closed.𝓤 P Q → σ ⊨ P → σ ⊨ Q
 weaken σ h s = sat-weaken closed.𝓤 closed.H closed.model σ h s
+
+pub swap : (P Q R : Pr) → ent closed.𝓤 (P ∗ (Q ∗ R)) (Q ∗ (P ∗ R))
+swap P Q R = via closed.𝓤 ((P ∗ Q) ∗ R) (assoc′ closed.𝓤 P Q R) (via closed.𝓤 ((Q ∗ P) ∗ R) (monoL closed.𝓤 R (comm∗ closed.𝓤 P Q)) (assoc∗ closed.𝓤 Q P R))
 
 -- ---- one run
 abbrev pub Enters : (L : List Slice) (T : RattleType) → Ids L → Pr

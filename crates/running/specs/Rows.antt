@@ -10,7 +10,7 @@ use lib.Dec.{T}
 use lib.ListN.{length}
 use mir.Syntax.{Ty, tyArray}
 use mir.Val.{Val, WT, hasTy}
-use base.Logic.{ent, guard, emp, upd, via, comm∗, assoc∗, assoc′, fst∗, monoL, monoR, upd-mono, upd-frame}
+use base.Logic.{ent, guard, emp, upd, via, assoc∗, assoc′, fst∗, monoL, monoR, upd-mono, upd-frame}
 use base.Fml.{fat}
 use prog.Memory.{Memory, size, loadM, storeM, allocM}
 use prog.Model.{elems}
@@ -19,7 +19,7 @@ use types.Kit.{‵, raw, _⊛_, given, _$_, _∵_, !, qed, move, use2, split, le
 use contract.Monad.{guard→fact}
 use contract.Adequate.{sat-upd, sat-fact}
 use Rattle.running.specs.Stores as stores
-use Rattle.running.specs.Machine.{Pr, A₀, W₀, _∗_, _⊨_, weaken, drops}
+use Rattle.running.specs.Machine.{Pr, A₀, W₀, _∗_, _⊨_, weaken, swap, drops}
 
 -- from σ to σ': the values are stored from the offset o on in block b
 pub data StoresRow (τ : Ty) (b : ℕ) : (o : ℕ) (vs : List Val) (σ σ' : Memory) → Type 0 where
@@ -75,9 +75,6 @@ pub sat-store : (σ : Memory) (τ : Ty) (b o : ℕ) (v : Val) (F : Pr) → Typed
 sat-store = stores.sat-store closed.𝓤 closed.H closed.model A₀ W₀
 
 -- ---- as many as there is room for
-swap : (P Q R : Pr) → ent closed.𝓤 (P ∗ (Q ∗ R)) (Q ∗ (P ∗ R))
-swap P Q R = via closed.𝓤 ((P ∗ Q) ∗ R) (assoc′ closed.𝓤 P Q R) (via closed.𝓤 ((Q ∗ P) ∗ R) (monoL closed.𝓤 R (comm∗ closed.𝓤 P Q)) (assoc∗ closed.𝓤 Q P R))
-
 pub sat-row : (vs : List Val) (σ : Memory) (τ : Ty) (b o : ℕ) (F : Pr) → AllTyped τ vs → σ ⊨ RoomAt (tyArray τ (length vs)) b o ∗ F
     → ∥ ((σ' : Memory) × StoresRow τ b o vs σ σ' × (σ' ⊨ Row τ b o vs ∗ F)) ∥₁
 sat-row [] σ τ b o F t s = ∣ (σ, none, weaken σ (monoL closed.𝓤 F (drops (RoomAt (tyArray τ zero) b o))) s) ∣₁

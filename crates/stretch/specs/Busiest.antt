@@ -45,7 +45,7 @@ Answers rs w (Refused number) = TurnedAway (length rs) w × (number ≡ 28)
 Answers rs w (Found sum place) = (TurnedAway (length rs) w → ⊥) × Largest w (counts rs) sum place
 
 -- what a C function that is lent a sum and a place leaves: 28 with nothing written, or 0 with the largest sum and the earliest place
-pub record Answered (rs : List Record) (w sum place sum′ place′ r : ℕ) : Type 0 where
+pub record Leaves (rs : List Record) (w sum place sum′ place′ r : ℕ) : Type 0 where
   pub refused : TurnedAway (length rs) w → (r ≡ 28) × ((sum′ ≡ sum) × (place′ ≡ place))
   pub accepted : (TurnedAway (length rs) w → ⊥) → (r ≡ 0) × Largest w (counts rs) sum′ place′
 

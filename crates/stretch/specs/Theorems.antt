@@ -11,7 +11,7 @@ use borrow.Author.Tests.{ltb-true, ltb-false, eqb-true, eqb-false}
 use Rattle.stretch.specs.declared.Record.{Record}
 use Rattle.stretch.specs.declared.Stretch.{Stretch}
 use Rattle.stretch.specs.declared.Stretch.the-variants.{Found, Refused}
-use Rattle.stretch.specs.Busiest.{counts, stretchSum, Largest, mostRecords, TurnedAway, Answers, Answered, Gives, Best, better, bestUpto, found, busiestOf}
+use Rattle.stretch.specs.Busiest.{counts, stretchSum, Largest, mostRecords, TurnedAway, Answers, Leaves, Gives, Best, better, bestUpto, found, busiestOf}
 
 -- ---- of the stretches at 0 to k
 record SoFar (w : ℕ) (cs : List ℕ) (k : ℕ) (b : Best) : Type 0 where
@@ -31,17 +31,17 @@ next-one f k m h l p hi = go (ltb k p) refl
     go false e = h p (ltb-false k p e)
 
 one-more : (w : ℕ) (cs : List ℕ) (k : ℕ) (b : Best) → SoFar w cs k b → SoFar w cs (suc k) (better b (stretchSum w cs (suc k)) (suc k))
-one-more w cs k b h = go (stretchSum w cs (suc k)) refl (ltb (b .sum) (stretchSum w cs (suc k))) refl
+one-more w cs k b h = go (ltb (b .sum) (stretchSum w cs (suc k))) refl
   where
-    go : (v : ℕ) → stretchSum w cs (suc k) ≡ v → (t : Bool) → ltb (b .sum) (stretchSum w cs (suc k)) ≡ t → SoFar w cs (suc k) (cond t (record { sum = stretchSum w cs (suc k); place = suc k }) b)
-    go v is true e = let l : b .sum < stretchSum w cs (suc k) = ltb-true (b .sum) (stretchSum w cs (suc k)) e in
+    go : (t : Bool) → ltb (b .sum) (stretchSum w cs (suc k)) ≡ t → SoFar w cs (suc k) (cond t (record { sum = stretchSum w cs (suc k); place = suc k }) b)
+    go true e = let l : b .sum < stretchSum w cs (suc k) = ltb-true (b .sum) (stretchSum w cs (suc k)) e in
         record {
           within = omega arith;
           summed = refl;
           largest = next-one (stretchSum w cs) k (stretchSum w cs (suc k)) (λ p q. omega (arith, l, h .largest p q)) (omega arith);
           earliest = λ p q. omega (arith, l, h .largest p (omega (arith, q)));
         }
-    go v is false e = record { within = omega (arith, h .within); summed = h .summed; largest = next-one (stretchSum w cs) k (b .sum) (h .largest) (ltb-false (b .sum) (stretchSum w cs (suc k)) e); earliest = h .earliest }
+    go false e = record { within = omega (arith, h .within); summed = h .summed; largest = next-one (stretchSum w cs) k (b .sum) (h .largest) (ltb-false (b .sum) (stretchSum w cs (suc k)) e); earliest = h .earliest }
 
 best-so-far : (w : ℕ) (cs : List ℕ) (k : ℕ) → SoFar w cs k (bestUpto w cs k)
 best-so-far w cs zero = record { within = omega arith; summed = refl; largest = upto-first (stretchSum w cs); earliest = λ p l. absurd (omega (arith, l)) }
@@ -99,13 +99,21 @@ answers-agree rs w (Found s p) (Refused n) g h = absurd (g .0 (h .0))
 answers-agree rs w (Found s p) (Found t q) g h =
     let e = one-answer w (counts rs) s p t q (g .1) (h .1) in ap (λ (m : ℕ). Found m p) (e .0) ∙ ap (Found t) (e .1)
 
--- what a C function gives for the computed answer is what is asked of it
-pub answered : (rs : List Record) (w sum place sum′ place′ r : ℕ) → Gives (busiestOf rs w) sum place sum′ place′ r → Answered rs w sum place sum′ place′ r
-answered rs w sum place sum′ place′ r g = go (busiestOf rs w) (answers rs w) g
+-- a C function that gives the computed answer leaves what is asked
+pub gives-leaves : (rs : List Record) (w sum place sum′ place′ r : ℕ) → Gives (busiestOf rs w) sum place sum′ place′ r → Leaves rs w sum place sum′ place′ r
+gives-leaves rs w sum place sum′ place′ r g = go (busiestOf rs w) (answers rs w) g
   where
-    go : (a : Stretch) → Answers rs w a → Gives a sum place sum′ place′ r → Answered rs w sum place sum′ place′ r
+    go : (a : Stretch) → Answers rs w a → Gives a sum place sum′ place′ r → Leaves rs w sum place sum′ place′ r
     go (Refused number) h g = record { refused = λ _. (g .0 ∙ h .1, g .1); accepted = λ no. absurd (no (h .0)) }
     go (Found s p) h g = record {
       refused = λ away. absurd (h .0 away);
       accepted = λ _. (g .0, subst (λ (q : ℕ). Largest w (counts rs) sum′ q) (sym (g .1 .1)) (subst (λ (t : ℕ). Largest w (counts rs) t p) (sym (g .1 .0)) (h .1)));
     }
+
+-- two that leave what is asked leave the same
+pub leaves-agree : (rs : List Record) (w sum place s p r t q u : ℕ) → Leaves rs w sum place s p r → Leaves rs w sum place t q u → (r ≡ u) × ((s ≡ t) × (p ≡ q))
+leaves-agree rs w sum place s p r t q u a b = go (busiestOf rs w) (answers rs w)
+  where
+    go : (z : Stretch) → Answers rs w z → (r ≡ u) × ((s ≡ t) × (p ≡ q))
+    go (Refused number) h = let x = a .refused (h .0) in let y = b .refused (h .0) in (x .0 ∙ sym (y .0), (x .1 .0 ∙ sym (y .1 .0), x .1 .1 ∙ sym (y .1 .1)))
+    go (Found m n) h = let x = a .accepted (h .0) in let y = b .accepted (h .0) in (x .0 ∙ sym (y .0), one-answer w (counts rs) s p t q (x .1) (y .1))

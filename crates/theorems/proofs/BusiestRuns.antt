@@ -1,5 +1,6 @@
--- The busiest stretch on the machine: from every memory into which a host has stored its records, a sum and a place, the call has a run,
--- and every run returns and leaves in the two numbers what document 02's W9 asks, and the records and all else as they were.
+-- The busiest stretch on the machine: from every memory into which a host has stored its records, a sum and a place, each in a block of
+-- its own, the call has a run, and every run returns and leaves in the two numbers what document 02's W9 asks, and the records and all
+-- else as they were.
 use Prim.Native.Nat.{ℕ, _*_, _<_, _^_}
 use mathlib.Core.Path.{_≡_, refl, sym, ap, subst}
 use mathlib.Core.Logic.{∥∥₁-prop, ∥∥₁-elim, ∥∥₁-map}
@@ -38,13 +39,13 @@ use denote.Triple.Spec.{tripleOf}
 use denote.Triple.Statement.{Contract}
 use Rattle.running.specs.Slices.{shr}
 use Rattle.running.specs.Memories.{Loads}
-use Rattle.running.specs.Machine.{Pr, A₀, 𝓡₀, W₀, Cells, _∗_, _⊨_, weaken, held-loads, bytesAt}
+use Rattle.running.specs.Machine.{Pr, A₀, 𝓡₀, W₀, Cells, _∗_, _⊨_, weaken, swap, held-loads, bytesAt}
 use Rattle.running.specs.Rows.{StoresRow, LoadsRow, ValueAt, Row, RoomAt, store-one, row-one, sat-alloc, sat-store, sat-row, sat-load, sat-loads-row}
 use Rattle.running.specs.Loans as loans
 use Rattle.running.specs.Loans.{⟦_⟧, Id, tokenOf, refTo, OwnNumber, LentNumber, lend-number, number-back}
 use Rattle.running.specs.One.{run-one}
-use Rattle.stretch.specs.Busiest.{busiestOf, Gives, Answered}
-use Rattle.stretch.specs.Theorems.{answered}
+use Rattle.stretch.specs.Busiest.{busiestOf, Gives, Leaves}
+use Rattle.stretch.specs.Theorems.{gives-leaves}
 use Rattle.stretch.specs.declared.Record.{Record}
 use Rattle.stretch.proofs.Record as R
 use Rattle.stretch.proofs.Record.Laws as R′
@@ -113,7 +114,7 @@ pub record BusiestDone (rs : List Record) (w s p : ℕ) (o : List ℕ) (v : Val)
   pub value : v ≡ vint w8 r
   pub sum : loadM last (tyInt w32) 3 0 ≡ just (vint w32 sum′)
   pub place : loadM last (tyInt w64) 4 0 ≡ just (vint w64 place′)
-  pub answer : Answered rs w s p sum′ place′ r
+  pub leaves : Leaves rs w s p sum′ place′ r
   pub records : LoadsRecords last 2 0 rs
   pub others : Loads last 0 0 o
 
@@ -136,9 +137,6 @@ Owned rs s p = Records rs ∗ (Sum s ∗ Place p)
 -- in another order
 turned : (P Q R F : Pr) → ent closed.𝓤 (R ∗ (Q ∗ (P ∗ F))) (P ∗ (Q ∗ (R ∗ F)))
 turned P Q R F = qed W₀ (raw R ∷ raw Q ∷ raw P ∷ raw F ∷ []) ∵ move ! (2 ∷ 1 ∷ 0 ∷ []) $ done !
-
-second-first : (P Q F : Pr) → ent closed.𝓤 (P ∗ (Q ∗ F)) (Q ∗ (P ∗ F))
-second-first P Q F = qed W₀ (raw P ∷ raw Q ∷ raw F ∷ []) ∵ move ! (1 ∷ []) $ done !
 
 together : (P Q R F : Pr) → ent closed.𝓤 (R ∗ (P ∗ (Q ∗ F))) ((P ∗ (Q ∗ R)) ∗ F)
 together P Q R F = qed W₀ (raw R ∷ raw P ∷ raw Q ∷ raw F ∷ []) ∵ move ! (1 ∷ 2 ∷ 0 ∷ []) $ group ! 3 $ done !
@@ -177,7 +175,7 @@ module _ {rs : List Record} {s p : ℕ} {o : List ℕ} where
         ∥∥₁-elim (sat-row (map recordVal rs) (hostBlocks rs o) RECORD 2 0 (RoomAt (tyInt w32) 3 0 ∗ F) (loans.all-typed R.the-type R′.the-laws R′.the-plain rs (all-are rs (h .records)))
         (subst (λ (n : ℕ). hostBlocks rs o ⊨ Rooms n) (sym (length-map rs recordVal)) have-room)) ∥∥₁-prop (λ a.
         ∥∥₁-elim (sat-store (a .0) (tyInt w32) 3 0 (vint w32 s) (Records rs ∗ F) (tt, record { fits = h .sum })
-        (weaken (a .0) (second-first (Records rs) (RoomAt (tyInt w32) 3 0) F) (a .2))) ∥∥₁-prop (λ b.
+        (weaken (a .0) (swap (Records rs) (RoomAt (tyInt w32) 3 0) F) (a .2))) ∥∥₁-prop (λ b.
         ∥∥₁-map (sat-store (b .0) (tyInt w64) 4 0 (vint w64 p) (Records rs ∗ (Sum s ∗ Others o)) (tt, record { fits = h .place })
         (weaken (b .0) (turned (RoomAt (tyInt w64) 4 0) (Records rs) (Sum s) (Others o)) (b .2))) (λ c. (
           c .0,
@@ -298,7 +296,7 @@ module _ {rs : List Record} {s p : ℕ} {o : List ℕ} (h : Holdable rs s p o) (
         value = k .0;
         sum = b;
         place = c;
-        answer = answered rs w s p (t .1 .0) (t .1 .1) (t .0) (k .1);
+        leaves = gives-leaves rs w s p (t .1 .0) (t .1 .1) (t .0) (k .1);
         records = a;
         others = d .0;
       }))))

@@ -254,11 +254,11 @@ fn the_whole_session_is_counted_right() {
         .collect();
     let stuck = browser.text("[...document.querySelectorAll('table[data-title=\"Stuck at the end\"] tbody tr')].map(row => row.cells[0].textContent).join()");
     assert_eq!(stuck, waiting.join(","));
-    for w in [100, 1, 7, 5_000] {
-        browser.eval(&format!("{{ const input = document.querySelector('.summary input'); input.value = {w}; input.dispatchEvent(new Event('input')); }}"));
+    for (typed, w) in [("100", 100), ("1", 1), ("7.9", 7), ("5000", 5_000), ("6000", 5_000), ("-2", 1), ("", 1)] {
+        browser.eval(&format!("{{ const input = document.querySelector('.summary input'); input.value = '{typed}'; input.dispatchEvent(new Event('input')); }}"));
         let (first, last, most) = crate::stretch::busiest(&input, w);
-        let due = format!(" frames: from #{first} to #{last}, {} reissues", view::words::grouped(most as usize));
-        assert_eq!(browser.text("document.querySelector('.busiest').textContent"), due, "{w}");
+        let due = format!(" frames: from #{first} to #{last}, {}", view::words::counted(most as usize, "reissue"));
+        assert_eq!(browser.text("document.querySelector('.busiest').textContent"), due, "{typed}");
     }
     turns_are_counted_right(browser, &states);
 }
