@@ -1,4 +1,4 @@
-//! How much stack a call takes, measured on a painted stack over random sessions, and how much memory a ride: docs/HOST.md and
+//! How much stack a configuration or a frame takes, measured on a painted stack over random sessions, and how much memory a ride: docs/HOST.md and
 //! README have these figures.
 
 mod tools;
@@ -46,7 +46,7 @@ fn measured(caller: Caller) -> (usize, usize) {
 }
 
 #[test]
-fn a_call_writes_fewer_bytes_of_stack_than_the_papers_say() {
+fn a_configuration_or_a_frame_writes_fewer_bytes_of_stack_than_the_papers_say() {
     for caller in Caller::ALL {
         let (most, calls) = measured(caller);
         println!("{caller:?}: {most} bytes in {calls} calls");
@@ -60,7 +60,10 @@ fn the_papers_have_the_measured_stack_and_the_memory() {
     let total = SIZES.iter().sum::<usize>();
     let memory = format!("{},{:03} bytes of memory", total / 1000, total % 1000);
     let has = |paper: &str, figure: &str| text(paper).split_whitespace().collect::<Vec<_>>().join(" ").contains(figure);
-    assert!(has("docs/HOST.md", &format!("a call wrote fewer than {FEWER} bytes")), "docs/HOST.md");
-    assert!(has("README.md", &format!("a call took fewer than {FEWER} bytes of stack")), "README.md");
+    assert!(has("docs/HOST.md", &format!("a configuration or a frame wrote fewer than {FEWER} bytes")), "docs/HOST.md");
+    assert!(
+        has("README.md", &format!("a configuration or a frame took fewer than {FEWER} bytes of stack")),
+        "README.md"
+    );
     assert!(has("README.md", &memory), "README.md: {memory}");
 }
