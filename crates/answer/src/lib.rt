@@ -1,6 +1,8 @@
 // The answer to a frame, written into a lent block: its length in byte 0, the answer from byte 1 on.
 // Promises: it is the ledger's answer, byte by byte, for every ledger that the memory shows; the bytes behind it stay.
 // Rests on tables for the running task's outcome, and on rows for the copy of an entry.
+#![tactic(auto)]
+
 ghost use Rattle.std.specs.Prelude.{◌≡◌, [], ◌∷◌, ◌-◌, ◌*◌, ◌≤◌, length, take};
 ghost use Rattle.rows.specs.Splice.{splice};
 ghost use Rattle.rows.specs.Rows.{row_at};
@@ -15,7 +17,7 @@ use tables::shape::Shape;
 use tables::tasks::Outcome;
 
 // What stands before the outcome.
-#[derive(Drop)]
+#[derive(Clone, Copy)]
 struct Head {
     number: u8,
     running: u8,

@@ -1,6 +1,8 @@
 // The clock: ticks, tocks and timers, in place in the lent memory.
 // Promises: each operation is the ledger's own change, for every ledger that the memory shows.
 // Rests on tables (what the memory shows) and timers (rows of ten bytes in a slice), and on the ledger's definitions.
+#![tactic(auto)]
+
 ghost use Rattle.std.specs.Prelude.{◌≡◌, cond, not, suc, ◌+◌, ◌-◌, ◌<◌, ◌≤◌, ltb, length, get_or};
 ghost use Rattle.ledger.specs.Ledger.{set_clock};
 ghost use Rattle.ledger.specs.Refusals.{have_timer};
@@ -102,14 +104,14 @@ fn pass(timers: &mut [u8], shape: Shape) -> usize
 }
 
 // The tick's record: the ticks left in the tock, and the ticks per tock.
-#[derive(Drop)]
+#[derive(Clone, Copy)]
 pub struct Ticks {
     pub left: usize,
     pub pertock: usize,
 }
 
 // What a tick leaves: the ticks left, and whether a tock passed.
-#[derive(Drop)]
+#[derive(Clone, Copy)]
 pub struct Ticked {
     pub left: usize,
     pub tock: bool,

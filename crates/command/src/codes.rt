@@ -6,7 +6,7 @@ ghost use Rattle.tables.specs.Layout.{OneOf};
 ghost use Rattle.command.specs.Codes.{view_a, view_b, view_x, view_follows, view_waits, view_fields};
 
 // A: a task from 1 on; one to start, which isn't running; a task, or 0 for self; a task, or 0 for any; a queue.
-#[derive(Drop)]
+#[derive(Clone, Copy)]
 pub enum FieldA {
     Unused,
     Task,
@@ -17,7 +17,7 @@ pub enum FieldA {
 }
 
 // B: a semaphore, or 0 for self's; or 0 for that of task A; or 0 for none.
-#[derive(Drop)]
+#[derive(Clone, Copy)]
 pub enum FieldB {
     Unused,
     OfSelf,
@@ -25,7 +25,7 @@ pub enum FieldB {
     OrNone,
 }
 
-#[derive(Drop)]
+#[derive(Clone, Copy)]
 pub enum FieldX {
     Unused,
     Message,
@@ -34,7 +34,7 @@ pub enum FieldX {
 }
 
 // What follows B: X; X and an entry; X in four bytes.
-#[derive(Drop)]
+#[derive(Clone, Copy)]
 pub enum Follows {
     X,
     XAndEntry,
@@ -42,7 +42,7 @@ pub enum Follows {
 }
 
 // The semaphore that is pended or waited on: B; B, where task A waits; a queue's, if it is empty or full.
-#[derive(Drop)]
+#[derive(Clone, Copy)]
 pub enum Waits {
     Nowhere,
     OnB,
@@ -51,7 +51,7 @@ pub enum Waits {
     OnNotFull,
 }
 
-#[derive(Drop)]
+#[derive(Clone, Copy)]
 pub struct Fields {
     pub a: FieldA,
     pub b: FieldB,

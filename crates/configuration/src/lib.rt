@@ -1,6 +1,8 @@
 // The configuration: a frame accepted or refused, what the lent configuration block says, and the fresh tables.
 // Promises: the refusal is the ledger's, the shape and the rings are the block's, and a start shows the fresh ledger.
 // Rests on the ledger's definitions, on tables for the memory, on queues for the rings and on rows for copies.
+#![tactic(auto)]
+
 use tables::shape::Shape;
 
 pub mod block;
@@ -10,7 +12,7 @@ pub mod limits;
 pub mod pairs;
 
 // What the lent configuration block is: bad if it breaks the structure rule.
-#[derive(Drop)]
+#[derive(Clone, Copy)]
 pub enum Lent {
     Bad,
     Good(Shape),

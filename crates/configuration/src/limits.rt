@@ -5,7 +5,7 @@ ghost use Rattle.configuration.specs.Limits.{limits_of};
 
 use crate::pairs::MOST_PAIRS;
 
-#[derive(Drop)]
+#[derive(Clone, Copy)]
 pub struct Limits {
     pub tasks: u8,
     pub queues: u8,

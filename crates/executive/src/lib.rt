@@ -1,6 +1,8 @@
 // A frame: its number, the effect, settling, the answer.
 // Promises: the number, the answer and the memory after are the ledger's, for every ledger that the memory shows.
 // Rests on command, services, answer and configuration.
+#![tactic(auto)]
+
 pub mod carrying;
 pub mod frames;
 pub mod message;

@@ -15,7 +15,7 @@ use tables::shape::Shape;
 use tables::tasks::{Outcome, Request};
 
 // The task that runs when settling ends, and the number of reissues.
-#[derive(Drop)]
+#[derive(Clone, Copy)]
 pub struct Settled {
     pub running: u8,
     pub reissues: usize,

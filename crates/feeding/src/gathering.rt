@@ -8,7 +8,7 @@ use line::LONGEST_FRAME;
 pub const HELD: usize = 2 * LONGEST_FRAME + 1;
 
 // The next byte of the input, the bytes held of the line, and whether its end was met.
-#[derive(Drop)]
+#[derive(Clone, Copy)]
 pub struct Gathered {
     pub next: usize,
     pub held: usize,

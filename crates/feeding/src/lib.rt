@@ -1,6 +1,8 @@
 // A session's input fed in blocks: its lines cut out, answered by the executive, and the answers printed, all in lent memory.
 // Promises: whatever the blocks are, what is printed is the ledger's `output` of the whole input (specs/Whole, proofs/Session).
 // Rests on mcx11 for the executive, on line for digits, and on configuration, parts and answer for the answer to a line that is no frame.
+#![tactic(auto)]
+
 mod gathering; // gathering.rt: the bytes of a line, up to its end
 mod printing; // printing.rt: an answer as a line of output
 mod replying; // replying.rt: the answer to a line
@@ -19,7 +21,7 @@ use printing::print;
 use replying::{reply_first, reply_next};
 
 // Before the first line; configured; ended by a refused configuration.
-#[derive(Drop)]
+#[derive(Clone, Copy)]
 pub enum Stage {
     First,
     Running,
@@ -28,7 +30,7 @@ pub enum Stage {
 
 // How far the input is fed: the next byte of the block, the stage, the bytes held of a line that has no end yet, and the bytes
 // of the output that are printed.
-#[derive(Drop)]
+#[derive(Clone, Copy)]
 pub struct Reached {
     pub next: usize,
     pub stage: Stage,
@@ -62,7 +64,7 @@ pub fn next_block(reached: Reached) -> Reached
 }
 
 // What a whole line leads to.
-#[derive(Drop)]
+#[derive(Clone, Copy)]
 pub struct Answered {
     pub stage: Stage,
     pub printed: usize,

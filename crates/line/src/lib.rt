@@ -1,6 +1,8 @@
 // Lines of digits and frames, both ways, on slices that the caller lends.
 // Promises: the ledger's own readLine and writeLine (Lines), for every line, frame and buffer; with a number nothing is written.
 // Rests on the ledger's definitions alone.
+#![tactic(auto)]
+
 mod reading; // reading.rt: a line to a frame
 mod writing; // writing.rt: a frame to a line
 
@@ -11,7 +13,7 @@ pub use writing::write;
 pub const LONGEST_FRAME: usize = 326;
 
 // What a call gives back: document 01's number, or the length of the result in the lent buffer.
-#[derive(Drop)]
+#[derive(Clone, Copy)]
 pub enum Written {
     Refused(u8),
     Length(usize),

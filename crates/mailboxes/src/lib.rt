@@ -1,6 +1,8 @@
 // The mailboxes in the lent memory: the region of the messages, and their number in the clock's region.
 // Promises: each change is the ledger's own, for every ledger that the memory shows, and each answer is that ledger's.
 // Rests on tables, for what the memory shows, and on messages, for what a change of the records makes of every mailbox.
+#![tactic(auto)]
+
 ghost use Rattle.std.specs.Prelude.{◌≡◌, ◌≤◌, length};
 ghost use Rattle.tables.specs.Decode.{count_of};
 ghost use Rattle.tables.specs.Layout.{OneOf, Fits};
@@ -15,7 +17,7 @@ ghost use Rattle.mailboxes.specs.Received.{view_received, inserted, taken};
 use tables::shape::{COUNT_AT, Shape};
 
 // A message that was received: its number, its sender, its semaphore.
-#[derive(Drop)]
+#[derive(Clone, Copy)]
 pub enum Received {
     Nothing,
     Message(u8, u8, u8),

@@ -18,7 +18,7 @@ use parts::{FRAME_AT, PART_AT};
 use tables::shape::{RECORDS_AT, Shape};
 
 // The fixed sizes of the lent blocks.
-#[derive(Drop)]
+#[derive(Clone, Copy)]
 pub struct Sizes {
     pub config: usize,
     pub tables: usize,

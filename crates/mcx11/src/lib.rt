@@ -6,6 +6,8 @@
 //
 // A call of the reader, the writer or milliseconds returns one int32_t: what was computed, from 0 up, or with a minus sign the
 // number of document 01 that refuses the call. No such number is 0, so a caller's test is `if (r < 0)`.
+#![tactic(auto)]
+
 pub mod by_limits;
 pub mod entries;
 pub mod lent;

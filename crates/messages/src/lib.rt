@@ -2,6 +2,8 @@
 // A receiver that is none of the tasks is read as task 1, so that every record lies in a mailbox.
 // Promises what each search finds, its count never past G, and what each change makes of every mailbox, in the ledger's own functions.
 // Rests on the crates ledger (what a mailbox is) and rows (records put in and taken out).
+#![tactic(auto)]
+
 pub mod number;
 pub mod place;
 pub mod sender;
@@ -13,7 +15,7 @@ ghost use Rattle.messages.specs.Changes.{Inserted, Found, Removed};
 ghost use Rattle.messages.specs.Searches.{Bounded};
 
 // A message, without its receiver.
-#[derive(Drop)]
+#[derive(Clone, Copy)]
 pub struct Message {
     pub number: u8,
     pub sender: u8,
@@ -35,7 +37,7 @@ pub fn load(b: &[u8], k: usize) -> Message
 
 // What a search gives: the place of the first message that passes its test, n if none does, and how many messages it looked at.
 // It counts in a byte, one for each message looked at, whichever task that is for.
-#[derive(Drop)]
+#[derive(Clone, Copy)]
 pub struct Search {
     pub place: usize,
     pub looked: u8,

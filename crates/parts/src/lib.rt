@@ -1,6 +1,8 @@
 // A lent block: a mark at both ends of its size, and between them the part that a configuration needs.
 // Promises: a block is marked exactly where both marks stand; what marks a block or keeps a frame changes the bytes named and no other.
 // Rests on rows, for copies and numbers of four bytes.
+#![tactic(auto)]
+
 ghost use Rattle.std.specs.Prelude.{◌≡◌, ◌+◌, ◌*◌, ◌≤◌, eqb, length};
 ghost use Rattle.ledger.specs.Lists as lists;
 ghost use Rattle.rows.specs.Splice.{splice};

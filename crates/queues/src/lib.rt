@@ -1,6 +1,8 @@
 // The queues in the lent memory: a ring each, its place and count in two bytes, its entries in the region of the bodies.
 // Promises: putting and taking an entry is the ledger's own change, for every ledger that the memory shows.
 // Rests on tables for the memory, and on rings for the entries.
+#![tactic(auto)]
+
 ghost use Rattle.std.specs.Prelude.{◌≡◌, ◌+◌, ◌-◌, ◌*◌, ◌≤◌, length, set};
 ghost use Rattle.tables.specs.Decode.{head_of, count_of};
 ghost use Rattle.tables.specs.Layout.{OneOf, Fits};
@@ -14,7 +16,7 @@ use tables::shape::Shape;
 use tables::tasks::Outcome;
 
 // A queue's width and depth, and where its entries lie in the tables: of the configuration.
-#[derive(Drop)]
+#[derive(Clone, Copy)]
 pub struct Ring {
     pub width: usize,
     pub depth: usize,

@@ -1,6 +1,8 @@
 // A queue's ring: entries of one width in a lent part of the tables, from a place on, around its end.
 // Promises: `put` adds the entry behind what the ring holds, `take_out` copies the oldest and steps to the next.
 // Rests on `rows`. Place and count are the caller's.
+#![tactic(auto)]
+
 ghost use Rattle.std.specs.Prelude.{◌≡◌, ◌++◌, ◌∷◌, [], ◌+◌, ◌-◌, ◌*◌, ◌<◌, ◌≤◌, length, drop, get_or};
 ghost use Rattle.rows.specs.Splice.{splice};
 ghost use Rattle.rings.specs.Ring.{wrap_of, holds};

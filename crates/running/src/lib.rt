@@ -4,3 +4,4 @@
 // contract holds (specs/Machine), and so does one that is lent other values, each in a block of its own (specs/Hosts); the machine has
 // one run from one memory (specs/One).
 // Rests on nothing but the kit's logic: its machine, its closed model and its theorem of adequacy.
+#![tactic(auto)]

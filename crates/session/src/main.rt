@@ -1,6 +1,8 @@
 // The session program: lines of frames from standard input, their answers to standard output.
 // Promises nothing by itself, since no contract can say what is read or written: each block goes through `feeding::feed`.
 // Rests on feeding, whose theorem `session` is about every list of blocks, and on io and libc to read and write.
+#![tactic(auto)]
+
 ghost use Rattle.std.specs.Prelude.{◌≤◌, length};
 ghost use Rattle.feeding.specs.Line.{most};
 
@@ -8,7 +10,7 @@ use feeding::{HELD, Reached, Stage};
 use libc::{STDERR_FILENO, STDIN_FILENO, STDOUT_FILENO};
 
 // How far the input is fed, whether there is more of it to feed, and whether its end was met.
-#[derive(Drop)]
+#[derive(Clone, Copy)]
 struct Fed {
     reached: Reached,
     more: bool,

@@ -1,6 +1,8 @@
 // A start that never collides, document 02's W11: beside up to eight cyclic timers the smallest start for a new one of a given period.
 // Promises: the answer is the one asked for (specs/Starts: no tock is in a given row and in the new one, which have no end), for every call.
 // Rests on nothing but the kit. The walk over the list is proved by hand; what it calls at each timer is in table.rt.
+#![tactic(auto)]
+
 pub mod divisor;
 pub mod table;
 
@@ -8,14 +10,14 @@ ghost use Rattle.starts.specs.Starts.{Answers, Gives};
 
 // A cyclic timer: the tock that it was started in, and its period.
 #[repr(C)]
-#[derive(Drop)]
+#[derive(Clone, Copy)]
 pub struct Cycle {
     pub start: u32,
     pub period: u32,
 }
 
 // The smallest start that collides with none, or that every start collides with some, or the number of a refusal.
-#[derive(Drop)]
+#[derive(Clone, Copy)]
 pub enum Free {
     Start(u32),
     None,

@@ -19,7 +19,7 @@ pub const LONGEST_CYCLE: u32 = 32768;
 pub const ENOUGH: u32 = 256;
 
 // The table before the timer at; upto is where the list ends. The period is the new timer's, or 0 where the call is refused.
-#[derive(Drop)]
+#[derive(Clone, Copy)]
 pub struct Table {
     pub at: usize,
     pub upto: usize,

@@ -1,6 +1,8 @@
 // The busiest stretch of a test run, document 02's W9: of w consecutive records the largest sum of reissues, and where it begins.
 // Promises: the answer is that of the plain maximum over all stretches (specs/Busiest), for every list of records and every w.
 // Rests on nothing but the kit. The walk over the list is proved by hand; what it calls at each record is in walk.rt.
+#![tactic(auto)]
+
 pub mod walk;
 
 ghost use Rattle.std.specs.Prelude.{◌≡◌};
@@ -8,7 +10,7 @@ ghost use Rattle.stretch.specs.Busiest.{busiest_of, Gives};
 
 // What a host keeps of a frame: the tocks since the start, and of its answer the running task and the reissues.
 #[repr(C)]
-#[derive(Drop)]
+#[derive(Clone, Copy)]
 pub struct Record {
     pub tocks: u32,
     pub running: u8,
@@ -16,7 +18,7 @@ pub struct Record {
 }
 
 // The largest sum and the place where the earliest such stretch begins, or the number of a refusal.
-#[derive(Drop)]
+#[derive(Clone, Copy)]
 pub enum Stretch {
     Found(u32, usize),
     Refused(u8),

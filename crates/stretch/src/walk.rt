@@ -10,7 +10,7 @@ pub const MOST_RECORDS: usize = 4096;
 
 // The walk before the record at; upto is where it ends, width w, or 0 where the call is refused. The last stretch, or what there is of
 // the first, begins at from and has the sum; best and place are the answer so far.
-#[derive(Drop)]
+#[derive(Clone, Copy)]
 pub struct Walk {
     pub at: usize,
     pub upto: usize,

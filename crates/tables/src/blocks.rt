@@ -10,7 +10,7 @@ ghost use Rattle.ledger.specs.Ledger.{set_blocks};
 use crate::planes::{bit_of, put_bit};
 use crate::shape::{PLANES_AT, Shape};
 
-#[derive(Drop)]
+#[derive(Clone, Copy)]
 pub enum Block {
     Idle,
     Suspended,
@@ -18,7 +18,7 @@ pub enum Block {
     Message,
 }
 
-#[derive(Drop)]
+#[derive(Clone, Copy)]
 pub struct Blocks {
     pub idle: bool,
     pub suspended: bool,

@@ -10,7 +10,7 @@ ghost use Rattle.ledger.specs.Services.{withdraw_wait};
 
 use crate::shape::Shape;
 
-#[derive(Drop)]
+#[derive(Clone, Copy)]
 pub enum Semaphore {
     Pending,
     Done,

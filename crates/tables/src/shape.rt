@@ -10,7 +10,7 @@ pub const PLANES_AT: usize = 2;
 // The records lie behind the planes.
 pub const RECORDS_AT: usize = 66;
 
-#[derive(Drop)]
+#[derive(Clone, Copy)]
 pub struct Shape {
     pub tasks: usize,
     pub named: usize,

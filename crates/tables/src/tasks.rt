@@ -12,7 +12,7 @@ use crate::blocks::Blocks;
 use crate::planes::first_free;
 use crate::shape::{PLANES_AT, RECORDS_AT, Shape};
 
-#[derive(Drop)]
+#[derive(Clone, Copy)]
 pub enum Outcome {
     Plain,
     Begin,
@@ -24,7 +24,7 @@ pub enum Outcome {
 }
 
 // The open request: none, a receive from a task, a dequeue, an enqueue (its bytes wait beside it).
-#[derive(Drop)]
+#[derive(Clone, Copy)]
 pub enum Request {
     None,
     Receive(u8),
@@ -32,7 +32,7 @@ pub enum Request {
     Enqueue(u8),
 }
 
-#[derive(Drop)]
+#[derive(Clone, Copy)]
 struct OutcomeBytes {
     kind: u8,
     first: u8,
@@ -40,7 +40,7 @@ struct OutcomeBytes {
     third: u8,
 }
 
-#[derive(Drop)]
+#[derive(Clone, Copy)]
 pub struct Task {
     pub blocks: Blocks,
     pub outcome: Outcome,

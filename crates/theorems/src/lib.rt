@@ -5,3 +5,4 @@
 // functions' runs, and those of feed and finish (proofs/LineRuns, proofs/BusiestRuns, proofs/FreeStartRuns,
 // proofs/ProgramRuns).
 // Rests on the contracts of mcx11 and feeding, and on running for what a theorem says of a run.
+#![tactic(auto)]

@@ -2,6 +2,8 @@
 // Promises that each function changes the timers that the bytes mean, whatever they are, as the ledger changes its own (specs/Timers, specs/Shown),
 // and leaves rows in order where they were (specs/Upright).
 // Rests on the crates rows (rows moved in a slice) and ledger (the definitions).
+#![tactic(auto)]
+
 ghost use Rattle.std.specs.Prelude.{◌≡◌, map, ◌+◌, ◌-◌, ◌*◌, ◌^◌, ◌<◌, ◌≤◌, min, length};
 ghost use Rattle.ledger.specs.Lists.{any, keep, insert_by};
 ghost use Rattle.rows.specs.Four.{le4};
@@ -83,7 +85,7 @@ fn lesser(x: u32, y: u32) -> u32
 }
 
 // How many timers come before a place, and a time before which none behind it is due.
-#[derive(Drop)]
+#[derive(Clone, Copy)]
 struct Found {
     at: usize,
     first: u32,
@@ -273,7 +275,7 @@ pub fn pass(b: &mut [u8], n: usize) -> usize
 }
 
 // The semaphore that a due timer signals, and the number of timers now.
-#[derive(Drop)]
+#[derive(Clone, Copy)]
 pub struct Due {
     pub semaphore: u8,
     pub count: usize,

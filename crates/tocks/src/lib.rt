@@ -1,6 +1,8 @@
 // Numbers of tocks: the tock value of a frame and milliseconds as tocks.
 // Promises: each answer is the ledger's own (Time) of the same bits or numbers, for every input.
 // Rests on the checker's reading of a signed number's bits.
+#![tactic(auto)]
+
 ghost use Rattle.std.specs.Prelude.{◌≡◌, ◌+◌, ◌*◌, ◌<◌};
 ghost use Rattle.std.specs.Int.{w16, w32};
 ghost use Rattle.std.proofs.Common.{of_z, to_z};
@@ -8,7 +10,7 @@ ghost use Rattle.ledger.specs.Time as time;
 ghost use Rattle.tocks.specs.Views.{tock_view, tocks_view};
 
 // What a tock value asks for: nothing, or one expiry, or one each period.
-#[derive(Drop)]
+#[derive(Clone, Copy)]
 pub enum TockValue {
     None,
     OneShot(u32),
@@ -16,7 +18,7 @@ pub enum TockValue {
 }
 
 // A number of tocks, or the number of a refusal.
-#[derive(Drop)]
+#[derive(Clone, Copy)]
 pub enum Tocks {
     Are(u16),
     Refused(u8),
