@@ -1,5 +1,5 @@
 -- A word whose bit i is flag i of a list: a bit set in it, and how many are.
-use Rattle.std.specs.Prelude.{◌≡◌, ℕ, zero, suc, ◌+◌, ◌*◌, ◌/◌, ◌%◌, ◌^◌, ◌<◌, max, Bool, true, false, cond, not, List, [], ◌∷◌, length, set, replicate, bit_or, slice_index_or, slice_set, refl}
+use Rattle.std.specs.Prelude.{◌≡◌, ℕ, zero, suc, ◌+◌, ◌*◌, ◌/◌, ◌%◌, ◌^◌, ◌<◌, max, Bool, true, false, cond, not, List, [], ◌∷◌, length, replicate, bit_or, slice_index_or, slice_set, refl}
 use Rattle.std.proofs.Common.{◌∙◌, pow-suc, mul-div_cancel, arith, lit<}
 use Rattle.std.proofs.Math.Nat.{max-zero, mul-mod_left}
 use Rattle.std.proofs.Math.Arith.{digits_div, digits_mod}

@@ -1,0 +1,17 @@
+use mathlib.Core.Path.{ap, ◌∙◌}
+use Prim.Native.Nat.{◌-◌}
+use native.Mathlib.Nat.{mul-le-mul_right, suc-mul}
+use native.Mathlib.Omega.{arith}
+use Rattle.rows.specs.Rows.{rows_of, rows_remove}
+use Rattle.rows.proofs.remove_at.Goals as goal
+
+pub overflow_mul-from : goal.overflow_mul-from
+overflow_mul-from c = omega (arith, mul-le-mul_right c.args.w c.requires.0, suc-mul c.args.at c.args.w)
+
+pub shift_down-requires : goal.shift_down-requires
+shift_down-requires c = omega (arith, mul-le-mul_right c.args.w c.requires.0, suc-mul c.args.at c.args.w)
+
+pub returns : goal.returns
+returns c =
+    let a = c.args in
+    ap (rows_of a.w (a.n - 1)) c.shift_down.ensures ∙ rows_remove a.w a.n a.at a.buf.now c.requires.1 c.requires.0
