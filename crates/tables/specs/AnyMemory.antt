@@ -53,7 +53,7 @@ pub shows_some : (c : Config) (s : Shape) (d z w : List ℕ) → Of c s → s.en
 unfolding some queue at
 shows_some c s d z w o r k h =
     let q = queues_in c (regions s d) in
-    let nothing : (n : ℕ) → (queue (some c s d z w) n).taken ≡ 0 = λ n. elim n [ zero ↦ refl | suc n ↦ took_nothing q n ] in
+    let nothing : (n : ℕ) → (queue (some c s d z w) n).taken ≡ 0 = λ n. elim n as (λ m. (queue (some c s d z w) m).taken ≡ 0) [ zero ↦ refl | suc n ↦ took_nothing q n ] in
     record {
       of = o;
       room = r;

@@ -3,7 +3,7 @@ use Rattle.std.specs.Prelude.{◌≡◌, Bool, get_or}
 use Rattle.std.proofs.Math.Path.{refl, sym, ap, subst}
 use Rattle.std.proofs.Common.{◌∙◌, length-set}
 use mathlib.Core.List.{List}
-use Prim.Native.Nat.{ℕ, ◌+◌, ◌-◌, ◌*◌, ◌/◌, ◌%◌, ◌<◌, ◌≤◌}
+use Prim.Native.Nat.{ℕ, ◌+◌, ◌-◌, ◌*◌, ◌/◌, ◌%◌, ◌<◌}
 use native.Mathlib.Omega.{arith}
 use Rattle.std.proofs.Math.ListN.{length, set}
 use Rattle.rows.specs.Rows.{row_at}
@@ -15,9 +15,9 @@ use Rattle.tables.specs.declared.blocks.Block.{Block}
 use Rattle.tables.specs.declared.blocks.Block.TheVariants.{Idle, Suspended, Event, Message}
 use Rattle.tables.specs.declared.blocks.Blocks.{Blocks}
 use Rattle.tables.specs.Layout.{OneOf, Fits, fitting, planes_at, bound, Regions, named, regions, but, byte_written, region_length, plane_at, few}
-use Rattle.tables.specs.Planes.{plane_of, has, blocks_at, NewBit, NewBlock}
+use Rattle.tables.specs.Planes.{plane_of, blocks_at, NewBit, NewBlock}
 use Rattle.tables.specs.OneBit.{block_set}
-use Rattle.tables.specs.Decode.{view_blocks, view_outcome, view_request, view_task, record_as, record_of}
+use Rattle.tables.specs.Decode.{view_blocks, view_task, record_as, record_of}
 use Rattle.tables.specs.Shows.{task_at, ShowsAs, Does}
 use Rattle.tables.specs.Items.{with_tasks, task_shown}
 use Rattle.tables.specs.Stored.{shows_as, shown_task, task_in}

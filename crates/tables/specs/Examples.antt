@@ -1,6 +1,6 @@
 -- The planes, computed.
 use Rattle.std.specs.Prelude.{◌≡◌, refl, true, false, List, ℕ, replicate, set}
-use Rattle.tables.specs.declared.blocks.Block.TheVariants.{Idle, Suspended, Event, Message}
+use Rattle.tables.specs.declared.blocks.Block.TheVariants.{Suspended, Event, Message}
 use Rattle.tables.specs.Bits.{bit}
 use Rattle.tables.specs.Planes.{has, blocks_at, blocked_at}
 

@@ -13,7 +13,7 @@ use Rattle.ledger.specs.Ledger.{runnable, lowest_runnable, running}
 use Rattle.tables.specs.declared.shape.Shape.{Shape}
 use Rattle.tables.specs.Layout.{planes_at, records_at, Fits, planes_are, regions}
 use Rattle.tables.specs.Bits.{Lowest}
-use Rattle.tables.specs.Planes.{has, blocks_at, blocked_at}
+use Rattle.tables.specs.Planes.{blocks_at, blocked_at}
 use Rattle.tables.specs.Decode.{view_blocks, view_task, record_of}
 use Rattle.tables.specs.Shows.{task_at, tasks_in, Tells}
 

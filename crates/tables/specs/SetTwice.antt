@@ -1,5 +1,5 @@
 -- An item of the ledger set twice is set once.
-use Rattle.std.specs.Prelude.{◌≡◌, refl, List, [], ◌∷◌, ℕ, zero, suc, ◌≤◌, length, set}
+use Rattle.std.specs.Prelude.{◌≡◌, refl, List, [], ◌∷◌, ℕ, zero, suc, length, set}
 use Rattle.std.proofs.Common.{ap, ap₂, ◌∙◌, arith, not-suc-le-zero, get_or-set_same}
 use Rattle.tables.specs.Layout.{OneOf}
 use Rattle.ledger.specs.Lists.{at, put}

@@ -20,7 +20,6 @@ use Rattle.tables.specs.declared.blocks.Blocks.{Blocks}
 use Rattle.tables.specs.declared.tasks.Outcome.{Outcome}
 use Rattle.tables.specs.declared.tasks.Request.{Request}
 use Rattle.tables.specs.declared.tasks.Task.{Task}
-use Rattle.tables.specs.declared.semaphores.Semaphore as state
 use Rattle.tables.specs.Layout.{OneOf, fitting, record_in_lem, bound, Regions, named, regions, but, written, region_length}
 use Rattle.tables.specs.Planes.{blocks_at}
 use Rattle.tables.specs.Decode.{outcome_of, request_of, outcome_bytes, request_bytes, view_outcome, view_request, view_task, outcome_as, request_as, record_as, record_of}

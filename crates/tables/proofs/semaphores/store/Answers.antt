@@ -1,0 +1,16 @@
+-- `store` writes one byte of the semaphores' region.
+use Rattle.tables.specs.Layout.{semaphore_in}
+use native.Mathlib.Omega.{arith}
+use Rattle.tables.specs.Semaphores.{semaphore_stored}
+use Rattle.tables.proofs.semaphores.store.Goals as goal
+
+pub overflow_add-at : goal.overflow_add-at
+overflow_add-at c = omega (arith, semaphore_in c.requires.0 c.args.b c.requires.1)
+
+pub bounds-tables-at : goal.bounds-tables-at
+bounds-tables-at c = semaphore_in c.requires.0 c.args.b c.requires.1
+
+pub returns : goal.returns
+returns c =
+    let a = c.args in
+    λ tidy g L z w h. rw c.state_byte.ensures (semaphore_stored g a.shape L a.tables.now z w h a.b c.requires.1 a.s c.requires.2)
