@@ -43,7 +43,7 @@ purge_is a b x L = refl
 pub removed_is : (a b : ℕ) (L : Ledger) → set_timers (keep (λ (t : Timer). not (eqb t.task a)) L.timers) L ≡ purged a true b L
 unfolding purged
 removed_is a b L =
-    let and : (x : Bool) → not x ≡ not (x && true) = λ x. elim x [ true ↦ refl | false ↦ refl ] in
+    let and : (x : Bool) → not x ≡ not (x && true) = λ x. elim x as (λ y. not y ≡ not (y && true)) [ true ↦ refl | false ↦ refl ] in
     λ i. set_timers (keep (λ (t : Timer). and (eqb t.task a) i) L.timers) L
 
 -- ---- the timers that are shown

@@ -1,0 +1,13 @@
+-- The bytes before i are v.
+use Prim.Native.Nat.{ℕ, ◌-◌, ◌<◌, ◌≤◌}
+use native.Mathlib.Omega.{arith}
+use mathlib.Core.Path.{◌≡◌, refl}
+use lib.ListN.{length, get_or, length-set}
+use Rattle.configuration.specs.Written.{fill_turn, fill_end}
+use Rattle.configuration.proofs.fresh.fill.Given as goal
+
+abbrev pub invariant-loop-i : goal.invariant-loop-i
+invariant-loop-i l = (l.i ≤ length l.part) × (length l.part ≡ length l.initial.part) × ((k : ℕ) → k < l.i → get_or l.part k 0 ≡ l.v)
+
+abbrev pub decreases-loop-i : goal.decreases-loop-i
+decreases-loop-i l = length l.initial.part - l.i

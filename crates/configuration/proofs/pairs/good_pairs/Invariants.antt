@@ -1,0 +1,17 @@
+-- What is left to test is the pairs from k on.
+use Prim.Native.Nat.{◌-◌, ◌*◌, ◌≤◌}
+use native.Mathlib.Omega.{arith}
+use mathlib.Core.Path.{◌≡◌, refl, sym, ◌∙◌}
+use lib.ListN.{length, drop}
+use borrow.Author.Rules.{rules}
+use borrow.Author.Tests.{not-true, not-false}
+use Rattle.ledger.specs.Lists.{all}
+use Rattle.ledger.specs.Config.{pair_of, pairs_in, good_pair}
+use Rattle.ledger.specs.Theorems.Twos.{all_next, all_not, all_over}
+use Rattle.configuration.proofs.pairs.good_pairs.Given as goal
+
+abbrev pub invariant-loop-k : goal.invariant-loop-k
+invariant-loop-k l = (l.k ≤ l.n) × (all (good_pair (length l.states) l.states) (pairs_in l.pairs) ≡ all (good_pair (length l.states) l.states) (pairs_in (drop (2 * l.k) l.pairs)))
+
+abbrev pub decreases-loop-k : goal.decreases-loop-k
+decreases-loop-k l = l.n - l.k
