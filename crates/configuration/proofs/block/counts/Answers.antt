@@ -3,7 +3,6 @@ use native.Mathlib.Omega.{arith}
 use mathlib.Core.Path.{sym}
 use Rattle.configuration.specs.Limits.{limits_of}
 use Rattle.configuration.specs.Kept.{counts_long, counts_short, counts_few}
-use borrow.Author.Rules.{rules}
 use Rattle.configuration.proofs.block.counts.Goals as goal
 
 pub returns-then-n-longest : goal.returns-then-n-longest

@@ -1,5 +1,4 @@
 -- Bytes are small, so no sum wraps.
-use borrow.Author.Rules.{rules}
 use Rattle.configuration.proofs.block.lay.Goals as goal
 
 pub returns : goal.returns

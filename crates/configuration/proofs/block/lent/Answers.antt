@@ -1,7 +1,6 @@
 -- Where the values are good the queues lie within the frame, and their room says the rest.
 use native.Mathlib.Omega.{arith}
 use mathlib.Core.Path.{sym, ◌∙◌}
-use borrow.Author.Tests.{not-true, not-false}
 use Rattle.configuration.specs.Limits.{limits_of}
 use Rattle.configuration.specs.Lent.{lent_front, lent_values, lent_room, lent_good}
 use borrow.Author.Rules.{rules}

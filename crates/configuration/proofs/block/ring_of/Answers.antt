@@ -1,7 +1,6 @@
 -- The block holds the pair of the queue, and the pairs before it, whose bytes are what they take.
 use native.Mathlib.Omega.{arith}
 use Rattle.configuration.specs.Ring.{ring_inside, ring_base, ring_is}
-use borrow.Author.Rules.{rules}
 use Rattle.configuration.proofs.block.ring_of.Goals as goal
 
 pub overflow_add-at : goal.overflow_add-at

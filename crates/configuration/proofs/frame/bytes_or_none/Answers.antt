@@ -2,7 +2,6 @@
 use native.Mathlib.Omega.{arith}
 use mathlib.Core.Path.{sym, ◌∙◌}
 use Prim.Native.Nat.{◌/◌, ◌%◌}
-use borrow.Author.Rules.{rules}
 use Rattle.configuration.specs.Room.{too_wide, no_bytes, some_bytes}
 use Rattle.configuration.proofs.frame.bytes_or_none.Goals as goal
 

@@ -4,7 +4,6 @@ use mathlib.Core.Path.{sym}
 use Rattle.ledger.specs.Config.{config_in}
 use Rattle.configuration.specs.Limits.{limits_of}
 use Rattle.configuration.specs.Head.{few_not, few_last}
-use borrow.Author.Rules.{rules}
 use Rattle.configuration.proofs.frame.few_enough.Goals as goal
 
 pub returns-then-bytes-limits : goal.returns-then-bytes-limits

@@ -1,6 +1,5 @@
 -- Two bytes, so no sum is cut.
 use native.Mathlib.Omega.{arith}
-use borrow.Author.Rules.{rules}
 use Rattle.configuration.proofs.frame.front.Goals as goal
 
 pub overflow_add-result : goal.overflow_add-result

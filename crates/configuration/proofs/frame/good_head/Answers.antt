@@ -1,8 +1,6 @@
 -- Both parts of the rule, one after the other.
 use mathlib.Core.Path.{sym, ◌∙◌}
-use borrow.Author.Tests.{not-true, not-false}
 use Rattle.ledger.specs.Config.{good_head}
-use borrow.Author.Rules.{rules}
 use Rattle.configuration.proofs.frame.good_head.Goals as goal
 
 pub returns-then-not-few_enough : goal.returns-then-not-few_enough

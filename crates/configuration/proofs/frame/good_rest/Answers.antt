@@ -1,7 +1,6 @@
 -- The states, the queues and the pairs are parts of the frame, whose length was tested; each test is one of the ledger's.
 use native.Mathlib.Omega.{arith}
 use mathlib.Core.Path.{sym, ◌∙◌}
-use borrow.Author.Tests.{not-true, not-false}
 use Rattle.configuration.specs.Limits.{limits_of}
 use Rattle.configuration.specs.Refusal.{bad_states, bad_room, by_pairs}
 use borrow.Author.Rules.{rules}

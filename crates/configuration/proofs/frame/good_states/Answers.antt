@@ -1,11 +1,9 @@
 -- What is left to test is the states from i on.
-use Prim.Native.Nat.{◌-◌, ◌≤◌}
 use native.Mathlib.Omega.{arith}
-use mathlib.Core.Path.{◌≡◌, refl, sym, ◌∙◌}
+use mathlib.Core.Path.{refl, sym, ◌∙◌}
 use lib.Dec.{leb}
-use lib.ListN.{length, get_or, drop}
+use lib.ListN.{get_or}
 use borrow.Author.Tests.{le-leb, lt-leb}
-use Rattle.ledger.specs.Lists.{all}
 use Rattle.configuration.specs.States.{all_on, all_stop, all_end}
 use Rattle.configuration.proofs.frame.good_states.Goals as goal
 

@@ -1,12 +1,9 @@
 -- What is left to test is the states from i on.
 use Prim.Native.Nat.{◌-◌, ◌≤◌}
-use native.Mathlib.Omega.{arith}
-use mathlib.Core.Path.{◌≡◌, refl, sym, ◌∙◌}
+use mathlib.Core.Path.{◌≡◌}
 use lib.Dec.{leb}
-use lib.ListN.{length, get_or, drop}
-use borrow.Author.Tests.{le-leb, lt-leb}
+use lib.ListN.{length, drop}
 use Rattle.ledger.specs.Lists.{all}
-use Rattle.configuration.specs.States.{all_on, all_stop, all_end}
 use Rattle.configuration.proofs.frame.good_states.Given as goal
 
 abbrev pub invariant-loop-i : goal.invariant-loop-i

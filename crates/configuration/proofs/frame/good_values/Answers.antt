@@ -3,7 +3,6 @@ use native.Mathlib.Omega.{arith}
 use mathlib.Core.Path.{sym, ◌∙◌}
 use Rattle.ledger.specs.Config.{config_in}
 use Rattle.configuration.specs.Head.{values_not, values_last}
-use borrow.Author.Rules.{rules}
 use Rattle.configuration.proofs.frame.good_values.Goals as goal
 
 pub returns-then-bytes-eq0 : goal.returns-then-bytes-eq0

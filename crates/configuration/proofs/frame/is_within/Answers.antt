@@ -1,7 +1,6 @@
 -- How much there is of each, and then the bytes of the queues, which lie within an accepted frame.
 use native.Mathlib.Omega.{arith}
 use mathlib.Core.Path.{refl, sym, ◌∙◌}
-use borrow.Author.Tests.{not-true, not-false}
 use Rattle.configuration.specs.Limits.{limits_of}
 use Rattle.configuration.specs.Accepted.{accepted, accepted_length}
 use Rattle.configuration.specs.Within.{above, by_bytes}

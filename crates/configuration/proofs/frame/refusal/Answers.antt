@@ -1,11 +1,9 @@
 -- The ways out in the ledger's order.
 use native.Mathlib.Omega.{arith}
 use mathlib.Core.Path.{refl, sym, ◌∙◌, subst}
-use borrow.Author.Tests.{not-true, not-false}
 use Rattle.ledger.specs.Config.{controller}
 use Rattle.configuration.specs.Limits.{limits_of, Made, controller_made}
 use Rattle.configuration.specs.Refusal.{too_short, bad_head, wrong_length_lem, bad_rest, accepted, front_inside}
-use borrow.Author.Rules.{rules}
 use Rattle.configuration.proofs.frame.refusal.Goals as goal
 
 pub returns-then-frame-lt8 : goal.returns-then-frame-lt8

@@ -1,10 +1,8 @@
 -- What document 01 refuses keeps its number; of the rest the limits decide.
 use native.Mathlib.Omega.{arith}
 use mathlib.Core.Path.{sym, ◌∙◌}
-use borrow.Author.Tests.{not-true, not-false}
 use Rattle.ledger.specs.Theorems.Within.{other_number, gives_27, accepted_by}
 use Rattle.configuration.specs.Limits.{limits_of}
-use borrow.Author.Rules.{rules}
 use Rattle.configuration.proofs.frame.refusal_by.Goals as goal
 
 pub returns-then-number-ne0 : goal.returns-then-number-ne0

@@ -1,10 +1,7 @@
 -- The sum so far and the bytes of the queues from k on are all.
-use Prim.Native.Nat.{◌+◌, ◌*◌, ◌-◌, ◌≤◌}
 use native.Mathlib.Omega.{arith}
-use mathlib.Core.Path.{◌≡◌, sym, ◌∙◌}
-use lib.ListN.{drop}
-use borrow.Author.Rules.{rules}
-use Rattle.configuration.specs.Room.{room_in, room_on, room_end}
+use mathlib.Core.Path.{sym, ◌∙◌}
+use Rattle.configuration.specs.Room.{room_on, room_end}
 use Rattle.configuration.proofs.frame.room.Goals as goal
 
 pub loop-k-init : goal.loop-k-init

@@ -1,10 +1,8 @@
 -- The sum so far and the bytes of the queues from k on are all.
 use Prim.Native.Nat.{◌+◌, ◌*◌, ◌-◌, ◌≤◌}
-use native.Mathlib.Omega.{arith}
-use mathlib.Core.Path.{◌≡◌, sym, ◌∙◌}
+use mathlib.Core.Path.{◌≡◌}
 use lib.ListN.{drop}
-use borrow.Author.Rules.{rules}
-use Rattle.configuration.specs.Room.{room_in, room_on, room_end}
+use Rattle.configuration.specs.Room.{room_in}
 use Rattle.configuration.proofs.frame.room.Given as goal
 
 abbrev pub invariant-loop-k : goal.invariant-loop-k

@@ -1,6 +1,5 @@
 -- A byte is below 256, so that the number keeps both.
 use native.Mathlib.Omega.{arith}
-use borrow.Author.Rules.{rules}
 use Rattle.configuration.proofs.frame.size.Goals as goal
 
 pub returns : goal.returns

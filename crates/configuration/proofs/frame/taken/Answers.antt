@@ -1,10 +1,7 @@
 -- The sum so far and the bytes of the queues from k on are all.
-use Prim.Native.Nat.{◌+◌, ◌*◌, ◌-◌, ◌≤◌}
 use native.Mathlib.Omega.{arith}
-use mathlib.Core.Path.{◌≡◌, sym, ◌∙◌}
-use lib.ListN.{drop}
-use borrow.Author.Rules.{rules}
-use Rattle.configuration.specs.Room.{bytes_in, bytes_on, bytes_end}
+use mathlib.Core.Path.{sym, ◌∙◌}
+use Rattle.configuration.specs.Room.{bytes_on, bytes_end}
 use Rattle.configuration.proofs.frame.taken.Goals as goal
 
 pub loop-k-init : goal.loop-k-init

@@ -1,10 +1,8 @@
 -- The sum so far and the bytes of the queues from k on are all.
 use Prim.Native.Nat.{◌+◌, ◌*◌, ◌-◌, ◌≤◌}
-use native.Mathlib.Omega.{arith}
-use mathlib.Core.Path.{◌≡◌, sym, ◌∙◌}
+use mathlib.Core.Path.{◌≡◌}
 use lib.ListN.{drop}
-use borrow.Author.Rules.{rules}
-use Rattle.configuration.specs.Room.{bytes_in, bytes_on, bytes_end}
+use Rattle.configuration.specs.Room.{bytes_in}
 use Rattle.configuration.proofs.frame.taken.Given as goal
 
 abbrev pub invariant-loop-k : goal.invariant-loop-k

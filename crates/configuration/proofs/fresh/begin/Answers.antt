@@ -1,9 +1,7 @@
 -- The records of the tasks before i tell how they begin.
-use Prim.Native.Nat.{◌-◌, ◌≤◌}
 use native.Mathlib.Omega.{arith}
 use mathlib.Core.Path.{◌≡◌, refl, subst}
 use lib.ListN.{length, length-set}
-use borrow.Author.Rules.{rules}
 use Rattle.configuration.specs.Written.{Begun, begun_none, begun_turn}
 use Rattle.configuration.proofs.fresh.begin.Goals as goal
 

@@ -1,10 +1,8 @@
 -- The records of the tasks before i tell how they begin.
 use Prim.Native.Nat.{◌-◌, ◌≤◌}
-use native.Mathlib.Omega.{arith}
-use mathlib.Core.Path.{◌≡◌, refl, subst}
-use lib.ListN.{length, length-set}
-use borrow.Author.Rules.{rules}
-use Rattle.configuration.specs.Written.{Begun, begun_none, begun_turn}
+use mathlib.Core.Path.{◌≡◌}
+use lib.ListN.{length}
+use Rattle.configuration.specs.Written.{Begun}
 use Rattle.configuration.proofs.fresh.begin.Given as goal
 
 abbrev pub invariant-loop-i : goal.invariant-loop-i

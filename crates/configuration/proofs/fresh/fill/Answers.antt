@@ -1,8 +1,7 @@
 -- The bytes before i are v.
-use Prim.Native.Nat.{ℕ, ◌-◌, ◌<◌, ◌≤◌}
 use native.Mathlib.Omega.{arith}
-use mathlib.Core.Path.{◌≡◌, refl}
-use lib.ListN.{length, get_or, length-set}
+use mathlib.Core.Path.{refl}
+use lib.ListN.{length, length-set}
 use Rattle.configuration.specs.Written.{fill_turn, fill_end}
 use Rattle.configuration.proofs.fresh.fill.Goals as goal
 

@@ -1,9 +1,7 @@
 -- The bytes before i are v.
 use Prim.Native.Nat.{ℕ, ◌-◌, ◌<◌, ◌≤◌}
-use native.Mathlib.Omega.{arith}
-use mathlib.Core.Path.{◌≡◌, refl}
-use lib.ListN.{length, get_or, length-set}
-use Rattle.configuration.specs.Written.{fill_turn, fill_end}
+use mathlib.Core.Path.{◌≡◌}
+use lib.ListN.{length, get_or}
 use Rattle.configuration.proofs.fresh.fill.Given as goal
 
 abbrev pub invariant-loop-i : goal.invariant-loop-i

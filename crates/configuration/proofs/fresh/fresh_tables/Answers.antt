@@ -3,7 +3,6 @@ use native.Mathlib.Omega.{arith}
 use mathlib.Core.Path.{refl}
 use lib.ListN.{length-take, length-drop, length-set}
 use Rattle.configuration.specs.Written.{front_in, records_in_lem, written}
-use borrow.Author.Rules.{rules}
 use Rattle.configuration.proofs.fresh.fresh_tables.Goals as goal
 
 pub slice_bounds-fill-end : goal.slice_bounds-fill-end

@@ -1,9 +1,7 @@
 -- The tasks before i are marked.
-use Prim.Native.Nat.{◌-◌, ◌≤◌}
 use native.Mathlib.Omega.{arith}
 use mathlib.Core.Path.{◌≡◌, refl, subst}
 use lib.ListN.{length, length-set}
-use borrow.Author.Rules.{rules}
 use Rattle.configuration.specs.Written.{Marked, marked_none, marked_turn}
 use Rattle.configuration.proofs.fresh.mark_idle.Goals as goal
 

@@ -1,10 +1,8 @@
 -- The tasks before i are marked.
 use Prim.Native.Nat.{◌-◌, ◌≤◌}
-use native.Mathlib.Omega.{arith}
-use mathlib.Core.Path.{◌≡◌, refl, subst}
-use lib.ListN.{length, length-set}
-use borrow.Author.Rules.{rules}
-use Rattle.configuration.specs.Written.{Marked, marked_none, marked_turn}
+use mathlib.Core.Path.{◌≡◌}
+use lib.ListN.{length}
+use Rattle.configuration.specs.Written.{Marked}
 use Rattle.configuration.proofs.fresh.mark_idle.Given as goal
 
 abbrev pub invariant-loop-i : goal.invariant-loop-i

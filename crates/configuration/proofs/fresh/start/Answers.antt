@@ -2,7 +2,6 @@
 use native.Mathlib.Omega.{arith}
 use lib.ListN.{length-take, length-drop}
 use Rattle.configuration.specs.Started.{frame_length, tasks_in_lem, start_fits, started}
-use borrow.Author.Rules.{rules}
 use Rattle.configuration.proofs.fresh.start.Goals as goal
 
 pub overflow_add-at : goal.overflow_add-at

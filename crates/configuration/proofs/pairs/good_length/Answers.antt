@@ -1,6 +1,5 @@
 -- Each way out is a law of the ledger's test.
 use native.Mathlib.Omega.{arith}
-use borrow.Author.Rules.{rules}
 use Rattle.configuration.specs.Pairs.{too_short, too_long, by_evenness}
 use Rattle.configuration.proofs.pairs.good_length.Goals as goal
 

@@ -1,6 +1,5 @@
 -- Where a number is no task's, or the first is not the lower, there is no pair; else the two initial states decide.
 use native.Mathlib.Omega.{arith}
-use borrow.Author.Rules.{rules}
 use Rattle.configuration.specs.Pairs.{Paired, no_pair, first_runs, first_idle}
 use Rattle.configuration.proofs.pairs.good_pair.Goals as goal
 

@@ -1,12 +1,8 @@
 -- What is left to test is the pairs from k on.
-use Prim.Native.Nat.{◌-◌, ◌*◌, ◌≤◌}
 use native.Mathlib.Omega.{arith}
-use mathlib.Core.Path.{◌≡◌, refl, sym, ◌∙◌}
-use lib.ListN.{length, drop}
-use borrow.Author.Rules.{rules}
-use borrow.Author.Tests.{not-true, not-false}
-use Rattle.ledger.specs.Lists.{all}
-use Rattle.ledger.specs.Config.{pair_of, pairs_in, good_pair}
+use mathlib.Core.Path.{refl, sym, ◌∙◌}
+use lib.ListN.{length}
+use Rattle.ledger.specs.Config.{pair_of, good_pair}
 use Rattle.ledger.specs.Theorems.Twos.{all_next, all_not, all_over}
 use Rattle.configuration.proofs.pairs.good_pairs.Goals as goal
 
