@@ -5,7 +5,7 @@ use Rattle.std.proofs.Common.{sym, subst, ◌∙◌, arith, length-take, take-ap
 use Rattle.std.proofs.Math.Logic.{∥∥₁_prop, ∥∥₁_elim, ∥∥₁_map}
 use Rattle.std.proofs.Math.Option.{some as just}
 use seplogic.Ra.Ura.{Ura}
-use seplogic.Ra.TreeShare.{full_share}
+use base.Fraction.{full_share}
 use seplogic.Bi.Sat
 use mir.Syntax.{w8, Ty, ty_int}
 use mir.Val.{Val, vint, has_ty, WT, Fits}
