@@ -4,7 +4,6 @@
 --     Ran            a routine was run on slices from a memory, and ended so
 --     runs           a routine that meets its contract has such a run, from every memory that holds the slices
 use Rattle.std.specs.Prelude.{◌≡◌, ℕ, List, [], ◌∷◌, ◌++◌}
-use Rattle.std.proofs.Math.Logic.{∥∥₁_prop, ∥∥₁_elim, ∥∥₁_map}
 use mir.Val.{Val}
 use base.Logic.{SProp, ent, sep, ex, guard, emp, via, comm∗, assoc∗, assoc', emp∗, mono∗, mono_l, mono_r, fst∗, ex_i, ex_e}
 use Rattle.std.specs.Borrow.{Fml, RattleType}
@@ -14,15 +13,13 @@ use prog.AdequacyRun.{start_mem}
 use prog.Routine.{Routine, step}
 use ghost.Model as closed
 use ghost.Atoms.{Atoms, meaning}
-use types.Kit.{‵, raw, given, later, ◌$◌, ◌∵◌, !, qed, use1, use3, learn, await, updating, check, now as at_once, done}
 use contract.Running.{Running}
 use contract.BorrowModel.{logic₀}
-use contract.Closed.{model⁺, real⁺, real⁺_strict}
+use contract.Closed.{model⁺, real⁺}
 use contract.Monad.{fact, fact_i, fact_mono}
-use contract.Adequate.{Satisfies, sat_weaken, sat_ex∗}
+use contract.Adequate.{Satisfies, sat_weaken}
 use denote.Laws.{Is}
-use denote.Triple.Statement.{Contract, Triple}
-use Rattle.running.specs.Slices.{Kind, Slice, Ids, LastValues, afters, Rooms, SameLengths, AreBytes, owns_of, asides_of, lefts_of, cells_at, cells_of, toks_of, are_bytes, hands_out, takes_back}
+use Rattle.running.specs.Slices.{Kind, Slice, Ids, LastValues, afters, SameLengths, AreBytes, owns_of, asides_of, lefts_of, cells_at, cells_of, toks_of}
 use Rattle.running.specs.OneRun as any
 use Rattle.running.specs.OneRun.{Lending}
 use Rattle.running.specs.Memories as memories
@@ -63,10 +60,10 @@ in_front P Q R = via closed.𝓤 (P ∗ (Q ∗ R)) (swap Q P R) (assoc' closed.�
 -- ---- one run
 
 -- slices are lent; they come back as long as they were, and of bytes
-abbrev AsLong : (L : List Slice) → LastValues L → Type 0
+abbrev pub AsLong : (L : List Slice) → LastValues L → Type 0
 AsLong L ws = SameLengths L ws × AreBytes (afters L ws)
 
-abbrev lending : List Slice → Lending closed.𝓤
+abbrev pub lending : List Slice → Lending closed.𝓤
 lending L =
     record {
       Ids = Ids L;
@@ -78,13 +75,6 @@ lending L =
       aside = λ ids. meaning closed.𝓤 closed.H A₀ (asides_of L ids);
       left = λ ids ws. meaning closed.𝓤 closed.H A₀ (lefts_of L ids ws);
     }
-
-back : (L : List Slice) (ids : Ids L) (ws : LastValues L)
-    → ent closed.𝓤 ((lending L).tokens ids ∗ ((lending L).left ids ws ∗ (lending L).aside ids)) ((closed.H).⇛ ((lending L).after ws))
-back L ids ws =
-    qed logic₀ (raw ((lending L).tokens ids) ∷ ‵ (lefts_of L ids ws) ∷ ‵ (asides_of L ids) ∷ []) ∵ updating ! $
-    use3 logic₀ (later (given (SameLengths L ws) (raw (Cells (afters L ws))))) (takes_back logic₀ L ids ws) $ await ! tt $ learn ! (λ s.
-    use1 logic₀ (given (AreBytes (afters L ws)) (raw (Cells (afters L ws)))) (are_bytes logic₀ (afters L ws)) $ learn ! (λ f. at_once ! $ check ! (s, f) $ done !))
 
 abbrev pub Enters : (L : List Slice) (T : RattleType) → Ids L → Pr
 Enters L T = any.Enters logic₀ model⁺ (lending L) T
@@ -142,30 +132,6 @@ pub record Ran (ρ : Routine) (vs : List Val) (L : List Slice) (T : RattleType) 
   pub bytes : AreBytes (afters L last)
   pub loads : LoadsAll memory (afters L last)
   pub holds : memory ⊨ Cells (afters L last) ∗ F
-
-pub runs : (ρ : Routine) (c : Contract closed.𝓤) → Triple closed.𝓤 (𝓡₀.run ρ) c → (L : List Slice) (T : RattleType) (x : Ids L → c.Ghost)
-    → (vs : List Val) → ((ids : Ids L) → c.args (x ids) ≡ vs) → ((ids : Ids L) → ent closed.𝓤 (Enters L T ids) (c.pre (x ids)))
-    → (Φ : T.Denot → LastValues L → Type 0) → ((ids : Ids L) (v : Val) → ent closed.𝓤 (c.post (x ids) v) (Leaves L T Φ ids v))
-    → Rooms L → (σ : Memory) (F : Pr) → σ ⊨ Cells L ∗ F → ∥ Ran ρ vs L T Φ σ F ∥₁
-runs ρ c met L T x vs args enters Φ leaves rooms σ F s =
-    ∥∥₁_elim (any.stops logic₀ model⁺ (lending L) T (hands_out logic₀ 0 L rooms) (back L) 𝓡₀ real⁺_strict ρ c met x vs args enters Φ leaves σ F s) ∥∥₁_prop (λ k.
-    let ws : LastValues L = k.2.1 in
-    ∥∥₁_elim (sat_ex∗ closed.𝓤 closed.H model⁺ k.3 (λ (_ : AsLong L ws). Cells (afters L ws)) F k.6) ∥∥₁_prop (λ g.
-    ∥∥₁_map (memories.sat_loads logic₀ model⁺ k.3 (afters L ws) F g.1) (λ l.
-    record {
-      fuel = k.0;
-      value = k.1;
-      result = k.2.0;
-      last = ws;
-      memory = k.3;
-      run = k.4;
-      is = k.5.0;
-      says = k.5.1;
-      same = g.0.0;
-      bytes = g.0.1;
-      loads = l;
-      holds = g.1;
-    })))
 
 -- ---- memories
 pub begins : (ps : List (Kind × List ℕ)) → AllBytes ps → start_mem (inarow ps) [] ⊨ Cells (side_by_side 0 ps) ∗ emp closed.𝓤

@@ -11,7 +11,7 @@ use prog.Model.{AllFit}
 use ghost.Model as closed
 use Rattle.running.specs.Slices.{shr, mut, Slice}
 use Rattle.running.specs.Memories as memories
-use Rattle.running.specs.Stores as stores
+use Rattle.running.proofs.Stored as stores
 use Rattle.running.specs.Stores.{Stores}
 use Rattle.running.specs.Machine.{Pr, Cell, Cells, ◌∗◌, ◌⊨◌, weaken, swap, bytes_at}
 use contract.BorrowModel.{logic₀}
