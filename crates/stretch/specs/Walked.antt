@@ -63,6 +63,12 @@ module _ (cs : List ℕ) (n w : ℕ) (s : Walk) (h : Walked cs n w s) where
     pub from_in : s.from < n
     from_in = omega (arith, at_in, h.from_is)
 
+    pub at_early : s.at < most_records
+    at_early = omega (arith, more, h.upto_is, (bounds n w).1)
+
+    pub from_early : s.from < most_records
+    from_early = omega (arith, at_early, h.from_is)
+
     module _ (x y : ℕ) (x-is : x ≡ get_or cs s.at 0) (y-is : y ≡ get_or cs s.from 0) (x_Fits : x < 65536) where
       y_at : y ≡ get_or cs (s.at - s.width) 0
       y_at = y-is ∙ ap (λ (j : ℕ). get_or cs j 0) h.from_is
