@@ -2,7 +2,7 @@
 --     σ ⊨ P          some resource of the model agrees with the machine's memory σ and has P
 --     Cells L        the bytes of the slices L are owned
 --     Ran            a routine was run on slices from a memory, and ended so
---     runs           a routine that meets its contract has such a run, from every memory that holds the slices
+-- That a routine which meets its contract has such a run, from every memory that holds the slices, is `runs` of proofs/Runs.antt.
 use Rattle.std.specs.Prelude.{◌≡◌, ℕ, List, [], ◌∷◌, ◌++◌}
 use mir.Val.{Val}
 use base.Logic.{SProp, ent, sep, ex, guard, emp, via, comm∗, assoc∗, assoc', emp∗, mono∗, mono_l, mono_r, fst∗, ex_i, ex_e}

@@ -30,7 +30,7 @@ use Rattle.running.specs.Loans.{AllAre}
 use Rattle.running.specs.Lent.{Param, value, lent, number, list, Fits, LastValues, lifetimes_of, shares_of, values_of, passed_of, Enters}
 use Rattle.running.specs.Hosts.{Hosts, Call, Done, hosts, runs, every_run}
 use Rattle.stretch.specs.Busiest.{busiest_of, Gives, Leaves}
-use Rattle.stretch.specs.Theorems.{gives_leaves}
+use Rattle.stretch.proofs.Theorems.{gives_leaves}
 use Rattle.stretch.specs.declared.Record.{Record}
 use Rattle.stretch.specs.contracts.Record as R
 use Rattle.stretch.proofs.Record.TheLaws as R'

@@ -1,8 +1,8 @@
--- The walk begins before the first record, takes in one record at each turn, and ends in the busiest stretch (specs/Walked).
+-- The walk begins before the first record, takes in one record at each turn, and ends in the busiest stretch (proofs/Walked).
 use Rattle.std.proofs.Common.{◌-◌, ◌<◌, length, subst, sym, arith, ◌∙◌}
 use Rattle.stretch.specs.Busiest.{counts}
 use Rattle.stretch.specs.declared.walk.Walk.{Walk}
-use Rattle.stretch.specs.Walked.{Walked, starts, at_in, from_in, at_early, from_early, turns, ends}
+use Rattle.stretch.proofs.Walked.{Walked, starts, at_in, from_in, at_early, from_early, turns, ends}
 use Rattle.stretch.proofs.busiest.Goals as goal
 
 pub loop-s-init : goal.loop-s-init

@@ -1,7 +1,7 @@
--- Before each record the walk is as far as it says (specs/Walked).
+-- Before each record the walk is as far as it says (proofs/Walked).
 use Rattle.std.proofs.Common.{◌-◌, length}
 use Rattle.stretch.specs.Busiest.{counts}
-use Rattle.stretch.specs.Walked.{Walked}
+use Rattle.stretch.proofs.Walked.{Walked}
 use Rattle.stretch.proofs.busiest.Given as goal
 
 abbrev pub invariant-loop-s : goal.invariant-loop-s

@@ -10,7 +10,7 @@ use Rattle.stretch.specs.declared.walk.Walk.{Walk}
 use Rattle.stretch.specs.declared.Stretch.TheVariants.{Found, Refused}
 use Rattle.stretch.specs.Busiest.{counts, most_records, best_upto, turned_away, found, busiest_of}
 use Rattle.stretch.specs.Walk.{walk_before, start_of, slide_of, best_of, turn_of, Ready, answer_of}
-use Rattle.stretch.specs.Sums.{head, head_suc, head_more, best_to, better_same, all_parts}
+use Rattle.stretch.proofs.Sums.{head, head_suc, head_more, best_to, better_same, all_parts}
 
 -- ---- at each record
 pub record Walked (cs : List ℕ) (n w : ℕ) (s : Walk) : Type 0 where
