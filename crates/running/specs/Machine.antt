@@ -10,10 +10,10 @@ use Rattle.std.specs.Borrow.{Fml, RattleType}
 use prog.Memory.{Memory}
 use prog.Machine.{done as ended}
 use prog.AdequacyRun.{start_mem}
-use prog.Routine.{Routine, step}
+use prog.Routine.{Env, Routine, step}
 use ghost.Model as closed
 use ghost.Atoms.{Atoms, meaning}
-use contract.Running.{Running}
+use contract.Running.{Running, within}
 use contract.BorrowModel.{logic₀}
 use contract.Closed.{model⁺, real⁺}
 use contract.Monad.{fact, fact_i, fact_mono}
@@ -33,6 +33,10 @@ A₀ = logic₀.A
 
 abbrev pub 𝓡₀ : Running closed.𝓤 closed.H model⁺
 𝓡₀ = real⁺
+
+-- the same where names mean what γ says: a function's theorem is about its routine `γ name` in each environment γ that is wired with its code
+abbrev pub 𝓡_in : Env → Running closed.𝓤 closed.H model⁺
+𝓡_in = within closed.𝓤 closed.H model⁺ real⁺
 
 abbrev pub Cells : List Slice → Pr
 Cells = cells_of logic₀
