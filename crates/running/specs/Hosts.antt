@@ -17,9 +17,10 @@ use prog.Memory.{Memory, alloc_m}
 use prog.Machine.{done as ended}
 use prog.Model.{AllFit}
 use prog.AdequacyRun.{start_mem}
-use prog.Routine.{Routine}
+use prog.Routine.{Routine, step}
 use ghost.Model as closed
 use contract.BorrowModel.{logic₀}
+use contract.Closed.{model⁺, real⁺_strict}
 use contract.Adequate.{start_Satisfies}
 use Rattle.std.specs.Borrow.{RattleType}
 use denote.Laws.{Is}
@@ -107,7 +108,7 @@ Others o = Cells (bytes_at shr (0, 0) o ∷ [])
 module _ (L : List Param) (o : List ℕ) (f : Fits L) (fo : AllFit w8 o) where
   held : ∥ ((σ : Memory) × Hosts L o σ × (σ ⊨ Held 0 L (firsts L) ∗ Others o)) ∥₁
   unfolding start_mem
-  held = fills 0 L (blocks L (start_mem o [])) (Others o) f (have_room 0 L (start_mem o []) (Others o) refl (start_Satisfies closed.𝓤 closed.H closed.model o [] fo tt))
+  held = fills 0 L (blocks L (start_mem o [])) (Others o) f (have_room 0 L (start_mem o []) (Others o) refl (start_Satisfies closed.𝓤 closed.H model⁺ o [] fo tt))
 
   -- there is such a memory
   pub hosts : ∥ ((σ : Memory) × Hosts L o σ) ∥₁
@@ -134,7 +135,7 @@ pub record Done (L : List Param) (o : List ℕ) (T : RattleType) (Φ : T.Denot �
   pub others : Loads last 0 0 o
 
 abbrev pub Runs : Routine → List Val → Memory → Val → Memory → Type 0
-Runs ρ vs σ v last = (fuel : ℕ) × (ρ.step fuel vs σ ≡ ended (v, last))
+Runs ρ vs σ v last = (fuel : ℕ) × (step ρ fuel vs σ ≡ ended (v, last))
 
 module _ {ρ : Routine} {vs : List Val} {L : List Param} {T : RattleType} {Φ : T.Denot → LastValues L → Type 0} (C : Call ρ vs L T Φ) (o : List ℕ) (f : Fits L) (fo : AllFit w8 o)
     (σ : Memory) (host : Hosts L o σ) where
@@ -143,7 +144,7 @@ module _ {ρ : Routine} {vs : List Val} {L : List Param} {T : RattleType} {Φ : 
   runs =
       ∥∥₁_elim (held L o f fo) ∥∥₁_prop (λ h.
       let s : σ ⊨ Held 0 L (firsts L) ∗ Others o = subst (λ (τ : Memory). τ ⊨ Held 0 L (firsts L) ∗ Others o) (fills_one 0 L (blocks L (start_mem o [])) h.0 σ h.1 host) h.2 in
-      ∥∥₁_elim (any.stops logic₀ closed.model (lending L) T (hands_out 0 L f) (takes_back 0 L) 𝓡₀ ρ C.contract C.met C.bound vs C.passes C.enters Φ C.leaves σ (Others o) s) ∥∥₁_prop (λ k.
+      ∥∥₁_elim (any.stops logic₀ model⁺ (lending L) T (hands_out 0 L f) (takes_back 0 L) 𝓡₀ real⁺_strict ρ C.contract C.met C.bound vs C.passes C.enters Φ C.leaves σ (Others o) s) ∥∥₁_prop (λ k.
       let last : Memory = k.3 in
       let H : Pr = Held 0 L k.2.1 in
       ∥∥₁_elim (loads_all last 0 L k.2.1 (Others o) k.6) ∥∥₁_prop (λ a.
@@ -158,5 +159,5 @@ module _ {ρ : Routine} {vs : List Val} {L : List Param} {T : RattleType} {Φ : 
   pub every_run : {v : Val} {last : Memory} → Runs ρ vs σ v last → ∥ Done L o T Φ v last ∥₁
   every_run {v} {last} r =
       ∥∥₁_map runs (λ k.
-      let e = run_one ρ vs k.2.1 r.1 in
+      let e = run_one ρ vs σ k.2.0 r.0 k.2.1 r.1 in
       subst (λ (u : Val). Done L o T Φ u last) e.0 (subst (λ (τ : Memory). Done L o T Φ k.0 τ) e.1 k.3))

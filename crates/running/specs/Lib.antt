@@ -3,7 +3,6 @@ pub mod Memories
 pub mod Stores
 pub mod OneRun
 pub mod Machine
-pub mod Buffer
 pub mod One
 pub mod Rows
 pub mod Loans

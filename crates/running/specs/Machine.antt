@@ -2,26 +2,24 @@
 --     σ ⊨ P          some resource of the model agrees with the machine's memory σ and has P
 --     Cells L        the bytes of the slices L are owned
 --     Ran            a routine was run on slices from a memory, and ended so
---     runs           a routine that meets its contract has such a run, from every memory that holds the slices
+-- That a routine which meets its contract has such a run, from every memory that holds the slices, is `runs` of proofs/Runs.antt.
 use Rattle.std.specs.Prelude.{◌≡◌, ℕ, List, [], ◌∷◌, ◌++◌}
-use Rattle.std.proofs.Math.Logic.{∥∥₁_prop, ∥∥₁_elim, ∥∥₁_map}
 use mir.Val.{Val}
 use base.Logic.{SProp, ent, sep, ex, guard, emp, via, comm∗, assoc∗, assoc', emp∗, mono∗, mono_l, mono_r, fst∗, ex_i, ex_e}
 use Rattle.std.specs.Borrow.{Fml, RattleType}
 use prog.Memory.{Memory}
 use prog.Machine.{done as ended}
 use prog.AdequacyRun.{start_mem}
-use prog.Routine.{Routine}
+use prog.Routine.{Env, Routine, step}
 use ghost.Model as closed
 use ghost.Atoms.{Atoms, meaning}
-use types.Kit.{‵, raw, given, later, ◌$◌, ◌∵◌, !, qed, use1, use3, learn, await, updating, check, now as at_once, done}
-use contract.Running.{Running, real}
+use contract.Running.{Running, within}
 use contract.BorrowModel.{logic₀}
+use contract.Closed.{model⁺, real⁺}
 use contract.Monad.{fact, fact_i, fact_mono}
-use contract.Adequate.{Satisfies, sat_weaken, sat_ex∗}
+use contract.Adequate.{Satisfies, sat_weaken}
 use denote.Laws.{Is}
-use denote.Triple.Statement.{Contract, Triple}
-use Rattle.running.specs.Slices.{Kind, Slice, Ids, LastValues, afters, Rooms, SameLengths, AreBytes, owns_of, asides_of, lefts_of, cells_at, cells_of, toks_of, are_bytes, hands_out, takes_back}
+use Rattle.running.specs.Slices.{Kind, Slice, Ids, LastValues, afters, SameLengths, AreBytes, owns_of, asides_of, lefts_of, cells_at, cells_of, toks_of}
 use Rattle.running.specs.OneRun as any
 use Rattle.running.specs.OneRun.{Lending}
 use Rattle.running.specs.Memories as memories
@@ -33,8 +31,12 @@ Pr = SProp closed.𝓤
 abbrev pub A₀ : Atoms closed.𝓤
 A₀ = logic₀.A
 
-abbrev pub 𝓡₀ : Running closed.𝓤 closed.H closed.model
-𝓡₀ = real closed.𝓤 closed.H closed.model
+abbrev pub 𝓡₀ : Running closed.𝓤 closed.H model⁺
+𝓡₀ = real⁺
+
+-- the same where names mean what γ says: a function's theorem is about its routine `γ name` in each environment γ that is wired with its code
+abbrev pub 𝓡_in : Env → Running closed.𝓤 closed.H model⁺
+𝓡_in = within closed.𝓤 closed.H model⁺ real⁺
 
 abbrev pub Cells : List Slice → Pr
 Cells = cells_of logic₀
@@ -47,11 +49,11 @@ P ∗ Q = sep closed.𝓤 P Q
 
 infixr 35 ◌∗◌
 abbrev pub ◌⊨◌ : Memory → Pr → Type 1
-σ ⊨ P = Satisfies closed.𝓤 closed.H closed.model σ P
+σ ⊨ P = Satisfies closed.𝓤 closed.H model⁺ σ P
 
 infix 26 ◌⊨◌
 pub weaken : (σ : Memory) {P Q : Pr} → ent closed.𝓤 P Q → σ ⊨ P → σ ⊨ Q
-weaken σ h s = sat_weaken closed.𝓤 closed.H closed.model σ h s
+weaken σ h s = sat_weaken closed.𝓤 closed.H model⁺ σ h s
 
 pub swap : (P Q R : Pr) → ent closed.𝓤 (P ∗ (Q ∗ R)) (Q ∗ (P ∗ R))
 swap P Q R = via closed.𝓤 ((P ∗ Q) ∗ R) (assoc' closed.𝓤 P Q R) (via closed.𝓤 ((Q ∗ P) ∗ R) (mono_l closed.𝓤 R (comm∗ closed.𝓤 P Q)) (assoc∗ closed.𝓤 Q P R))
@@ -62,10 +64,10 @@ in_front P Q R = via closed.𝓤 (P ∗ (Q ∗ R)) (swap Q P R) (assoc' closed.�
 -- ---- one run
 
 -- slices are lent; they come back as long as they were, and of bytes
-abbrev AsLong : (L : List Slice) → LastValues L → Type 0
+abbrev pub AsLong : (L : List Slice) → LastValues L → Type 0
 AsLong L ws = SameLengths L ws × AreBytes (afters L ws)
 
-abbrev lending : List Slice → Lending closed.𝓤
+abbrev pub lending : List Slice → Lending closed.𝓤
 lending L =
     record {
       Ids = Ids L;
@@ -78,18 +80,11 @@ lending L =
       left = λ ids ws. meaning closed.𝓤 closed.H A₀ (lefts_of L ids ws);
     }
 
-back : (L : List Slice) (ids : Ids L) (ws : LastValues L)
-    → ent closed.𝓤 ((lending L).tokens ids ∗ ((lending L).left ids ws ∗ (lending L).aside ids)) ((closed.H).⇛ ((lending L).after ws))
-back L ids ws =
-    qed logic₀ (raw ((lending L).tokens ids) ∷ ‵ (lefts_of L ids ws) ∷ ‵ (asides_of L ids) ∷ []) ∵ updating ! $
-    use3 logic₀ (later (given (SameLengths L ws) (raw (Cells (afters L ws))))) (takes_back logic₀ L ids ws) $ await ! tt $ learn ! (λ s.
-    use1 logic₀ (given (AreBytes (afters L ws)) (raw (Cells (afters L ws)))) (are_bytes logic₀ (afters L ws)) $ learn ! (λ f. at_once ! $ check ! (s, f) $ done !))
-
 abbrev pub Enters : (L : List Slice) (T : RattleType) → Ids L → Pr
-Enters L T = any.Enters logic₀ closed.model (lending L) T
+Enters L T = any.Enters logic₀ model⁺ (lending L) T
 
 abbrev pub Leaves : (L : List Slice) (T : RattleType) → (T.Denot → LastValues L → Type 0) → Ids L → Val → Pr
-Leaves L T = any.Leaves logic₀ closed.model (lending L) T
+Leaves L T = any.Leaves logic₀ model⁺ (lending L) T
 
 -- a contract with no `requires`
 pub asks_nothing : (P : Pr) → ent closed.𝓤 P (P ∗ emp closed.𝓤)
@@ -110,7 +105,7 @@ module _ (L : List Slice) (T : RattleType) (Φ : T.Denot → LastValues L → Ty
     (to : X → LastValues L) (left : (ws : X) → ent closed.𝓤 (meaning closed.𝓤 closed.H A₀ (lefts ws)) (meaning closed.𝓤 closed.H A₀ (lefts_of L ids (to ws))))
     (says : (r : T.Denot) (ws : X) → Ψ r ws → Φ r (to ws)) where
   abbrev Back : T.Denot → Pr
-  Back r = toks_of logic₀ L ids ∗ meaning closed.𝓤 closed.H A₀ (T.own r (v ∷ []))
+  Back r = toks_of logic₀ L ids ∗ meaning closed.𝓤 closed.H A₀ (T.own_val r (v ∷ []))
 
   abbrev Theirs : T.Denot → X → Pr
   Theirs r ws = meaning closed.𝓤 closed.H A₀ (lefts ws) ∗ fact closed.𝓤 (Ψ r ws)
@@ -123,7 +118,7 @@ module _ (L : List Slice) (T : RattleType) (Φ : T.Denot → LastValues L → Ty
 
   pub leaves_by : ent closed.𝓤 ((closed.H).⇛ (ex closed.𝓤 (λ (r : T.Denot). Back r ∗ ex closed.𝓤 (Theirs r)))) (Leaves L T Φ ids v)
   leaves_by =
-      (closed.model).⇛_mono (ex closed.𝓤 (λ (r : T.Denot). Back r ∗ ex closed.𝓤 (Theirs r))) (ex closed.𝓤 (λ (r : T.Denot). Back r ∗ ex closed.𝓤 (Ours r)))
+      model⁺.⇛_mono (ex closed.𝓤 (λ (r : T.Denot). Back r ∗ ex closed.𝓤 (Theirs r))) (ex closed.𝓤 (λ (r : T.Denot). Back r ∗ ex closed.𝓤 (Ours r)))
       (ex_e closed.𝓤 (λ (r : T.Denot). Back r ∗ ex closed.𝓤 (Theirs r)) (λ r. via closed.𝓤 (Back r ∗ ex closed.𝓤 (Ours r)) (mono_r closed.𝓤 (Back r) (brought r)) (ex_i closed.𝓤 (λ (r : T.Denot). Back r ∗ ex closed.𝓤 (Ours r)) r)))
 
 -- the routine ρ was run on the machine values vs, with the slices L, from σ, and ended so: what is in `loads` is what the
@@ -134,7 +129,7 @@ pub record Ran (ρ : Routine) (vs : List Val) (L : List Slice) (T : RattleType) 
   pub result : T.Denot
   pub last : LastValues L
   pub memory : Memory
-  pub run : ρ.step fuel vs σ ≡ ended (value, memory)
+  pub run : step ρ fuel vs σ ≡ ended (value, memory)
   pub is : Is T result (value ∷ [])
   pub says : Φ result last
   pub same : SameLengths L last
@@ -142,36 +137,12 @@ pub record Ran (ρ : Routine) (vs : List Val) (L : List Slice) (T : RattleType) 
   pub loads : LoadsAll memory (afters L last)
   pub holds : memory ⊨ Cells (afters L last) ∗ F
 
-pub runs : (ρ : Routine) (c : Contract closed.𝓤) → Triple closed.𝓤 (𝓡₀.run ρ) c → (L : List Slice) (T : RattleType) (x : Ids L → c.Ghost)
-    → (vs : List Val) → ((ids : Ids L) → c.args (x ids) ≡ vs) → ((ids : Ids L) → ent closed.𝓤 (Enters L T ids) (c.pre (x ids)))
-    → (Φ : T.Denot → LastValues L → Type 0) → ((ids : Ids L) (v : Val) → ent closed.𝓤 (c.post (x ids) v) (Leaves L T Φ ids v))
-    → Rooms L → (σ : Memory) (F : Pr) → σ ⊨ Cells L ∗ F → ∥ Ran ρ vs L T Φ σ F ∥₁
-runs ρ c met L T x vs args enters Φ leaves rooms σ F s =
-    ∥∥₁_elim (any.stops logic₀ closed.model (lending L) T (hands_out logic₀ 0 L rooms) (back L) 𝓡₀ ρ c met x vs args enters Φ leaves σ F s) ∥∥₁_prop (λ k.
-    let ws : LastValues L = k.2.1 in
-    ∥∥₁_elim (sat_ex∗ closed.𝓤 closed.H closed.model k.3 (λ (_ : AsLong L ws). Cells (afters L ws)) F k.6) ∥∥₁_prop (λ g.
-    ∥∥₁_map (memories.sat_loads logic₀ closed.model k.3 (afters L ws) F g.1) (λ l.
-    record {
-      fuel = k.0;
-      value = k.1;
-      result = k.2.0;
-      last = ws;
-      memory = k.3;
-      run = k.4;
-      is = k.5.0;
-      says = k.5.1;
-      same = g.0.0;
-      bytes = g.0.1;
-      loads = l;
-      holds = g.1;
-    })))
-
 -- ---- memories
 pub begins : (ps : List (Kind × List ℕ)) → AllBytes ps → start_mem (inarow ps) [] ⊨ Cells (side_by_side 0 ps) ∗ emp closed.𝓤
-begins ps f = memories.begins logic₀ closed.model ps f
+begins ps f = memories.begins logic₀ model⁺ ps f
 
 pub held_loads : (σ : Memory) (L : List Slice) (F : Pr) → σ ⊨ Cells L ∗ F → ∥ LoadsAll σ L ∥₁
-held_loads σ L F h = memories.sat_loads logic₀ closed.model σ L F h
+held_loads σ L F h = memories.sat_loads logic₀ model⁺ σ L F h
 
 pub cells_append : (L K : List Slice) → ent closed.𝓤 (Cells (L ++ K)) (Cells L ∗ Cells K)
 cells_append [] K = emp∗ closed.𝓤 (Cells K)

@@ -1,12 +1,12 @@
 -- The machine's memory: which bytes it holds, and one that holds any bytes, side by side in its block 0.
 --     Loads σ b o xs         the bytes xs are what the machine loads from σ, from the offset o on in block b
---     side_by_side, inARow     some lists of bytes as slices, one behind the other, and all of them in one list
+--     side_by_side, inarow     some lists of bytes as slices, one behind the other, and all of them in one list
 --     begins                 the memory with which a run begins, holding them
 use Rattle.std.specs.Prelude.{◌≡◌, refl, ℕ, ◌+◌, List, [], ◌∷◌, ◌++◌, length}
 use Rattle.std.proofs.Common.{subst, arith}
 use Rattle.std.proofs.Math.Option.{some as just}
 use seplogic.Ra.Ura.{Ura}
-use seplogic.Ra.TreeShare.{full_share}
+use base.Fraction.{full_share}
 use mir.Syntax.{w8, ty_int}
 use mir.Val.{vint}
 use base.Logic.{SProp, ent, sep, guard, emp, id⊢, via, assoc∗, assoc', mono_l, mono_r, emp∗, fst∗, snd∗}
@@ -17,7 +17,7 @@ use prog.Model.{Model, AllFit}
 use prog.AdequacyRun.{start_mem}
 use types.Logic.{Logic}
 use types.Kit.{‵, raw, ◌⊛◌, given, ◌$◌, ◌∵◌, !, qed, by, move, use1, use2, split, learn, check, done}
-use contract.Monad.{fact, guard→fact}
+use contract.Monad.{guard→fact}
 use contract.Adequate.{Satisfies, sat_weaken, sat_fact, start_Satisfies}
 use Rattle.running.specs.Slices.{Kind, Slice, cells_at, cells_of}
 
@@ -89,7 +89,7 @@ module _ {M : Type 1} {𝓤 : Ura M} (𝓛 : Logic 𝓤) (𝓜 : Model 𝓤 𝓛
   cut : (xs ys : List ℕ) (b o : ℕ) → ent 𝓤 (Run b o (xs ++ ys)) (Run b o xs ∗ Run b (o + length xs) ys)
   cut xs ys b o = cut_at xs ys b o (o + length xs) refl
 
-  -- and inARow
+  -- and joined
   join_at : (xs ys : List ℕ) (b o p : ℕ) → o + length xs ≡ p → ent 𝓤 (Run b o xs ∗ Run b p ys) (Run b o (xs ++ ys))
   join_at [] ys b o p e = subst (λ (q : ℕ). ent 𝓤 (emp 𝓤 ∗ Run b q ys) (Run b o ys)) (omega (arith, e)) (snd∗ 𝓤 (emp 𝓤) (Run b o ys))
   join_at (x ∷ xs) ys b o p e =

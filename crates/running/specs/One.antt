@@ -7,7 +7,7 @@ use Rattle.std.specs.Int.{Width, w8}
 use mir.Val.{Val, vint, as_int}
 use prog.Memory.{Memory}
 use prog.Machine.{done as ended}
-use prog.Routine.{Routine, ends-one}
+use prog.Routine.{Routine, ends-one, step}
 use Rattle.running.specs.Memories.{Loads}
 use Rattle.running.specs.Stores.{Stores, none, store}
 
@@ -23,7 +23,7 @@ just_one {x = x} e = ap (inside x) e
 unfoldable number_of : Val → ℕ
 number_of v = as_int zero v (λ _ k. k)
 
-pub number_one : (w : Width) {m n : ℕ} → vint w m ≡ vint w n → m ≡ n
+pub number_one : (w : Width) {m n : ℕ} → ◌≡◌ {A = Val} (vint w m) (vint w n) → m ≡ n
 unfolding number_of
 number_one w e = ap number_of e
 
@@ -41,8 +41,8 @@ stores_one {b} (store {o = o} {x = x} {xs = xs} {σ = σ} {σ₁ = σ₁} e more
     stores_one more (subst (λ (τ : Memory). Stores b (o + 1) xs τ σ'') (sym (just_one (sym e ∙ e'))) more')
 
 -- ---- runs
-pub run_one : (ρ : Routine) (vs : List Val) {σ : Memory} {n n' : ℕ} {v v' : Val} {σ₁ σ₁' : Memory}
-    → ρ.step n vs σ ≡ ended (v, σ₁) → ρ.step n' vs σ ≡ ended (v', σ₁') → (v ≡ v') × (σ₁ ≡ σ₁')
-run_one ρ vs {σ} {n} {n'} {v} {v'} {σ₁} {σ₁'} e e' =
+pub run_one : (ρ : Routine) (vs : List Val) (σ : Memory) (n n' : ℕ) {v v' : Val} {σ₁ σ₁' : Memory}
+    → step ρ n vs σ ≡ ended (v, σ₁) → step ρ n' vs σ ≡ ended (v', σ₁') → (v ≡ v') × (σ₁ ≡ σ₁')
+run_one ρ vs σ n n' {v} {v'} {σ₁} {σ₁'} e e' =
     let one : ◌≡◌ {A = Val × Memory} (v, σ₁) (v', σ₁') = ends-one ρ vs σ (v, σ₁) (v', σ₁') (n, e) (n', e') in
     (ap (λ (x : Val × Memory). x.0) one, ap (λ (x : Val × Memory). x.1) one)

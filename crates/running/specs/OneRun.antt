@@ -10,7 +10,8 @@ use base.Logic.{SProp, ent, sep, ex, guard, via, comm∗, assoc∗, assoc', mono
 use prog.Memory.{Memory}
 use prog.Machine.{done as ended}
 use prog.Model.{Model}
-use prog.Routine.{Routine, anyName}
+use prog.How.{Solo}
+use prog.Routine.{Routine, any_callee, step}
 use types.Logic.{Logic, sem}
 use types.Kit.{‵, raw, ◌⊛◌, some, later, ◌$◌, ◌∵◌, !, qed, move, use3, split, pick, await, updating, check, show, now as at_once, done}
 use contract.Monad.{fact}
@@ -54,7 +55,7 @@ module _ {M : Type 1} {𝓤 : Ura M} (𝓛 : Logic 𝓤) (𝓜 : Model 𝓤 𝓛
 
     abbrev pub Leaves : (T.Denot → L.Last → Type 0) → L.Ids → Val → SProp 𝓤
     Leaves Φ ids v =
-        H.⇛ (ex 𝓤 (λ (r : T.Denot). (L.tokens ids ∗ sem 𝓛 (T.own r (v ∷ [])))
+        H.⇛ (ex 𝓤 (λ (r : T.Denot). (L.tokens ids ∗ sem 𝓛 (T.own_val r (v ∷ [])))
         ∗ ex 𝓤 (λ (ws : L.Last). L.left ids ws ∗ fact 𝓤 (Φ r ws))))
 
     abbrev Handed : L.Ids → SProp 𝓤
@@ -72,14 +73,14 @@ module _ {M : Type 1} {𝓤 : Ura M} (𝓛 : Logic 𝓤) (𝓜 : Model 𝓤 𝓛
         (takes_back : (ids : L.Ids) (ws : L.Last) → ent 𝓤 (L.tokens ids ∗ (L.left ids ws ∗ L.aside ids)) (H.⇛ (L.after ws))) where
       takes : (Φ : T.Denot → L.Last → Type 0) (ids : L.Ids) (v : Val) → ent 𝓤 (Leaves Φ ids v ∗ L.aside ids) (H.⇛ (ex 𝓤 (Taken Φ v)))
       takes Φ ids v =
-          qed 𝓛 (later (some (λ (r : T.Denot). (raw (L.tokens ids) ⊛ ‵ (T.own r (v ∷ []))) ⊛ some (λ (ws : L.Last). raw (L.left ids ws) ⊛ raw (fact 𝓤 (Φ r ws))))) ∷ raw (L.aside ids) ∷ []) ∵ updating ! $
+          qed 𝓛 (later (some (λ (r : T.Denot). (raw (L.tokens ids) ⊛ ‵ (T.own_val r (v ∷ []))) ⊛ some (λ (ws : L.Last). raw (L.left ids ws) ⊛ raw (fact 𝓤 (Φ r ws))))) ∷ raw (L.aside ids) ∷ []) ∵ updating ! $
           await ! tt $ pick ! (λ r. split ! $ move ! (1 ∷ []) $ pick ! (λ ws. split ! $ move ! (1 ∷ []) $ heard ! (Φ r ws) (λ φ.
           -- [what is left; the tokens and the value; aside]
           move ! (1 ∷ []) $ split ! $ move ! (1 ∷ []) $ facts ! T (Is T) (shows 𝓛 T) r (v ∷ []) (λ is.
           use3 𝓛 (later (raw (L.after ws))) (takes_back ids ws) $ await ! tt $ at_once ! $ show ! (Taken Φ v) (r, ws) $ check ! (is, φ) $ done !))))
 
-      -- a routine ρ that meets the contract c, at the machine values vs
-      module _ (𝓡 : Running 𝓤 H 𝓜) (ρ : Routine) (c : Contract 𝓤) (met : Triple 𝓤 (𝓡.run ρ) c) (x : L.Ids → c.Ghost)
+      -- a routine ρ that meets the contract c, at the machine values vs; no status is allowed, and there is no other thread
+      module _ (𝓡 : Running 𝓤 H 𝓜) (returns : ((s : ℕ) → 𝓡.allowed s → ⊥) × Solo 𝓤 𝓡.how) (ρ : Routine) (c : Contract 𝓤) (met : Triple 𝓤 (𝓡.run ρ) c) (x : L.Ids → c.Ghost)
           (vs : List Val) (args : (ids : L.Ids) → c.args (x ids) ≡ vs)
           (enters : (ids : L.Ids) → ent 𝓤 (Enters ids) (c.pre (x ids)))
           (Φ : T.Denot → L.Last → Type 0)
@@ -89,7 +90,7 @@ module _ {M : Type 1} {𝓤 : Ura M} (𝓛 : Logic 𝓤) (𝓜 : Model 𝓤 𝓛
 
         abbrev pub Stops : Memory → SProp 𝓤 → Type 1
         Stops σ F =
-            (n : ℕ) × (v : Val) × (t : T.Denot × L.Last) × (σ' : Memory) × (ρ.step n vs σ ≡ ended (v, σ')) × Known Φ v t
+            (n : ℕ) × (v : Val) × (t : T.Denot × L.Last) × (σ' : Memory) × (step ρ n vs σ ≡ ended (v, σ')) × Known Φ v t
             × (σ' ⊨ L.after t.1 ∗ F)
 
         pub stops : (σ : Memory) (F : SProp 𝓤) → σ ⊨ L.before ∗ F → ∥ Stops σ F ∥₁
@@ -97,7 +98,7 @@ module _ {M : Type 1} {𝓤 : Ura M} (𝓛 : Logic 𝓤) (𝓜 : Model 𝓤 𝓛
             ∥∥₁_elim (sat_ex∗ 𝓤 H 𝓜 σ Handed F (sat_⇛ 𝓤 H 𝓜 σ (ex 𝓤 Handed) F (sat_weaken 𝓤 H 𝓜 σ (mono_l 𝓤 F hands_out) s))) ∥∥₁_prop (λ i.
             let ids : L.Ids = i.0 in
             let Aside : SProp 𝓤 = L.aside ids in
-            ∥∥₁_elim (adequate 𝓤 H 𝓜 𝓣 anyName c met (x ids) σ (Aside ∗ F)
+            ∥∥₁_elim (adequate 𝓤 H 𝓜 𝓣 returns any_callee c met (x ids) σ (Aside ∗ F)
             (sat_weaken 𝓤 H 𝓜 σ (via 𝓤 ((Enters ids ∗ Aside) ∗ F) (mono_l 𝓤 F (comm∗ 𝓤 Aside (Enters ids)))
             (via 𝓤 (Enters ids ∗ (Aside ∗ F)) (assoc∗ 𝓤 (Enters ids) Aside F) (mono_l 𝓤 (Aside ∗ F) (enters ids)))) i.1)) ∥∥₁_prop (λ k.
             let v : Val = k.1 in
@@ -110,7 +111,7 @@ module _ {M : Type 1} {𝓤 : Ura M} (𝓛 : Logic 𝓤) (𝓜 : Model 𝓤 𝓛
               v,
               t.0,
               σ',
-              subst (λ (us : List Val). ρ.step k.0 us σ ≡ ended (v, σ')) (args ids) k.3,
+              subst (λ (us : List Val). step ρ k.0 us σ ≡ ended (v, σ')) (args ids) k.3,
               g.0,
               g.1,
             )))))

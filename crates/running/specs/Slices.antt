@@ -6,21 +6,22 @@
 -- For every model and every `Logic`.
 use Rattle.std.specs.Prelude.{◌≡◌, refl, ℕ, suc, ◌+◌, List, [], ◌∷◌, length}
 use seplogic.Ra.Ura.{Ura}
-use seplogic.Ra.TreeShare.{full_share}
+use base.Fraction.{full_share}
 use mir.Syntax.{named, w8, ty_int}
 use mir.Val.{Val, vint}
 use base.Logic.{SProp, ent, sep, ex, guard, emp, id⊢}
-use base.Fml.{GName, Share, Fml, ftrue, fsep, feq, fat, flft, flent}
+use base.Fml.{GName, Share, Incl-refl, Fml, ftrue, fsep, feq, fat, flft, fbor, flent}
 use prog.Wp.{run}
 use prog.Model.{AllFit}
 use types.Logic.{Logic, sem}
-use types.Kit.{‵, raw, ◌⊛◌, some, given, later, ◌$◌, ◌∵◌, !, qed, by, move, keep, use1, use3, split, join, pick, learn, drop, fsplit, fjoin, feq_l, feq_i, frame, await, updating, check, show, now as at_once, done}
+use types.Kit.{‵, raw, ◌⊛◌, some, given, later, ◌$◌, ◌∵◌, !, qed, by, move, keep, use1, use2, use3, split, join, pick, learn, drop, fsplit, fjoin, feq_l, feq_i, frame, await, updating, check, show, now as at_once, done}
 use types.Tokens.{lft_new, lft_end, lent_back}
 use types.Run.{well_typed}
 use types.SemTy.{cells, Arr}
 use types.Share.{parts, arr_parts}
 use denote.Memory.{part_at, mem, shares}
 use Rattle.std.specs.Borrow.{u8, Bor, MutBor}
+use denote.Copied.{uint_Copied}
 use denote.Plain.{uint_in, uint_out}
 use denote.Slice.{slice_val, MutSlice, ShrSlice, Room, finally}
 use denote.Lend.{Held, lends_slice, slice_back, lends_shr_slice}
@@ -38,15 +39,23 @@ pub record Slice : Type 0 where
   pub o : ℕ
 
 -- ---- one slice
-abbrev pub ref_of : Slice → GName → MutBor (List ℕ)
-ref_of B γ = record { ref_ptr = (B.b, B.o); ghost_name = γ; now = B.bytes }
+abbrev pub RefAs : Kind → Type 0
+RefAs shr = Bor (List ℕ)
+RefAs mut = MutBor (List ℕ)
+
+abbrev pub ref_as : (k : Kind) → Slice → GName → RefAs k
+ref_as shr B γ = record { ref_ptr = (B.b, B.o); now = B.bytes }
+ref_as mut B γ = record { ref_ptr = (B.b, B.o); ghost_name = γ; now = B.bytes }
+
+abbrev pub ref_of : (B : Slice) → GName → RefAs B.kind
+ref_of B γ = ref_as B.kind B γ
 
 abbrev pub val_of : Slice → Val
 val_of B = slice_val (B.b, B.o) (length B.bytes)
 
 abbrev pub own_as : Kind → ℕ → ℕ → GName → Slice → Fml
-own_as shr i α γ B = (ShrSlice (named i) (α ∷ []) u8).own_val (ref_of B γ) (val_of B ∷ [])
-own_as mut i α γ B = (MutSlice (named i) (α ∷ []) u8).own_val (ref_of B γ) (val_of B ∷ [])
+own_as shr i α γ B = (ShrSlice (named i) (α ∷ []) u8).own_val (ref_as shr B γ) (val_of B ∷ [])
+own_as mut i α γ B = (MutSlice (named i) (α ∷ []) u8).own_val (ref_as mut B γ) (val_of B ∷ [])
 
 abbrev pub aside_as : Kind → ℕ → GName → Slice → Fml
 aside_as shr α γ B = flent (α ∷ []) ((arr_parts (shares u8) (length B.bytes)).part full_share B.bytes B.b B.o)
@@ -56,9 +65,10 @@ abbrev pub LastAs : Kind → Type 0
 LastAs shr = Unit {0}
 LastAs mut = List ℕ
 
-abbrev pub left_as : (k : Kind) → GName → Slice → LastAs k → Fml
-left_as shr γ B w = ftrue
-left_as mut γ B w = fsep (finally u8 γ w) (feq ℕ (length w) (length B.bytes))
+-- what is left of a reference at exit: of a `&mut` its last value, with as many bytes, and its borrow, closed
+abbrev pub left_as : (k : Kind) → ℕ → GName → Slice → LastAs k → Fml
+left_as shr α γ B w = ftrue
+left_as mut α γ B w = fsep (fsep (finally u8 γ w) (feq ℕ (length w) (length B.bytes))) (fbor (α ∷ []) (Held u8 (length B.bytes) B.b B.o γ))
 
 abbrev pub now_as : (k : Kind) → List ℕ → LastAs k → List ℕ
 now_as shr ys w = ys
@@ -68,7 +78,7 @@ abbrev pub after : (B : Slice) → LastAs B.kind → Slice
 after B w = record { kind = B.kind; bytes = now_as B.kind B.bytes w; b = B.b; o = B.o }
 
 -- ---- a list of them
--- what the logic names each slice by: its lifetime and its ghost name
+-- what the logic names each slice by: its lifetime, and the ghost name of a `&mut`
 abbrev pub Ids : List Slice → Type 0
 Ids [] = Unit {0}
 Ids (B ∷ L) = (ℕ × GName) × Ids L
@@ -105,7 +115,7 @@ shares_of (B ∷ L) = (full_share, shares_of L)
 
 abbrev pub References : List Slice → Type 0
 References [] = Unit {0}
-References (B ∷ L) = Bor (List ℕ) × References L
+References (B ∷ L) = RefAs B.kind × References L
 
 abbrev pub references_of : (L : List Slice) → Ids L → References L
 references_of [] ids = tt
@@ -142,7 +152,7 @@ asides_of (B ∷ L) ids = fsep (aside_as B.kind ids.0.0 ids.0.1 B) (asides_of L 
 
 abbrev pub lefts_of : (L : List Slice) → Ids L → LastValues L → Fml
 lefts_of [] ids ws = ftrue
-lefts_of (B ∷ L) ids ws = fsep (left_as B.kind ids.0.1 B ws.0) (lefts_of L ids.1 ws.1)
+lefts_of (B ∷ L) ids ws = fsep (left_as B.kind ids.0.0 ids.0.1 B ws.0) (lefts_of L ids.1 ws.1)
 
 module _ {M : Type 1} {𝓤 : Ura M} (𝓛 : Logic 𝓤) where
   open 𝓛 use {H, A}
@@ -206,20 +216,21 @@ module _ {M : Type 1} {𝓤 : Ura M} (𝓛 : Logic 𝓤) where
       → ent 𝓤 (run 𝓤 H full_share w8 b o ys) (H.⇛ (ex 𝓤 (Handed i (record { kind = k; bytes = ys; b = b; o = o }))))
   lend shr i ys b o rm = qed 𝓛 (raw (run 𝓤 H full_share w8 b o ys) ∷ []) ∵ updating ! $ use1 𝓛 (‵ (parts (mem u8) (shares u8) full_share ys b o)) (parts_in ys b o) $
       feq_i ! ℕ (length ys) (length ys) refl $ fjoin ! $ lft_new ! tt (λ α. move ! (1 ∷ []) $
-      use1 𝓛 (later (some (λ (γ : GName). ‵ ((ShrSlice (named i) (α ∷ []) u8).own_val (record { ref_ptr = (b, o); ghost_name = γ; now = ys }) (slice_val (b, o) (length ys) ∷ [])) ⊛ ‵ (flent (α ∷ []) ((arr_parts (shares u8) (length ys)).part full_share ys b o)))))
-      (lends_shr_slice 𝓛 u8 (named i) (α ∷ []) full_share ys b o rm) $ await ! tt $ pick ! (λ γ. split ! $ at_once ! $ show ! (Handed i (record { kind = shr; bytes = ys; b = b; o = o })) (α, γ) $ move ! (2 ∷ 0 ∷ 1 ∷ []) $ done !))
+      use2 𝓛 (later ((‵ ((ShrSlice (named i) (α ∷ []) u8).own_val (record { ref_ptr = (b, o); now = ys }) (slice_val (b, o) (length ys) ∷ [])) ⊛ ‵ (flent (α ∷ []) ((arr_parts (shares u8) (length ys)).part full_share ys b o))) ⊛ ‵ (flft (α ∷ []) full_share)))
+      (lends_shr_slice 𝓛 u8 (named i) (α ∷ []) full_share ys b o rm (α ∷ []) ((uint_Copied 𝓛 w8).shares full_share (α ∷ [])) ((α ∷ [], full_share) ∷ []) (Incl-refl (α ∷ [])) (Incl-refl (α ∷ []))) $
+      await ! tt $ split ! $ split ! $ at_once ! $ show ! (Handed i (record { kind = shr; bytes = ys; b = b; o = o })) (α, 0) $ move ! (2 ∷ 0 ∷ 1 ∷ []) $ done !)
   lend mut i ys b o rm = qed 𝓛 (raw (run 𝓤 H full_share w8 b o ys) ∷ []) ∵ updating ! $ use1 𝓛 (‵ (cells (mem u8) ys b o)) (cells_in ys b o) $
       lft_new ! tt (λ α. move ! (1 ∷ []) $
       use1 𝓛 (later (some (λ (γ : GName). ‵ ((MutSlice (named i) (α ∷ []) u8).own_val (record { ref_ptr = (b, o); ghost_name = γ; now = ys }) (slice_val (b, o) (length ys) ∷ [])) ⊛ ‵ (flent (α ∷ []) (Held u8 (length ys) b o γ)))))
       (lends_slice 𝓛 u8 (named i) (α ∷ []) ys b o rm) $ await ! tt $ pick ! (λ γ. split ! $ at_once ! $ show ! (Handed i (record { kind = mut; bytes = ys; b = b; o = o })) (α, γ) $ move ! (2 ∷ 0 ∷ 1 ∷ []) $ done !))
 
   back : (k : Kind) (α : ℕ) (γ : GName) (ys : List ℕ) (b o : ℕ) (w : LastAs k)
-      → ent 𝓤 (A.lft (α ∷ []) full_share ∗ (⟦ left_as k γ (record { kind = k; bytes = ys; b = b; o = o }) w ⟧ ∗ ⟦ aside_as k α γ (record { kind = k; bytes = ys; b = b; o = o }) ⟧))
+      → ent 𝓤 (A.lft (α ∷ []) full_share ∗ (⟦ left_as k α γ (record { kind = k; bytes = ys; b = b; o = o }) w ⟧ ∗ ⟦ aside_as k α γ (record { kind = k; bytes = ys; b = b; o = o }) ⟧))
       (H.⇛ (guard 𝓤 (length (now_as k ys w) ≡ length ys) (run 𝓤 H full_share w8 b o (now_as k ys w))))
   back shr α γ ys b o w = qed 𝓛 (‵ (flft (α ∷ []) full_share) ∷ ‵ ftrue ∷ ‵ (flent (α ∷ []) ((arr_parts (shares u8) (length ys)).part full_share ys b o)) ∷ []) ∵ updating ! $
       lft_end ! tt $ move ! (0 ∷ 2 ∷ []) $ lent_back ! tt $ fsplit ! $ drop ! $ at_once ! $ check ! refl $ keep ! (0 ∷ []) $ by ! (parts_out ys b o)
-  back mut α γ ys b o w = qed 𝓛 (‵ (flft (α ∷ []) full_share) ∷ ‵ (fsep (finally u8 γ w) (feq ℕ (length w) (length ys))) ∷ ‵ (flent (α ∷ []) (Held u8 (length ys) b o γ)) ∷ []) ∵ updating ! $
-      lft_end ! tt $ move ! (1 ∷ []) $ fsplit ! $ move ! (1 ∷ []) $ feq_l ! (λ e. move ! (1 ∷ 2 ∷ 0 ∷ []) $
+  back mut α γ ys b o w = qed 𝓛 (‵ (flft (α ∷ []) full_share) ∷ ‵ (fsep (fsep (finally u8 γ w) (feq ℕ (length w) (length ys))) (fbor (α ∷ []) (Held u8 (length ys) b o γ))) ∷ ‵ (flent (α ∷ []) (Held u8 (length ys) b o γ)) ∷ []) ∵ updating ! $
+      lft_end ! tt $ move ! (1 ∷ []) $ fsplit ! $ move ! (1 ∷ []) $ drop ! $ fsplit ! $ move ! (1 ∷ []) $ feq_l ! (λ e. move ! (1 ∷ 2 ∷ 0 ∷ []) $
       use3 𝓛 (later (‵ ((Arr (mem u8) (length ys)).own_at w b o))) (slice_back 𝓛 u8 (α ∷ []) γ w (length ys) b o) $ await ! tt $ at_once ! $ fsplit ! $ drop ! $ check ! e $ by ! (cells_out w b o))
 
   -- ---- a list of slices

@@ -1,21 +1,19 @@
 -- What a host does between two calls: it stores by the machine's own store, bytes one by one. A memory that holds a buffer
 -- holds, after that, the new bytes at the buffer's front, the buffer's old bytes behind them, and all else as it was.
-use Rattle.std.specs.Prelude.{◌≡◌, ℕ, ◌+◌, ◌≤◌, List, [], ◌∷◌, ◌++◌, length, take, drop, T}
-use Rattle.std.proofs.Common.{sym, subst, ◌∙◌, arith, length-take, take-append-drop}
+use Rattle.std.specs.Prelude.{◌≡◌, ℕ, ◌+◌, List, [], ◌∷◌, T}
 use Rattle.std.proofs.Math.Logic.{∥∥₁_prop, ∥∥₁_elim, ∥∥₁_map}
 use Rattle.std.proofs.Math.Option.{some as just}
 use seplogic.Ra.Ura.{Ura}
-use seplogic.Ra.TreeShare.{full_share}
+use base.Fraction.{full_share}
 use seplogic.Bi.Sat
 use mir.Syntax.{w8, Ty, ty_int}
-use mir.Val.{Val, vint, has_ty, WT, Fits}
-use base.Logic.{Sat_exists, SProp, ent, sep, ex, guard, upd, via, comm∗, assoc∗, assoc', mono_l, ex_i, ex∗, guard_i, upd_mono, upd_frame}
+use mir.Val.{Val, vint, has_ty, WT}
+use base.Logic.{Sat_exists, SProp, ent, sep, ex, guard, upd, via, assoc∗, assoc', mono_l, ex_i, ex∗, guard_i, upd_mono, upd_frame}
 use prog.Memory.{Memory, store_m}
 use prog.Wp.{run}
-use prog.Model.{Model, AllFit}
+use prog.Model.{Model}
 use types.Logic.{Logic}
-use contract.Adequate.{Satisfies, sat_weaken}
-use Rattle.running.specs.Memories.{cut_at}
+use contract.Adequate.{Satisfies}
 
 -- from σ to σ': the bytes are stored from the offset o on in block b
 pub data Stores (b : ℕ) : (o : ℕ) (bytes : List ℕ) (σ σ' : Memory) → Type 0 where
@@ -67,35 +65,3 @@ module _ {M : Type 1} {𝓤 : Ura M} (𝓛 : Logic 𝓤) (𝓜 : Model 𝓤 𝓛
     sat_store t s =
         ∥∥₁_elim (Sat_exists 𝓤 (λ (σ₁ : Memory). guard 𝓤 (Stored σ₁) (After σ₁)) (Sat.mono 𝓤.op (stored t) s)) ∥∥₁_prop (λ m.
         ∥∥₁_map (Sat_exists 𝓤 (λ (_ : Stored m.0). After m.0) m.1) (λ u. (m.0, u.0, Sat.bupd 𝓤 (𝓜.mem m.0 ∗ (H.at full_share τ b o v ∗ F)) u.1)))
-
-  -- a byte is stored over another
-  one : (σ : Memory) (b o x : ℕ) (F : SProp 𝓤) (y : ℕ) → Fits w8 x → σ ⊨ Byte b o y ∗ F → ∥ ((σ₁ : Memory) × (store_m σ (ty_int w8) b o (vint w8 x) ≡ just σ₁) × (σ₁ ⊨ Byte b o x ∗ F)) ∥₁
-  one σ b o x F y f s = sat_store σ (ty_int w8) b o (vint w8 x) F (tt, f) (sat_weaken 𝓤 H 𝓜 σ (mono_l 𝓤 F (𝓜.at_room (ty_int w8) b o (vint w8 y))) s)
-
-  swap : (P Q R : SProp 𝓤) → ent 𝓤 ((P ∗ Q) ∗ R) (Q ∗ (P ∗ R))
-  swap P Q R = via 𝓤 ((Q ∗ P) ∗ R) (mono_l 𝓤 R (comm∗ 𝓤 P Q)) (assoc∗ 𝓤 Q P R)
-
-  -- as many bytes as there are
-  over : (ys xs : List ℕ) (σ : Memory) (b o : ℕ) (F : SProp 𝓤) → length xs ≡ length ys → AllFit w8 xs → σ ⊨ Run b o ys ∗ F
-      → ∥ ((σ' : Memory) × Stores b o xs σ σ' × (σ' ⊨ Run b o xs ∗ F)) ∥₁
-  over [] [] σ b o F e f s = ∣ (σ, none, s) ∣₁
-  over [] (x ∷ xs) σ b o F e f s = absurd (omega (arith, e))
-  over (y ∷ ys) [] σ b o F e f s = absurd (omega (arith, e))
-  over (y ∷ ys) (x ∷ xs) σ b o F e f s =
-      ∥∥₁_elim (one σ b o x (Run b (o + 1) ys ∗ F) y f.0 (sat_weaken 𝓤 H 𝓜 σ (assoc∗ 𝓤 (Byte b o y) (Run b (o + 1) ys) F) s)) ∥∥₁_prop (λ t.
-      ∥∥₁_map (over ys xs t.0 b (o + 1) (Byte b o x ∗ F) (omega (arith, e)) f.1
-      (sat_weaken 𝓤 H 𝓜 t.0 (via 𝓤 ((Byte b o x ∗ Run b (o + 1) ys) ∗ F) (assoc' 𝓤 (Byte b o x) (Run b (o + 1) ys) F) (swap (Byte b o x) (Run b (o + 1) ys) F)) t.2)) (λ u. (
-        u.0,
-        store t.1 u.1,
-        sat_weaken 𝓤 H 𝓜 u.0 (via 𝓤 ((Run b (o + 1) xs ∗ Byte b o x) ∗ F) (assoc' 𝓤 (Run b (o + 1) xs) (Byte b o x) F) (mono_l 𝓤 F (comm∗ 𝓤 (Run b (o + 1) xs) (Byte b o x)))) u.2,
-      )))
-
-  -- at the front of a buffer that has room for them
-  pub sat_stores : (xs d : List ℕ) (σ : Memory) (b o : ℕ) (F : SProp 𝓤) → length xs ≤ length d → AllFit w8 xs → σ ⊨ Run b o d ∗ F
-      → ∥ ((σ' : Memory) × Stores b o xs σ σ' × (σ' ⊨ Run b o xs ∗ (Run b (o + length xs) (drop (length xs) d) ∗ F))) ∥₁
-  sat_stores xs d σ b o F l f s =
-      let n : ℕ = length xs in
-      let e : length (take n d) ≡ n = length-take n d ∙ omega (arith, l) in
-      let s₁ : σ ⊨ Run b o (take n d ++ drop n d) ∗ F = subst (λ (c : List ℕ). σ ⊨ Run b o c ∗ F) (sym (take-append-drop n d)) s in
-      over (take n d) xs σ b o (Run b (o + n) (drop n d) ∗ F) (sym e) f
-      (sat_weaken 𝓤 H 𝓜 σ (via 𝓤 ((Run b o (take n d) ∗ Run b (o + n) (drop n d)) ∗ F) (mono_l 𝓤 F (cut_at 𝓛 𝓜 (take n d) (drop n d) b o (o + n) (omega (arith, e)))) (assoc∗ 𝓤 (Run b o (take n d)) (Run b (o + n) (drop n d)) F)) s₁)

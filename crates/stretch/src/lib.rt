@@ -1,6 +1,6 @@
 // The busiest stretch of a test run, document 02's W9: of w consecutive records the largest sum of reissues, and where it begins.
 // Promises: the answer is that of the plain maximum over all stretches (specs/Busiest), for every list of records and every w.
-// Rests on nothing but the kit. The walk over the list is proved by hand; what it calls at each record is in walk.rt.
+// Rests on nothing but the kit. The walk over the list is here; what it calls at each record is in walk.rt.
 #![tactic(auto)]
 
 pub mod walk;

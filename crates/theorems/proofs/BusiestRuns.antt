@@ -14,23 +14,26 @@ use base.Logic.{id⊢}
 use prog.Memory as machine
 use prog.Memory.{size, load_m, store_m, alloc_m}
 use prog.Machine.{done as ended}
+use prog.Routine.{step}
 use prog.Model.{AllFit}
 use prog.AdequacyRun.{start_mem}
 use ghost.Model as closed
 use contract.BorrowModel.{logic₀}
+use contract.Closed.{model⁺}
 use denote.Builtin.{u8}
 use denote.Slice.{slice_val}
 use denote.Steps.{only}
 use denote.Struct.Laws as laws
 use denote.Triple.Spec.{triple_of}
+use Rattle.theorems.proofs.World.{environment, busiest_wired}
 use Rattle.running.specs.Memories.{Loads}
-use Rattle.running.specs.Machine.{A₀, 𝓡₀, asks_nothing}
+use Rattle.running.specs.Machine.{𝓡₀, 𝓡_in, asks_nothing}
 use Rattle.running.specs.Rows.{StoresRow, LoadsRow}
 use Rattle.running.specs.Loans.{AllAre}
 use Rattle.running.specs.Lent.{Param, value, lent, number, list, Fits, LastValues, lifetimes_of, shares_of, values_of, passed_of, Enters}
 use Rattle.running.specs.Hosts.{Hosts, Call, Done, hosts, runs, every_run}
 use Rattle.stretch.specs.Busiest.{busiest_of, Gives, Leaves}
-use Rattle.stretch.specs.Theorems.{gives_leaves}
+use Rattle.stretch.proofs.Theorems.{gives_leaves}
 use Rattle.stretch.specs.declared.Record.{Record}
 use Rattle.stretch.specs.contracts.Record as R
 use Rattle.stretch.proofs.Record.TheLaws as R'
@@ -90,7 +93,7 @@ passed w rs = slice_val (2, 0) (length rs) ∷ vint w64 w ∷ vptr 3 0 ∷ vptr 
 
 -- a run that ended with the value v and the memory `last`
 abbrev pub BusiestRuns : ℕ → List Record → machine.Memory → Val → machine.Memory → Type 0
-BusiestRuns w rs σ v last = (fuel : ℕ) × ((busiest-symbol.routine).step fuel (passed w rs) σ ≡ ended (v, last))
+BusiestRuns w rs σ v last = (fuel : ℕ) × (step (environment busiest-symbol.name) fuel (passed w rs) σ ≡ ended (v, last))
 
 pub record BusiestDone (rs : List Record) (w s p : ℕ) (o : List ℕ) (v : Val) (last : machine.Memory) : Type 0 where
   pub r : ℕ
@@ -105,24 +108,24 @@ pub record BusiestDone (rs : List Record) (w s p : ℕ) (o : List ℕ) (v : Val)
 
 -- ---- the call: its parameters are the records, w, the sum and the place
 abbrev params : List Record → (w s p : ℕ) → List Param
-params rs w s p = lent (list R.the_type R'.the_laws R'.the_plain rs) ∷ value w64 w ∷ lent (number w32 s) ∷ lent (number w64 p) ∷ []
+params rs w s p = lent (list R.the_type R'.the_laws R'.the_plain R'.the_copy rs) ∷ value w64 w ∷ lent (number w32 s) ∷ lent (number w64 p) ∷ []
 
 abbrev Says : (rs : List Record) (w s p : ℕ) → ℕ → LastValues (params rs w s p) → Type 0
 Says rs w s p r ws = Gives (busiest_of rs w) s p ws.1.1.0 ws.1.1.1.0 r
 
-call : (rs : List Record) (w s p : ℕ) → Call busiest-symbol.routine (passed w rs) (params rs w s p) u8 (Says rs w s p)
+call : (rs : List Record) (w s p : ℕ) → Call (environment busiest-symbol.name) (passed w rs) (params rs w s p) u8 (Says rs w s p)
 call rs w s p =
     let L : List Param = params rs w s p in
     record {
-      contract = triple_of closed.𝓤 closed.H A₀ busiest.signature (busiest.spec closed.𝓤 closed.H A₀ (closed.model).mem 𝓡₀.run);
-      met = busiest-met.met closed.𝓤 logic₀ closed.model 𝓡₀;
+      contract = triple_of logic₀ busiest.signature (busiest.spec logic₀ model⁺.mem 𝓡₀.returns);
+      met = busiest-met.met closed.𝓤 logic₀ model⁺ (𝓡_in environment) busiest_wired;
       bound = λ i. ((lifetimes_of L i, shares_of L, tt, values_of 0 L i, passed_of 0 L i), tt);
       passes = λ i. refl;
       enters = λ i. asks_nothing (Enters L u8 i);
       leaves = λ i v. id⊢ closed.𝓤 _;
     }
 
-all_are : (rs : List Record) → RecordsFit rs → AllAre R.the_type R'.the_laws R'.the_plain rs
+all_are : (rs : List Record) → RecordsFit rs → AllAre R.the_type R'.the_laws R'.the_plain R'.the_copy rs
 all_are [] f = tt
 all_are (r ∷ rs) f = (laws.owes R.the_type R'.the_laws r ((refl, f.0.0), ((refl, f.0.1.0), ((refl, f.0.1.1), tt))), all_are rs f.1)
 

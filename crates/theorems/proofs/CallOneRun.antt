@@ -7,12 +7,12 @@ use mir.Syntax.{w8}
 use mir.Val.{Val, vint}
 use prog.Memory as machine
 use prog.Machine.{done as ended}
-use prog.Routine.{Routine}
+use prog.Routine.{Routine, step}
 use Rattle.running.specs.One.{number_one, loads_one, stores_one, run_one}
 use Rattle.mcx11.specs.Contract.{Memory, Sizes}
 use Rattle.theorems.proofs.OneCall.{Places}
 use Rattle.running.specs.Machine.{Pr, Cells, ◌∗◌, ◌⊨◌}
-use Rattle.running.specs.Buffer.{Buffer}
+use Rattle.running.proofs.Buffer.{Buffer}
 use Rattle.theorems.proofs.Runs.{lengths_of, arguments, blocks_of, Lies, CallRuns, Called}
 
 lies_one : {q : Places} {s : Sizes} {σ : machine.Memory} {m k : Memory} → Lies q s σ m → Lies q s σ k → m ≡ k
@@ -29,7 +29,7 @@ pub call_one : {ρ : Routine} {q : Places} {s : Sizes} {f : List ℕ} {σ σ' σ
     → CallRuns ρ q s f σ σ' m' r → CallRuns ρ q s f σ σ'' m'' r' → (σ' ≡ σ'') × (m' ≡ m'') × (r ≡ r')
 call_one {ρ} {q} {s} {f} {σ} {σ'} {σ''} {m'} {m''} {r} {r'} a b =
     let vs : List Val = arguments q s (length f) in
-    let e = run_one ρ vs a.run (subst (λ (σ₀ : machine.Memory). ρ.step b.fuel vs σ₀ ≡ ended (vint w8 r', σ'')) (sym (stores_one a.stores b.stores)) b.run) in
+    let e = run_one ρ vs a.between a.fuel b.fuel a.run (subst (λ (σ₀ : machine.Memory). step ρ b.fuel vs σ₀ ≡ ended (vint w8 r', σ'')) (sym (stores_one a.stores b.stores)) b.run) in
     (e.1, lies_one a.lies (subst (λ (σ₁ : machine.Memory). Lies q s σ₁ m'') (sym e.1) b.lies), number_one w8 e.0)
 
 -- so what one run meets and holds, every run meets and holds

@@ -13,17 +13,20 @@ use base.Logic.{id⊢}
 use prog.Memory as machine
 use prog.Memory.{size, load_m, store_m, alloc_m}
 use prog.Machine.{done as ended}
+use prog.Routine.{step}
 use prog.Model.{AllFit}
 use prog.AdequacyRun.{start_mem}
 use ghost.Model as closed
 use contract.BorrowModel.{logic₀}
+use contract.Closed.{model⁺}
 use denote.Builtin.{u8}
 use denote.Slice.{slice_val}
 use denote.Steps.{only}
 use denote.Struct.Laws as laws
 use denote.Triple.Spec.{triple_of}
+use Rattle.theorems.proofs.World.{environment, free_start_wired}
 use Rattle.running.specs.Memories.{Loads}
-use Rattle.running.specs.Machine.{A₀, 𝓡₀, asks_nothing}
+use Rattle.running.specs.Machine.{𝓡₀, 𝓡_in, asks_nothing}
 use Rattle.running.specs.Rows.{StoresRow, LoadsRow}
 use Rattle.running.specs.Loans.{AllAre}
 use Rattle.running.specs.Lent.{Param, value, lent, number, list, Fits, LastValues, lifetimes_of, shares_of, values_of, passed_of, Enters}
@@ -85,7 +88,7 @@ passed p ts = slice_val (2, 0) (length ts) ∷ vint w32 p ∷ vptr 3 0 ∷ []
 
 -- a run that ended with the value v and the memory `last`
 abbrev pub FreeStartRuns : ℕ → List Cycle → machine.Memory → Val → machine.Memory → Type 0
-FreeStartRuns p ts σ v last = (fuel : ℕ) × ((free-start-symbol.routine).step fuel (passed p ts) σ ≡ ended (v, last))
+FreeStartRuns p ts σ v last = (fuel : ℕ) × (step (environment free-start-symbol.name) fuel (passed p ts) σ ≡ ended (v, last))
 
 pub record FreeStartDone (ts : List Cycle) (p s : ℕ) (o : List ℕ) (v : Val) (last : machine.Memory) : Type 0 where
   pub r : ℕ
@@ -98,24 +101,24 @@ pub record FreeStartDone (ts : List Cycle) (p s : ℕ) (o : List ℕ) (v : Val) 
 
 -- ---- the call: its parameters are the timers, the period and the start
 abbrev params : List Cycle → (p s : ℕ) → List Param
-params ts p s = lent (list C.the_type C'.the_laws C'.the_plain ts) ∷ value w32 p ∷ lent (number w32 s) ∷ []
+params ts p s = lent (list C.the_type C'.the_laws C'.the_plain C'.the_copy ts) ∷ value w32 p ∷ lent (number w32 s) ∷ []
 
 abbrev Says : (ts : List Cycle) (p s : ℕ) → ℕ → LastValues (params ts p s) → Type 0
 Says ts p s r ws = Leaves ts p s ws.1.1.0 r
 
-call : (ts : List Cycle) (p s : ℕ) → Call free-start-symbol.routine (passed p ts) (params ts p s) u8 (Says ts p s)
+call : (ts : List Cycle) (p s : ℕ) → Call (environment free-start-symbol.name) (passed p ts) (params ts p s) u8 (Says ts p s)
 call ts p s =
     let L : List Param = params ts p s in
     record {
-      contract = triple_of closed.𝓤 closed.H A₀ free-start.signature (free-start.spec closed.𝓤 closed.H A₀ (closed.model).mem 𝓡₀.run);
-      met = free-start-met.met closed.𝓤 logic₀ closed.model 𝓡₀;
+      contract = triple_of logic₀ free-start.signature (free-start.spec logic₀ model⁺.mem 𝓡₀.returns);
+      met = free-start-met.met closed.𝓤 logic₀ model⁺ (𝓡_in environment) free_start_wired;
       bound = λ i. ((lifetimes_of L i, shares_of L, tt, values_of 0 L i, passed_of 0 L i), tt);
       passes = λ i. refl;
       enters = λ i. asks_nothing (Enters L u8 i);
       leaves = λ i v. id⊢ closed.𝓤 _;
     }
 
-all_are : (ts : List Cycle) → TimersFit ts → AllAre C.the_type C'.the_laws C'.the_plain ts
+all_are : (ts : List Cycle) → TimersFit ts → AllAre C.the_type C'.the_laws C'.the_plain C'.the_copy ts
 all_are [] f = tt
 all_are (t ∷ ts) f = (laws.owes C.the_type C'.the_laws t ((refl, f.0.0), ((refl, f.0.1), tt)), all_are ts f.1)
 

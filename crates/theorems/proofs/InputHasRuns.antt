@@ -9,12 +9,14 @@ use lib.ListN.{length, take}
 use mir.Val.{Val}
 use prog.Memory as machine
 use prog.Machine.{done as ended}
+use prog.Routine.{step}
 use denote.Builtin.{u8}
 use denote.Laws.{Is}
 use denote.Slice.{Room}
 use denote.Steps.{only}
+use Rattle.theorems.proofs.World.{environment}
 use Rattle.running.specs.Machine.{Pr, Cells, ◌∗◌, ◌⊨◌}
-use Rattle.running.specs.Buffer.{Buffer, overwritten, as_long, Rest, stored, lent_again}
+use Rattle.running.proofs.Buffer.{Buffer, overwritten, as_long, Rest, stored, lent_again}
 use Rattle.ledger.specs.Theorems.Parts.{Every, nil, cons}
 use Rattle.mcx11.specs.Contract.{Memory, memory}
 use Rattle.ledger.specs.Config.{controller}
@@ -101,8 +103,8 @@ module _ (p : ProgramPlaces) (z : LentSizes) (n : ℕ) (roomy : Roomy z n) where
           between = t.0;
           stores = t.1;
           fuel = k.fuel;
-          run = subst (λ (v : Val). (feed-symbol.routine).step k.fuel (feed_arguments p z (length b) (again r)) t.0 ≡ ended (v, k.memory)) (ap only (lowered_is k.result k.value k.is))
-              (subst (λ (y : LentSizes). (feed-symbol.routine).step k.fuel (feed_arguments p y (length b) (again r)) t.0 ≡ ended (k.value, k.memory)) sized k.run);
+          run = subst (λ (v : Val). step (environment feed-symbol.name) k.fuel (feed_arguments p z (length b) (again r)) t.0 ≡ ended (v, k.memory)) (ap only (lowered_is k.result k.value k.is))
+              (subst (λ (y : LentSizes). step (environment feed-symbol.name) k.fuel (feed_arguments p y (length b) (again r)) t.0 ≡ ended (k.value, k.memory)) sized k.run);
           lies = record { sizes = e; loads = k.loads.1 };
         };
         call = feed_call b r k.result x x' asked k.says;
@@ -130,8 +132,8 @@ module _ (p : ProgramPlaces) (z : LentSizes) (n : ℕ) (roomy : Roomy z n) where
         runs = none;
         finish = record {
           fuel = k.fuel;
-          run = subst (λ (v : Val). (finish-symbol.routine).step k.fuel (finish_arguments p z (again r)) σ ≡ ended (v, k.memory)) (ap only k.is.0)
-              (subst (λ (y : LentSizes). (finish-symbol.routine).step k.fuel (finish_arguments p y (again r)) σ ≡ ended (k.value, k.memory)) sized k.run);
+          run = subst (λ (v : Val). step (environment finish-symbol.name) k.fuel (finish_arguments p z (again r)) σ ≡ ended (v, k.memory)) (ap only k.is.0)
+              (subst (λ (y : LentSizes). step (environment finish-symbol.name) k.fuel (finish_arguments p y (again r)) σ ≡ ended (k.value, k.memory)) sized k.run);
           size = k.same.1.1.1.1.1.1.0 ∙ ap (λ (y : LentSizes). y.out) sized;
           loads = k.loads.1.1.1.1.1.1.0;
         };

@@ -8,6 +8,8 @@ use mir.Fields.{get_v}
 use mir.Val.{Val, Vals, vnil, vunit, vbool, vint, vfloat, vptr, vstruct, as_int}
 use prog.Memory as machine
 use prog.Machine.{done as ended}
+use prog.Routine.{step}
+use Rattle.theorems.proofs.World.{environment}
 use Rattle.running.specs.Memories.{Loads}
 use Rattle.running.specs.One.{number_one, loads_one, stores_one, run_one}
 use Rattle.mcx11.specs.Contract.{memory}
@@ -72,7 +74,7 @@ feed_one : {p : ProgramPlaces} {z : LentSizes} {b : List ℕ} {r r' r'' : Reache
     → FeedRuns p z b r σ σ' r' x' → FeedRuns p z b r σ σ'' r'' x'' → (σ' ≡ σ'') × (r' ≡ r'') × (x' ≡ x'')
 feed_one {p} {z} {b} {r} {r'} {r''} {σ} {σ'} {σ''} {x'} {x''} k h =
     let vs : List Val = feed_arguments p z (length b) (again r) in
-    let e = run_one feed-symbol.routine vs k.run (subst (λ (σ₀ : machine.Memory). (feed-symbol.routine).step h.fuel vs σ₀ ≡ ended (lowered r'', σ'')) (sym (stores_one k.stores h.stores)) h.run) in
+    let e = run_one (environment feed-symbol.name) vs k.between k.fuel h.fuel k.run (subst (λ (σ₀ : machine.Memory). step (environment feed-symbol.name) h.fuel vs σ₀ ≡ ended (lowered r'', σ'')) (sym (stores_one k.stores h.stores)) h.run) in
     (e.1, lowered_one e.0, lent_one k.lies (subst (λ (σ₁ : machine.Memory). LiesLent p z σ₁ x'') (sym e.1) h.lies))
 
 pub inputs_one : {p : ProgramPlaces} {z : LentSizes} {bs xs ys : List (List ℕ)} {r r' r'' : Reached} {σ σ' σ'' : machine.Memory} {x x' x'' : Lent}
@@ -85,6 +87,6 @@ inputs_one {p} {z} (call {bs = bs} {σ₁ = σ₁} {r₁ = r₁} {x₁ = x₁} k
 
 pub finish_one : {p : ProgramPlaces} {z : LentSizes} {r : Reached} {σ σ' σ'' : machine.Memory} {xs ys : List ℕ} {m n : ℕ}
     → FinishRuns p z r σ σ' xs m → FinishRuns p z r σ σ'' ys n → (xs ≡ ys) × (m ≡ n)
-finish_one {p} {z} {r} {xs = xs} {ys = ys} k h =
-    let e = run_one finish-symbol.routine (finish_arguments p z (again r)) k.run h.run in
+finish_one {p} {z} {r} {σ = σ} {xs = xs} {ys = ys} k h =
+    let e = run_one (environment finish-symbol.name) (finish_arguments p z (again r)) σ k.fuel h.fuel k.run h.run in
     (loads_one _ p.out.0 p.out.1 xs ys (k.size ∙ sym h.size) k.loads (subst (λ (σ₁ : machine.Memory). Loads σ₁ p.out.0 p.out.1 ys) (sym e.1) h.loads), number_one w64 e.0)

@@ -10,7 +10,9 @@ use mir.Syntax.{w64}
 use mir.Val.{Val, vint}
 use prog.Memory as machine
 use prog.Machine.{done as ended}
+use prog.Routine.{step}
 use denote.Slice.{slice_val}
+use Rattle.theorems.proofs.World.{environment}
 use Rattle.running.specs.Memories.{Loads, LoadsAll}
 use Rattle.running.specs.Stores.{Stores}
 use Rattle.feeding.specs.declared.Reached.{Reached}
@@ -49,7 +51,7 @@ pub record FeedRuns (p : ProgramPlaces) (z : LentSizes) (b : List ℕ) (r : Reac
   pub between : machine.Memory
   pub stores : Stores p.blocks.buffer.0 p.blocks.buffer.1 b σ between
   pub fuel : ℕ
-  pub run : (feed-symbol.routine).step fuel (feed_arguments p z (length b) (again r)) between ≡ ended (lowered r', σ')
+  pub run : step (environment feed-symbol.name) fuel (feed_arguments p z (length b) (again r)) between ≡ ended (lowered r', σ')
   pub lies : LiesLent p z σ' x'
 
 pub data InputRuns (p : ProgramPlaces) (z : LentSizes) : (σ : machine.Memory) (r : Reached) (x : Lent) (blocks outputs : List (List ℕ)) (σ' : machine.Memory) (r' : Reached) (x' : Lent) → Type 0 where
@@ -60,6 +62,6 @@ pub data InputRuns (p : ProgramPlaces) (z : LentSizes) : (σ : machine.Memory) (
 -- the end of the input: so many bytes of the output are printed
 pub record FinishRuns (p : ProgramPlaces) (z : LentSizes) (r : Reached) (σ σ' : machine.Memory) (out : List ℕ) (printed : ℕ) : Type 0 where
   pub fuel : ℕ
-  pub run : (finish-symbol.routine).step fuel (finish_arguments p z (again r)) σ ≡ ended (vint w64 printed, σ')
+  pub run : step (environment finish-symbol.name) fuel (finish_arguments p z (again r)) σ ≡ ended (vint w64 printed, σ')
   pub size : length out ≡ z.out
   pub loads : Loads σ' p.out.0 p.out.1 out

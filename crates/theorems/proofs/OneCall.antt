@@ -11,11 +11,14 @@ use prog.Memory as machine
 use prog.Routine.{Routine}
 use ghost.Model as closed
 use contract.BorrowModel.{logic₀}
+use contract.Closed.{model⁺}
 use denote.Builtin.{u8}
 use denote.Triple.Spec.{triple_of}
 use denote.Triple.Statement.{Contract}
+use Rattle.theorems.proofs.World.{environment, configure_wired, frame_wired, module_configure_wired, module_frame_wired}
 use Rattle.running.specs.Slices.{shr, mut, Slice, Ids, LastValues, vals_of, lifetimes_of, shares_of, references_of, passed_of, Rooms}
-use Rattle.running.specs.Machine.{Pr, A₀, 𝓡₀, Cells, ◌∗◌, ◌⊨◌, Enters, asks_nothing, Ran, runs, bytes_at}
+use Rattle.running.specs.Machine.{Pr, 𝓡₀, 𝓡_in, Cells, ◌∗◌, ◌⊨◌, Enters, asks_nothing, Ran, bytes_at}
+use Rattle.running.proofs.Runs.{runs}
 use Rattle.ledger.specs.Config.{Limits, controller, brake_module}
 use Rattle.configuration.specs.Limits.{Made, controller_made, brake_module_made}
 use Rattle.mcx11.specs.Contract.{Memory, memory, Configures, Frames}
@@ -80,58 +83,58 @@ pub record Executive : Type 2 where
 
 -- ---- theController: its two contracts at the closed model, and their runs
 abbrev configure_contract : Contract closed.𝓤
-configure_contract = triple_of closed.𝓤 closed.H A₀ configure.signature (configure.spec closed.𝓤 closed.H A₀ (closed.model).mem 𝓡₀.run)
+configure_contract = triple_of logic₀ configure.signature (configure.spec logic₀ model⁺.mem 𝓡₀.returns)
 
 abbrev frame_contract : Contract closed.𝓤
-frame_contract = triple_of closed.𝓤 closed.H A₀ frame.signature (frame.spec closed.𝓤 closed.H A₀ (closed.model).mem 𝓡₀.run)
+frame_contract = triple_of logic₀ frame.signature (frame.spec logic₀ model⁺.mem 𝓡₀.returns)
 
 module _ (q : Places) (x : List ℕ) (m : Memory) where
   abbrev configure_bound : Ids (configure_slices q x m) → configure_contract.Ghost
   configure_bound i = let L = configure_slices q x m in ((lifetimes_of L i, shares_of L, tt, references_of L i, passed_of L), tt)
 
-  pub configure_runs : ConfigureRan q x m controller configure-symbol.routine
+  pub configure_runs : ConfigureRan q x m controller (environment configure-symbol.name)
   configure_runs =
       let L = configure_slices q x m in
-      runs configure-symbol.routine configure_contract (configure-met.met closed.𝓤 logic₀ closed.model 𝓡₀) L u8 configure_bound (vals_of L) (λ i. refl)
+      runs (environment configure-symbol.name) configure_contract (configure-met.met closed.𝓤 logic₀ model⁺ (𝓡_in environment) configure_wired) L u8 configure_bound (vals_of L) (λ i. refl)
       (λ i. asks_nothing (Enters L u8 i)) (ConfigureSays q x m controller) (λ i v. id⊢ closed.𝓤 (configure_contract.post (configure_bound i) v))
 
   abbrev frame_bound : Ids (frame_slices q x m) → frame_contract.Ghost
   frame_bound i = let L = frame_slices q x m in ((lifetimes_of L i, shares_of L, tt, references_of L i, passed_of L), tt)
 
-  pub frame_runs : FrameRan q x m controller frame-symbol.routine
+  pub frame_runs : FrameRan q x m controller (environment frame-symbol.name)
   frame_runs =
       let L = frame_slices q x m in
-      runs frame-symbol.routine frame_contract (frame_met.met closed.𝓤 logic₀ closed.model 𝓡₀) L u8 frame_bound (vals_of L) (λ i. refl)
+      runs (environment frame-symbol.name) frame_contract (frame_met.met closed.𝓤 logic₀ model⁺ (𝓡_in environment) frame_wired) L u8 frame_bound (vals_of L) (λ i. refl)
       (λ i. asks_nothing (Enters L u8 i)) (FrameSays q x m controller) (λ i v. id⊢ closed.𝓤 (frame_contract.post (frame_bound i) v))
 
 abbrev pub the_controller : Executive
-the_controller = record { limits = controller; made = controller_made; configure = configure-symbol.routine; frame = frame-symbol.routine; configures = configure_runs; frames = frame_runs }
+the_controller = record { limits = controller; made = controller_made; configure = (environment configure-symbol.name); frame = (environment frame-symbol.name); configures = configure_runs; frames = frame_runs }
 
 -- ---- theModule: its two contracts at the closed model, and their runs
 abbrev module_configure_contract : Contract closed.𝓤
-module_configure_contract = triple_of closed.𝓤 closed.H A₀ module-configure.signature (module-configure.spec closed.𝓤 closed.H A₀ (closed.model).mem 𝓡₀.run)
+module_configure_contract = triple_of logic₀ module-configure.signature (module-configure.spec logic₀ model⁺.mem 𝓡₀.returns)
 
 abbrev module_frame_contract : Contract closed.𝓤
-module_frame_contract = triple_of closed.𝓤 closed.H A₀ module-frame.signature (module-frame.spec closed.𝓤 closed.H A₀ (closed.model).mem 𝓡₀.run)
+module_frame_contract = triple_of logic₀ module-frame.signature (module-frame.spec logic₀ model⁺.mem 𝓡₀.returns)
 
 module _ (q : Places) (x : List ℕ) (m : Memory) where
   abbrev module_configure_bound : Ids (configure_slices q x m) → module_configure_contract.Ghost
   module_configure_bound i = let L = configure_slices q x m in ((lifetimes_of L i, shares_of L, tt, references_of L i, passed_of L), tt)
 
-  pub module_configure_runs : ConfigureRan q x m brake_module module-configure-symbol.routine
+  pub module_configure_runs : ConfigureRan q x m brake_module (environment module-configure-symbol.name)
   module_configure_runs =
       let L = configure_slices q x m in
-      runs module-configure-symbol.routine module_configure_contract (module-configure-met.met closed.𝓤 logic₀ closed.model 𝓡₀) L u8 module_configure_bound (vals_of L) (λ i. refl)
+      runs (environment module-configure-symbol.name) module_configure_contract (module-configure-met.met closed.𝓤 logic₀ model⁺ (𝓡_in environment) module_configure_wired) L u8 module_configure_bound (vals_of L) (λ i. refl)
       (λ i. asks_nothing (Enters L u8 i)) (ConfigureSays q x m brake_module) (λ i v. id⊢ closed.𝓤 (module_configure_contract.post (module_configure_bound i) v))
 
   abbrev module_frame_bound : Ids (frame_slices q x m) → module_frame_contract.Ghost
   module_frame_bound i = let L = frame_slices q x m in ((lifetimes_of L i, shares_of L, tt, references_of L i, passed_of L), tt)
 
-  pub module_frame_runs : FrameRan q x m brake_module module-frame-symbol.routine
+  pub module_frame_runs : FrameRan q x m brake_module (environment module-frame-symbol.name)
   module_frame_runs =
       let L = frame_slices q x m in
-      runs module-frame-symbol.routine module_frame_contract (module-frame-met.met closed.𝓤 logic₀ closed.model 𝓡₀) L u8 module_frame_bound (vals_of L) (λ i. refl)
+      runs (environment module-frame-symbol.name) module_frame_contract (module-frame-met.met closed.𝓤 logic₀ model⁺ (𝓡_in environment) module_frame_wired) L u8 module_frame_bound (vals_of L) (λ i. refl)
       (λ i. asks_nothing (Enters L u8 i)) (FrameSays q x m brake_module) (λ i v. id⊢ closed.𝓤 (module_frame_contract.post (module_frame_bound i) v))
 
 abbrev pub the_module : Executive
-the_module = record { limits = brake_module; made = brake_module_made; configure = module-configure-symbol.routine; frame = module-frame-symbol.routine; configures = module_configure_runs; frames = module_frame_runs }
+the_module = record { limits = brake_module; made = brake_module_made; configure = (environment module-configure-symbol.name); frame = (environment module-frame-symbol.name); configures = module_configure_runs; frames = module_frame_runs }

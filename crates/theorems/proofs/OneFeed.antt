@@ -12,6 +12,7 @@ use prog.Memory as machine
 use ghost.Model as closed
 use ghost.Atoms.{meaning}
 use contract.BorrowModel.{logic₀}
+use contract.Closed.{model⁺}
 use denote.Builtin.{usize}
 use denote.Exit.{left as value-left}
 use denote.Laws.{Is}
@@ -20,8 +21,10 @@ use denote.Enum.Laws as enum
 use denote.Triple.Spec.{triple_of}
 use denote.Triple.Statement.{Contract}
 use denote.Triple.End.{Fins, lasts_of}
+use Rattle.theorems.proofs.World.{environment, feed_wired, finish_wired}
 use Rattle.running.specs.Slices.{shr, mut, Slice, Ids, LastValues, vals_of, val_of, ref_of, lifetimes_of, shares_of, references_of, passed_of, Rooms, own_as, owns_of, lefts_of, toks_of}
-use Rattle.running.specs.Machine.{Pr, A₀, 𝓡₀, Cells, ◌∗◌, ◌⊨◌, Enters, Leaves, asks, leaves_by, Ran, runs, bytes_at}
+use Rattle.running.specs.Machine.{Pr, A₀, 𝓡₀, 𝓡_in, Cells, ◌∗◌, ◌⊨◌, Enters, Leaves, asks, leaves_by, Ran, bytes_at}
+use Rattle.running.proofs.Runs.{runs}
 use Rattle.mcx11.specs.Contract.{Memory, memory}
 use Rattle.ledger.specs.Config.{controller}
 use Rattle.mcx11.specs.Sizes.{Full}
@@ -60,7 +63,7 @@ pub lowered_is : (r : Reached) (v : Val) → Is reached.the_row r (v ∷ []) →
 lowered_is r v i = (reached-laws.lowers).val_is r (v ∷ []) i
 
 owns_it : (r : Reached) → Is reached.the_row r (lowered r ∷ []) → ent closed.𝓤 (emp closed.𝓤) (meaning closed.𝓤 closed.H A₀ ((reached.the_row).own_val r (lowered r ∷ [])))
-owns_it r is = struct.makes reached.the_type reached-laws.the_plain closed.𝓤 closed.H A₀ r (lowered r ∷ []) is
+owns_it r is = struct.makes reached.the_type reached-laws.the_plain logic₀ r (lowered r ∷ []) is
 
 -- ---- where all that is lent lies: the input's buffer and the five blocks, the line and the output
 pub record ProgramPlaces : Type 0 where
@@ -82,7 +85,7 @@ abbrev pub FeedGives : List ℕ → Reached → Lent → Reached → Lent → Ty
 FeedGives b r x r' x' = (r'.next ≡ length b) × (r'.held ≤ most) × (r'.printed ≤ length x.out) × Feeds (drop r.next b) r x r' x'
 
 abbrev feed_contract : Contract closed.𝓤
-feed_contract = triple_of closed.𝓤 closed.H A₀ feed.signature (feed.spec closed.𝓤 closed.H A₀ (closed.model).mem 𝓡₀.run)
+feed_contract = triple_of logic₀ feed.signature (feed.spec logic₀ model⁺.mem 𝓡₀.returns)
 
 module _ (p : ProgramPlaces) (b : List ℕ) (r : Reached) (x : Lent) where
   abbrev block : Slice
@@ -118,8 +121,8 @@ module _ (p : ProgramPlaces) (b : List ℕ) (r : Reached) (x : Lent) where
       (λ ws. mono_r closed.𝓤 (meaning closed.𝓤 closed.H A₀ ftrue) (snd∗ closed.𝓤 (meaning closed.𝓤 closed.H A₀ (value-left ((reached.the_row).exit (feed.ended).kept.1.0) r ws.1.0)) (meaning closed.𝓤 closed.H A₀ (lefts_of (lent_slices p x) i.1 ws.1.1)))) (λ r' ws h. h)
 
   pub feed_runs : Is reached.the_row r (lowered r ∷ []) → FeedAsks b r x → Rooms feed_slices → (σ : machine.Memory) (F : Pr) → σ ⊨ Cells feed_slices ∗ F
-      → ∥ Ran feed-symbol.routine feed_values feed_slices reached.the_row FeedSays σ F ∥₁
-  feed_runs is a = runs feed-symbol.routine feed_contract (feed-met.met closed.𝓤 logic₀ closed.model 𝓡₀) feed_slices reached.the_row feed_bound feed_values (λ i. refl) (feed_enters is a) FeedSays feed_leaves
+      → ∥ Ran (environment feed-symbol.name) feed_values feed_slices reached.the_row FeedSays σ F ∥₁
+  feed_runs is a = runs (environment feed-symbol.name) feed_contract (feed-met.met closed.𝓤 logic₀ model⁺ (𝓡_in environment) feed_wired) feed_slices reached.the_row feed_bound feed_values (λ i. refl) (feed_enters is a) FeedSays feed_leaves
 
 -- ---- `finish`
 abbrev pub FinishAsks : Reached → Lent → Type 0
@@ -129,7 +132,7 @@ abbrev pub FinishGives : Reached → Lent → (out' : List ℕ) → ℕ → Type
 FinishGives r x out' n = (n ≤ r.printed + 41) × Ends r x out' n
 
 abbrev finish_contract : Contract closed.𝓤
-finish_contract = triple_of closed.𝓤 closed.H A₀ finish.signature (finish.spec closed.𝓤 closed.H A₀ (closed.model).mem 𝓡₀.run)
+finish_contract = triple_of logic₀ finish.signature (finish.spec logic₀ model⁺.mem 𝓡₀.returns)
 
 module _ (p : ProgramPlaces) (r : Reached) (x : Lent) where
   abbrev pub finish_slices : List Slice
@@ -158,5 +161,5 @@ module _ (p : ProgramPlaces) (r : Reached) (x : Lent) where
       (λ ws. snd∗ closed.𝓤 (meaning closed.𝓤 closed.H A₀ (value-left ((reached.the_row).exit (finish.ended).kept.0) r ws.0)) (meaning closed.𝓤 closed.H A₀ (lefts_of finish_slices i ws.1))) (λ n ws h. h)
 
   pub finish_runs : Is reached.the_row r (lowered r ∷ []) → FinishAsks r x → Rooms finish_slices → (σ : machine.Memory) (F : Pr) → σ ⊨ Cells finish_slices ∗ F
-      → ∥ Ran finish-symbol.routine finish_values finish_slices usize FinishSays σ F ∥₁
-  finish_runs is a = runs finish-symbol.routine finish_contract (finish-met.met closed.𝓤 logic₀ closed.model 𝓡₀) finish_slices usize finish_bound finish_values (λ i. refl) (finish_enters is a) FinishSays finish_leaves
+      → ∥ Ran (environment finish-symbol.name) finish_values finish_slices usize FinishSays σ F ∥₁
+  finish_runs is a = runs (environment finish-symbol.name) finish_contract (finish-met.met closed.𝓤 logic₀ model⁺ (𝓡_in environment) finish_wired) finish_slices usize finish_bound finish_values (λ i. refl) (finish_enters is a) FinishSays finish_leaves

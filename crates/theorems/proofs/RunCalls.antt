@@ -10,7 +10,7 @@ use ghost.Model as closed
 use Rattle.running.specs.Slices.{Slice}
 use Rattle.running.specs.Memories.{LoadsAll}
 use Rattle.running.specs.Machine.{Pr, Cells, ◌∗◌, ◌⊨◌, weaken, held_loads}
-use Rattle.running.specs.Buffer.{Buffer}
+use Rattle.running.proofs.Buffer.{Buffer}
 use Rattle.ledger.specs.Config.{Config}
 use Rattle.ledger.specs.Seen.{Seen}
 use Rattle.ledger.specs.Theorems.Parts.{Every, nil, cons}

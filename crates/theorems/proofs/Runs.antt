@@ -14,7 +14,7 @@ use mir.Val.{Val, vint}
 use prog.Memory as machine
 use prog.Machine.{done as ended}
 use prog.Model.{AllFit}
-use prog.Routine.{Routine}
+use prog.Routine.{Routine, step}
 use denote.Builtin.{u8}
 use denote.Slice.{slice_val, Room}
 use denote.Steps.{only}
@@ -22,7 +22,7 @@ use Rattle.running.specs.Slices.{mut, Slice, AreBytes}
 use Rattle.running.specs.Memories.{LoadsAll}
 use Rattle.running.specs.Stores.{Stores}
 use Rattle.running.specs.Machine.{Pr, Cells, ◌∗◌, ◌⊨◌, bytes_at}
-use Rattle.running.specs.Buffer.{Buffer, overwritten, as_long, Front, Rest, stored, lent_again}
+use Rattle.running.proofs.Buffer.{Buffer, overwritten, as_long, Front, Rest, stored, lent_again}
 use Rattle.ledger.specs.Config.{Config}
 use Rattle.ledger.specs.Seen.{Seen}
 use Rattle.ledger.specs.Theorems.Parts.{Every, nil, cons}
@@ -53,7 +53,7 @@ pub record CallRuns (ρ : Routine) (q : Places) (s : Sizes) (f : List ℕ) (σ �
   pub between : machine.Memory
   pub stores : Stores q.buffer.0 q.buffer.1 f σ between
   pub fuel : ℕ
-  pub run : ρ.step fuel (arguments q s (length f)) between ≡ ended (vint w8 r, σ')
+  pub run : step ρ fuel (arguments q s (length f)) between ≡ ended (vint w8 r, σ')
   pub lies : Lies q s σ' m'
 
 module _ (e : Executive) where
@@ -99,7 +99,7 @@ record Stopped (ρ : Routine) (q : Places) (s : Sizes) (f : List ℕ) (σ : mach
   pub fuel : ℕ
   pub value : Val
   pub last : machine.Memory
-  pub run : ρ.step fuel (arguments q s (length f)) between ≡ ended (value, last)
+  pub run : step ρ fuel (arguments q s (length f)) between ≡ ended (value, last)
 
 -- what a call leaves: the blocks at m', and the buffer at bytes of the same number
 pub record Called (ρ : Routine) (q : Places) (s : Sizes) (f : List ℕ) (Φ : Memory → ℕ → Type 0) (n : ℕ) (σ : machine.Memory) (F : Pr) : Type 1 where
@@ -141,7 +141,7 @@ module _ (q : Places) (s : Sizes) (rooms : RoomsAt s) (n : ℕ) (small : n < 2 ^
           between = k.between;
           stores = k.stores;
           fuel = k.fuel;
-          run = subst (λ (u : Val). ρ.step k.fuel (arguments q s (length f)) k.between ≡ ended (u, k.last)) v k.run;
+          run = subst (λ (u : Val). step ρ k.fuel (arguments q s (length f)) k.between ≡ ended (u, k.last)) v k.run;
           lies = l;
         };
         says = x;
@@ -151,8 +151,8 @@ module _ (q : Places) (s : Sizes) (rooms : RoomsAt s) (n : ℕ) (small : n < 2 ^
       }
 
   -- the same sizes as before
-  sizes : (ρ : Routine) {σ₀ σ' : machine.Memory} {v : Val} {k : ℕ} → ρ.step k (arguments q (lengths_of m) (length f)) σ₀ ≡ ended (v, σ') → ρ.step k (arguments q s (length f)) σ₀ ≡ ended (v, σ')
-  sizes ρ {σ₀} {σ'} {v} {k} e = subst (λ (z : Sizes). ρ.step k (arguments q z (length f)) σ₀ ≡ ended (v, σ')) sized e
+  sizes : (ρ : Routine) {σ₀ σ' : machine.Memory} {v : Val} {k : ℕ} → step ρ k (arguments q (lengths_of m) (length f)) σ₀ ≡ ended (v, σ') → step ρ k (arguments q s (length f)) σ₀ ≡ ended (v, σ')
+  sizes ρ {σ₀} {σ'} {v} {k} e = subst (λ (z : Sizes). step ρ k (arguments q z (length f)) σ₀ ≡ ended (v, σ')) sized e
 
   module _ (x : Executive) where
     pub configure_called : ∥ Called x.configure q s f (λ m' r. Configures x.limits f m m' r) n σ F ∥₁

@@ -11,10 +11,11 @@ use prog.Model.{AllFit}
 use ghost.Model as closed
 use Rattle.running.specs.Slices.{shr, mut, Slice}
 use Rattle.running.specs.Memories as memories
-use Rattle.running.specs.Stores as stores
+use Rattle.running.proofs.Stored as stores
 use Rattle.running.specs.Stores.{Stores}
 use Rattle.running.specs.Machine.{Pr, Cell, Cells, ◌∗◌, ◌⊨◌, weaken, swap, bytes_at}
 use contract.BorrowModel.{logic₀}
+use contract.Closed.{model⁺}
 
 to_call : (X Y Z F : Pr) → ent closed.𝓤 (X ∗ (Y ∗ (Z ∗ F))) ((X ∗ Z) ∗ (Y ∗ F))
 to_call X Y Z F = via closed.𝓤 (X ∗ (Z ∗ (Y ∗ F))) (mono_r closed.𝓤 X (swap Y Z F)) (assoc' closed.𝓤 X Z (Y ∗ F))
@@ -43,10 +44,10 @@ module _ (p : ℕ × ℕ) (f d : List ℕ) (L : List Slice) (σ : Memory) (F : P
   pub stored : length f ≤ length d → AllFit w8 f → σ ⊨ Cells L ∗ (Buffer p d ∗ F)
       → ∥ ((σ₀ : Memory) × Stores p.0 p.1 f σ σ₀ × (σ₀ ⊨ (Front ∗ Cells L) ∗ (Rest ∗ F))) ∥₁
   stored l fits held =
-      ∥∥₁_map (stores.sat_stores logic₀ closed.model f d σ p.0 p.1 (Cells L ∗ F) l fits (weaken σ (swap (Cells L) (Buffer p d) F) held)) (λ t.
+      ∥∥₁_map (stores.sat_stores logic₀ model⁺ f d σ p.0 p.1 (Cells L ∗ F) l fits (weaken σ (swap (Cells L) (Buffer p d) F) held)) (λ t.
       (t.0, t.1, weaken t.0 (to_call Front Rest (Cells L) F) t.2))
 
   pub lent_again : σ ⊨ (Front ∗ Cells L) ∗ (Rest ∗ F) → σ ⊨ Cells L ∗ (Buffer p (overwritten f d) ∗ F)
   lent_again held =
       weaken σ (via closed.𝓤 (Cells L ∗ ((Front ∗ Rest) ∗ F)) (from_call Front Rest (Cells L) F)
-      (mono_r closed.𝓤 (Cells L) (mono_l closed.𝓤 F (memories.join logic₀ closed.model f (drop (length f) d) p.0 p.1)))) held
+      (mono_r closed.𝓤 (Cells L) (mono_l closed.𝓤 F (memories.join logic₀ model⁺ f (drop (length f) d) p.0 p.1)))) held

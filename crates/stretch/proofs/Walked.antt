@@ -10,7 +10,7 @@ use Rattle.stretch.specs.declared.walk.Walk.{Walk}
 use Rattle.stretch.specs.declared.Stretch.TheVariants.{Found, Refused}
 use Rattle.stretch.specs.Busiest.{counts, most_records, best_upto, turned_away, found, busiest_of}
 use Rattle.stretch.specs.Walk.{walk_before, start_of, slide_of, best_of, turn_of, Ready, answer_of}
-use Rattle.stretch.specs.Sums.{head, head_suc, head_more, best_to, better_same, all_parts}
+use Rattle.stretch.proofs.Sums.{head, head_suc, head_more, best_to, better_same, all_parts}
 
 -- ---- at each record
 pub record Walked (cs : List ℕ) (n w : ℕ) (s : Walk) : Type 0 where
@@ -62,6 +62,12 @@ module _ (cs : List ℕ) (n w : ℕ) (s : Walk) (h : Walked cs n w s) where
 
     pub from_in : s.from < n
     from_in = omega (arith, at_in, h.from_is)
+
+    pub at_early : s.at < most_records
+    at_early = omega (arith, more, h.upto_is, (bounds n w).1)
+
+    pub from_early : s.from < most_records
+    from_early = omega (arith, at_early, h.from_is)
 
     module _ (x y : ℕ) (x-is : x ≡ get_or cs s.at 0) (y-is : y ≡ get_or cs s.from 0) (x_Fits : x < 65536) where
       y_at : y ≡ get_or cs (s.at - s.width) 0
