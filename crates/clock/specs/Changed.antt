@@ -15,7 +15,7 @@ use Rattle.ledger.specs.Refusals.{have_timer}
 use Rattle.ledger.specs.Session.{timer_left}
 use Rattle.timers.specs.Timers.{timer, timers_in, tocks_left, started_for, stays, tocked, due_in, first_due, taken_due, StaysUpright}
 use Rattle.timers.specs.Loops.{length_timers}
-use Rattle.ledger.specs.Theorems.Keeps.{keep_map}
+use Rattle.ledger.proofs.Theorems.Keeps.{keep_map}
 use Rattle.timers.specs.Shown.{shown_length, shown_have, shown_start}
 use Rattle.timers.specs.Drained.{next_due, take_due, one_fewer, shown_next, shown_take}
 use Rattle.tables.specs.declared.shape.Shape.{Shape}

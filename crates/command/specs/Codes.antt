@@ -3,7 +3,7 @@ use Rattle.std.specs.Prelude.{ℕ, ◌+◌, ◌≤◌, ◌≡◌, refl, Bool, tr
 use Rattle.std.proofs.Common.{sym, ap, ◌∙◌, le_antisymm, arith}
 use Rattle.ledger.specs.Lists.{within}
 use Rattle.ledger.specs.Refusals as ledger
-use Rattle.ledger.specs.Theorems.Checks.{within_numbered}
+use Rattle.ledger.proofs.Theorems.Checks.{within_numbered}
 use Rattle.command.specs.declared.codes.FieldA.{FieldA}
 use Rattle.command.specs.declared.codes.FieldA.TheVariants as a
 use Rattle.command.specs.declared.codes.FieldB.{FieldB}

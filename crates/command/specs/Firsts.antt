@@ -12,7 +12,7 @@ use Rattle.ledger.specs.Config.{pair_of, pairs_in, config_in}
 use Rattle.ledger.specs.Ledger.{Task, null_task, task}
 use Rattle.ledger.specs.Refusals.{holds_back}
 use Rattle.tables.specs.declared.shape.Shape.{Shape}
-use Rattle.ledger.specs.Theorems.Checks.{within_numbered, at_none}
+use Rattle.ledger.proofs.Theorems.Checks.{within_numbered, at_none}
 use Rattle.tables.specs.Layout.{OneOf, regions}
 use Rattle.tables.specs.Shows.{tasks_in, task_at, Tells}
 use Rattle.configuration.specs.Block.{pairs_in_lem}

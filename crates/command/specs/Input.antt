@@ -9,7 +9,7 @@ use Rattle.ledger.specs.Config.{Config}
 use Rattle.ledger.specs.Services.{codes, shape}
 use Rattle.ledger.specs.Refusals as ledger
 use Rattle.ledger.specs.Refusals.{fields, code_at, call, value_x, behind_x, wrong_length, meant_task, wrong_task, wrong_semaphore, wrong_queue, is_message, is_tock_value, wrong_entry, from_input}
-use Rattle.ledger.specs.Theorems.Checks.{passes, joined_fails, joined_passes}
+use Rattle.ledger.proofs.Theorems.Checks.{passes, joined_fails, joined_passes}
 use Rattle.tables.specs.declared.shape.Shape.{Shape}
 use Rattle.tables.specs.Layout.{OneOf}
 use Rattle.tables.specs.Shows.{Of}

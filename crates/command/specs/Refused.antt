@@ -8,9 +8,9 @@ use Rattle.ledger.specs.Config.{Config}
 use Rattle.ledger.specs.Ledger.{Ledger, running}
 use Rattle.ledger.specs.Refusals as ledger
 use Rattle.ledger.specs.Refusals.{fields, code_at, meant_task, meant_semaphore, is_message, call, from_input, from_state, refusal}
-use Rattle.ledger.specs.Theorems.Checks.{Numbers, joined_fails, joined_passes}
-use Rattle.ledger.specs.Theorems.Accepted.{GoodNumber, Good}
-use Rattle.ledger.specs.Theorems.WithoutSeason.{value_word}
+use Rattle.ledger.proofs.Theorems.Checks.{Numbers, joined_fails, joined_passes}
+use Rattle.ledger.specs.Good.{GoodNumber, Good}
+use Rattle.ledger.proofs.Theorems.WithoutSeason.{value_word}
 use Rattle.tables.specs.declared.shape.Shape.{Shape}
 use Rattle.tables.specs.Layout.{OneOf}
 use Rattle.tables.specs.Shows.{Of, Shows}

@@ -6,9 +6,8 @@ use Rattle.ledger.specs.Lists.{at}
 use Rattle.ledger.specs.Config.{Config}
 use Rattle.ledger.specs.Services.{Code, WAIT, SIGNAL, PEND, SEND, SENDW, RECEIVE, DEQUEUE, ENQUEUE, RESUME, SUSPEND, TERMINATE, EXECUTE, DELAY, TIMER, PURGE, TICK, EXIT, SEASON_TIMER}
 use Rattle.ledger.specs.Refusals.{FieldX, no_x, a_message, a_tock_value, a_switch, FieldB, no_b, of_self, of_task, or_none, Follows, x_alone, x_and_entry, long_x, Waits, no_wait, on_b, task_on_b, on_not_empty, on_not_full, fields, code_at, meant_task, wrong_queue, is_message}
-use Rattle.ledger.specs.Theorems.Items.{Numbered}
-use Rattle.ledger.specs.Theorems.Checks.{never, within_numbered}
-use Rattle.ledger.specs.Theorems.Accepted.{GoodA, GoodB, GoodNumber}
+use Rattle.ledger.specs.Good.{Numbered, GoodA, GoodB, GoodNumber}
+use Rattle.ledger.proofs.Theorems.Checks.{never, within_numbered}
 use Rattle.tables.specs.declared.shape.Shape.{Shape}
 use Rattle.tables.specs.Layout.{OneOf}
 use Rattle.tables.specs.Shows.{Of}

@@ -6,8 +6,8 @@ use mathlib.Core.List.{List, map}
 use Rattle.rows.specs.Splice.{cut}
 use Rattle.ledger.specs.Lists.{byte, sum, all}
 use Rattle.ledger.specs.Config.{QueueShape, config_in, controller, front, config_refusal}
-use Rattle.ledger.specs.Theorems.Configured.{Long, passed, states_many, shapes_many}
-use Rattle.ledger.specs.Theorems.Checks.{and_left, and_right}
+use Rattle.ledger.proofs.Theorems.Configured.{Long, passed, states_many, shapes_many}
+use Rattle.ledger.proofs.Theorems.Checks.{and_left, and_right}
 use Rattle.tables.specs.declared.shape.Shape.{Shape}
 use Rattle.tables.specs.Shows.{Of}
 use Rattle.configuration.specs.Block.{product, good_queues, good_pairs, rule, rest_parts, front_is, shapes_in_lem}

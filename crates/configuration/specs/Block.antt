@@ -10,7 +10,7 @@ use Rattle.std.proofs.Math.ListN.{take, drop, length-drop}
 use Rattle.std.proofs.Math.Seq.{take_all}
 use Rattle.rows.specs.Splice.{cut}
 use Rattle.ledger.specs.Lists.{within, byte, sum, all}
-use Rattle.ledger.specs.Theorems.Checks.{and_left, and_right}
+use Rattle.ledger.proofs.Theorems.Checks.{and_left, and_right}
 use Rattle.ledger.specs.Config.{QueueShape, Config, Limits, longest, shapes_in, pairs_in, config_in, front, few_enough, good_values, good_head, good_pair, good_rest}
 
 -- ---- the structure rule of number 11. The initial states are not read again

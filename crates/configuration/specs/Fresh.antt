@@ -19,8 +19,8 @@ use Rattle.ledger.specs.Config.{Config}
 use Rattle.ledger.specs.Ledger as ledger
 use Rattle.ledger.specs.Ledger.{Queue, queue, held, empty_queue, fresh_task, fresh}
 use Rattle.ledger.specs.Services.{shape}
-use Rattle.ledger.specs.Theorems.Checks.{and_right}
-use Rattle.ledger.specs.Theorems.Fresh.{fresh_queue}
+use Rattle.ledger.proofs.Theorems.Checks.{and_right}
+use Rattle.ledger.proofs.Theorems.Fresh.{fresh_queue}
 use Rattle.rows.specs.Splice.{cut}
 use Rattle.tables.specs.declared.shape.Shape.{Shape}
 use Rattle.tables.specs.declared.blocks.Blocks.{Blocks}

@@ -2,7 +2,7 @@
 use Rattle.std.specs.Prelude.{◌≡◌, true, false, ◌+◌, ◌*◌, ◌≤◌, leb}
 use borrow.Author.Tests.{le-leb, leb-true}
 use Rattle.tables.specs.Encoded.{case}
-use Rattle.ledger.specs.Theorems.Checks.{and_left, and_right, within_numbered}
+use Rattle.ledger.proofs.Theorems.Checks.{and_left, and_right, within_numbered}
 use Rattle.ledger.specs.Config.{Config, Limits, few_enough, good_values, good_head}
 
 -- ---- how much there is of each

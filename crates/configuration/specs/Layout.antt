@@ -5,7 +5,7 @@ use borrow.Author.Tests.{leb-true}
 use Rattle.ledger.specs.Lists.{sum, all}
 use Rattle.ledger.specs.Config.{Config, Limits, config_in, good_head}
 use Rattle.ledger.specs.Services.{shape}
-use Rattle.ledger.specs.Theorems.Checks.{and_left, and_right, at_all}
+use Rattle.ledger.proofs.Theorems.Checks.{and_left, and_right, at_all}
 use Rattle.tables.specs.declared.shape.Shape.{Shape}
 use Rattle.tables.specs.Layout.{records_at, Laid}
 use Rattle.tables.specs.Shows.{bytes_of, Of}

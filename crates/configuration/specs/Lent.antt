@@ -10,8 +10,8 @@ use Rattle.rows.specs.Splice.{cut}
 use Rattle.ledger.specs.Lists.{byte, sum}
 use Rattle.ledger.specs.Config as config
 use Rattle.ledger.specs.Config.{Limits, shapes_in, config_in, good_values}
-use Rattle.ledger.specs.Theorems.Checks.{and_left, and_right}
-use Rattle.ledger.specs.Theorems.Configured.{shapes_many}
+use Rattle.ledger.proofs.Theorems.Checks.{and_left, and_right}
+use Rattle.ledger.proofs.Theorems.Configured.{shapes_many}
 use Rattle.tables.specs.declared.shape.Shape.{Shape}
 use Rattle.tables.specs.Shows.{Of}
 use Rattle.configuration.specs.declared.Lent.TheVariants.{Good}

@@ -9,7 +9,7 @@ use borrow.Author.Tests.{le-leb, lt-leb, lt-ltb, leb-true, ltb-true, eq-eqb, ne_
 use Rattle.tables.specs.Encoded.{case}
 use Rattle.ledger.specs.Lists.{at}
 use Rattle.ledger.specs.Config.{most_pairs, good_length, good_pair}
-use Rattle.ledger.specs.Theorems.Checks.{and_left, and_right}
+use Rattle.ledger.proofs.Theorems.Checks.{and_left, and_right}
 
 -- ---- a length, with m bytes in front of the pairs
 module _ (m n : ℕ) where

@@ -7,7 +7,7 @@ use Rattle.std.proofs.Math.Dec.{leb}
 use Rattle.rows.specs.Splice.{cut}
 use Rattle.ledger.specs.Lists.{first, ◌⇒◌, byte, all}
 use Rattle.ledger.specs.Config.{Limits, shapes_in, pairs_in, config_in, controller, front, good_head, good_length, good_pair, good_rest, config_refusal}
-use Rattle.ledger.specs.Theorems.Configured.{long as long_is}
+use Rattle.ledger.proofs.Theorems.Configured.{long as long_is}
 use Rattle.configuration.specs.Block.{good_shapes, good_queues, good_pairs, rest_parts, states_in, shapes_in_lem, pairs_in_lem}
 use Rattle.configuration.specs.Limits.{Made}
 use Rattle.configuration.specs.Room.{room_in, room_good, room_bad}

@@ -10,7 +10,7 @@ use Rattle.rows.specs.Laws.{length_cut, get_d_cut_lem}
 use Rattle.ledger.specs.Lists.{at, byte, sum}
 use Rattle.ledger.specs.Config as config
 use Rattle.ledger.specs.Config.{shapes_in, config_in}
-use Rattle.ledger.specs.Theorems.Twos.{twos_at, twos_take}
+use Rattle.ledger.proofs.Theorems.Twos.{twos_at, twos_take}
 use Rattle.ledger.specs.Services.{shape}
 use Rattle.tables.specs.declared.shape.Shape.{Shape}
 use Rattle.tables.specs.Shows.{bytes_of, begins, Of}

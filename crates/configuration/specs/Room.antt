@@ -7,10 +7,10 @@ use native.Mathlib.Omega.{arith}
 use Rattle.std.proofs.Math.ListN.{get_or}
 use borrow.Author.Tests.{le-leb, lt-leb}
 use Rattle.tables.specs.Encoded.{case}
-use Rattle.ledger.specs.Theorems.Checks.{and_left, and_right, within_numbered}
+use Rattle.ledger.proofs.Theorems.Checks.{and_left, and_right, within_numbered}
 use Rattle.ledger.specs.Lists.{within, sum, all}
 use Rattle.ledger.specs.Config.{Limits, twos, shapes_in}
-use Rattle.ledger.specs.Theorems.Twos.{two_next}
+use Rattle.ledger.proofs.Theorems.Twos.{two_next}
 use Rattle.configuration.specs.Block.{shaped, product, good_shapes}
 
 -- the bytes of one queue, or 4,097

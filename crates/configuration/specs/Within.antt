@@ -10,8 +10,8 @@ use borrow.Author.Tests.{le-leb}
 use Rattle.rows.specs.Splice.{cut}
 use Rattle.ledger.specs.Lists.{byte, sum, all}
 use Rattle.ledger.specs.Config.{QueueShape, Limits, controller, longest, config_in, front, few_enough, good_head, config_refusal, is_within, config_refusal_by}
-use Rattle.ledger.specs.Theorems.Checks.{and_left, and_right}
-use Rattle.ledger.specs.Theorems.Within.{by_accepted, head_within}
+use Rattle.ledger.proofs.Theorems.Checks.{and_left, and_right}
+use Rattle.ledger.proofs.Theorems.Within.{by_accepted, head_within}
 use Rattle.configuration.specs.Block.{shaped, product, good_shapes, good_queues, rule, frame_rule, front_is, shapes_in_lem}
 use Rattle.configuration.specs.Head.{few_says}
 use Rattle.configuration.specs.Room.{bytes_in}

@@ -11,9 +11,8 @@ use Rattle.ledger.specs.Ledger.{plain, Ledger, running, semaphore_of, set_semaph
 use Rattle.ledger.specs.Services.{shape, signalled, signal, start_timer, effect}
 use Rattle.ledger.specs.Refusals.{FieldA, no_a, a_task, to_start, self_or_task, any_or_task, a_queue, FieldB, no_b, of_self, of_task, or_none, FieldX, no_x, a_message, a_tock_value, a_switch, fields, code_at, call, wrong_length, inamailbox, have_timer, from_input, asked_by}
 use Rattle.ledger.specs.Session.{accept}
-use Rattle.ledger.specs.Theorems.Items.{Numbered}
-use Rattle.ledger.specs.Theorems.Checks.{within_numbered, passes}
-use Rattle.ledger.specs.Theorems.Accepted.{GoodA, GoodB, GoodX, GoodNumber, GoodEntry, Good, Accepted}
+use Rattle.ledger.specs.Good.{Numbered, GoodA, GoodB, GoodX, GoodNumber, GoodEntry, Good, Accepted}
+use Rattle.ledger.proofs.Theorems.Checks.{within_numbered, passes}
 use Rattle.tables.specs.declared.shape.Shape.{Shape}
 use Rattle.tables.specs.Layout.{OneOf, Fits, fitting}
 use Rattle.tables.specs.Shows.{Of, ShowsAs, moved}

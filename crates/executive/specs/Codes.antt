@@ -6,9 +6,9 @@ use Rattle.ledger.specs.Lists.{at}
 use Rattle.ledger.specs.Time.{tock_value, long_tock_value}
 use Rattle.ledger.specs.Services.{Code, WAIT, SIGNAL, PEND, SEND, SENDW, RECEIVE, DEQUEUE, ENQUEUE, RESUME, SUSPEND, TERMINATE, EXECUTE, DELAY, TIMER, PURGE, TICK, EXIT, SEASON_TIMER}
 use Rattle.ledger.specs.Refusals.{fields, code_at, value_x, asked_by}
-use Rattle.ledger.specs.Theorems.Parts.{Every, nil, cons, every_at}
-use Rattle.ledger.specs.Theorems.Checks.{never}
-use Rattle.ledger.specs.Theorems.WithoutSeason.{value_word}
+use Rattle.ledger.proofs.Theorems.Parts.{Every, nil, cons, every_at}
+use Rattle.ledger.proofs.Theorems.Checks.{never}
+use Rattle.ledger.proofs.Theorems.WithoutSeason.{value_word}
 use Rattle.tables.specs.Layout.{OneOf}
 use Rattle.executive.specs.Meant.{value_of}
 

@@ -2,7 +2,7 @@
 use Rattle.std.specs.Prelude.{ℕ, ◌≡◌, true, List, length}
 use Rattle.ledger.specs.Config.{Config}
 use Rattle.ledger.specs.Refusals.{FieldA, no_a, a_task, to_start, self_or_task, any_or_task, a_queue, FieldB, no_b, of_self, of_task, or_none, FieldX, no_x, a_message, a_tock_value, a_switch, fields, code_at, value_x, behind_x, is_message}
-use Rattle.ledger.specs.Theorems.Accepted.{GoodEntry}
+use Rattle.ledger.specs.Good.{GoodEntry}
 use Rattle.tables.specs.declared.shape.Shape.{Shape}
 use Rattle.tables.specs.Layout.{OneOf}
 use Rattle.mailboxes.specs.Room.{Roomy}

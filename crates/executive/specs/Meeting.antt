@@ -12,7 +12,7 @@ use Rattle.tables.specs.Planes.{blocks_at}
 use Rattle.tables.specs.Encoded.{AsksFor}
 use Rattle.tables.specs.Shows.{record_in, waiting_in, ShowsAs, moved}
 use Rattle.tables.specs.Stored.{shown_task}
-use Rattle.ledger.specs.Theorems.Checks.{never}
+use Rattle.ledger.proofs.Theorems.Checks.{never}
 use Rattle.ledger.specs.Lists.{at}
 use Rattle.ledger.specs.Config.{Config}
 use Rattle.ledger.specs.Ledger as ledger

@@ -16,11 +16,12 @@ use Rattle.ledger.specs.Lists.{byte}
 use Rattle.ledger.specs.Refusals.{FieldX, no_x, a_message, a_tock_value, a_switch, fields, code_at, is_message, call, refusal}
 use Rattle.ledger.specs.Session as session
 use Rattle.ledger.specs.Session.{accept}
-use Rattle.ledger.specs.Theorems.Accepted.{GoodX, Accepted, accepted}
+use Rattle.ledger.specs.Good.{GoodX, Accepted}
+use Rattle.ledger.proofs.Theorems.Accepted.{accepted}
 use Rattle.command.specs.Refused.{Refuses}
 use Rattle.executive.specs.declared.settling.Settled.{Settled}
 use Rattle.executive.specs.Meant.{MessageRoom}
-use Rattle.ledger.specs.Theorems.Checks.{never}
+use Rattle.ledger.proofs.Theorems.Checks.{never}
 use Rattle.executive.specs.Kept.{Ended}
 
 -- the effect of an accepted frame, and settling

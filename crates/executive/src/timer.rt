@@ -4,7 +4,7 @@ ghost use Rattle.ledger.specs.Services.{effect};
 ghost use Rattle.ledger.specs.Refusals.{fields, code_at};
 ghost use Rattle.tables.specs.Layout.{Fits};
 ghost use Rattle.ledger.specs.Time as time;
-ghost use Rattle.ledger.specs.Theorems.Accepted.{GoodX};
+ghost use Rattle.ledger.specs.Good.{GoodX};
 ghost use Rattle.tocks.specs.Views.{tock_view};
 ghost use Rattle.tables.specs.Shows.{DoesWithTimersIf};
 ghost use Rattle.clock.specs.Held.{Holds};

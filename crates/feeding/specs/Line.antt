@@ -10,7 +10,7 @@ use Rattle.std.proofs.lemmas.Bool.{lt-leb}
 use Rattle.std.proofs.lemmas.List.{take-append-le}
 use Rattle.rows.specs.Splice.{cut}
 use Rattle.ledger.specs.Lines.{longest_frame, frame_of}
-use Rattle.ledger.specs.Theorems.Checks.{never}
+use Rattle.ledger.proofs.Theorems.Checks.{never}
 use Rattle.feeding.specs.declared.gathering.Gathered.{Gathered}
 use Rattle.feeding.specs.Input.{Stands, first, runs, over, line_fed, Fed, behind, fed}
 use Rattle.feeding.specs.Whole.{parts}

@@ -11,7 +11,7 @@ use borrow.Rule.Slice.PartMut.{put_mid}
 use Rattle.rows.specs.Splice.{cut, splice}
 use Rattle.rows.specs.Laws.{length_cut, length_splice, lent_back}
 use Rattle.ledger.specs.Lines.{longest_frame, digits_of, line_of, write_line, written_into}
-use Rattle.ledger.specs.Theorems.Lines.{length_digits}
+use Rattle.ledger.proofs.Theorems.Lines.{length_digits}
 use Rattle.line.specs.Answers.{left_in, Gives}
 use Rattle.line.specs.declared.Written.{Written}
 use Rattle.feeding.specs.Input.{print}

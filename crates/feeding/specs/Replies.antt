@@ -10,8 +10,8 @@ use Rattle.ledger.specs.Config.{Config, Limits, config_in, config_refusal, contr
 use Rattle.ledger.specs.Ledger.{Ledger, fresh}
 use Rattle.ledger.specs.Session.{answer, step, refused_configuration}
 use Rattle.ledger.specs.Lines.{longest_frame, frame_of, step_line, read_line, written_into}
-use Rattle.ledger.specs.Theorems.Lines.{frame_is_short}
-use Rattle.ledger.specs.Theorems.Once.{Once, once_step, once_fresh}
+use Rattle.ledger.proofs.Theorems.Lines.{frame_is_short}
+use Rattle.ledger.proofs.Theorems.Once.{Once, once_step, once_fresh}
 use Rattle.tables.specs.declared.shape.Shape.{Shape}
 use Rattle.tables.specs.Shows.{Of, Shows}
 use Rattle.configuration.specs.Limits.{controller_made}
@@ -25,8 +25,8 @@ use Rattle.answer.specs.Read.{read_length}
 use Rattle.line.specs.Answers.{answer_to, left_in, Gives}
 use Rattle.line.specs.declared.Written.{Written}
 use Rattle.line.specs.declared.Written.TheVariants as written_as
-use Rattle.ledger.specs.Theorems.Checks.{never}
-use Rattle.ledger.specs.Theorems.Within.{controller_gives}
+use Rattle.ledger.proofs.Theorems.Checks.{never}
+use Rattle.ledger.proofs.Theorems.Within.{controller_gives}
 use Rattle.mcx11.specs.Contract.{Memory, memory, has_sizes, full_size, is_marked, config_of, tables_part, slots_part, timers_part, lent_well, Displays, answering, Configures, Frames}
 use Rattle.mcx11.specs.Answer.{answer_of}
 use Rattle.mcx11.specs.Sizes.{Full, sizes_full, well_frame}

@@ -5,7 +5,7 @@ use Rattle.std.proofs.Math.Option.{Option, none, some}
 use Rattle.ledger.specs.Config.{config_in, config_refusal}
 use Rattle.ledger.specs.Ledger.{fresh}
 use Rattle.ledger.specs.Session.{answer, refused_configuration}
-use Rattle.ledger.specs.Theorems.Parts.{Every, nil, cons}
+use Rattle.ledger.proofs.Theorems.Parts.{Every, nil, cons}
 use Rattle.ledger.specs.Lines.{digits_of, frame_of, before, lines_in, answers_from, configured, answers_to_lines, printed, output}
 use Rattle.feeding.specs.Input.{Stands, first, runs, over, print, configures, steps, printing, line_fed, Fed, behind, fed, last}
 

@@ -10,10 +10,12 @@ pub mod Lines
 -- the request about turns: how often a timer has signalled
 pub mod Turns
 pub mod Seen
--- What is proved of them, and how they are computed.
+-- what an accepted frame says; messages dropped one by one
+pub mod Good
+pub mod Dropped
+-- what they compute to, and how they are computed
 pub mod Examples
 pub mod Readings
 pub mod TurnExamples
 pub mod Shams
-pub mod Theorems
 pub mod Computing

@@ -7,7 +7,7 @@ use native.Mathlib.Omega.{arith}
 use lib.ListN.{length, get_or, set}
 use borrow.Author.Tests.{le-leb, lt-leb}
 use Rattle.ledger.specs.Lines.{longest_frame, digit_of, digits_of, line_of}
-use Rattle.ledger.specs.Theorems.Lines.{length_digits}
+use Rattle.ledger.proofs.Theorems.Lines.{length_digits}
 use Rattle.line.proofs.Front.{front, front_turn}
 
 high_digit : (f : List ℕ) (i : ℕ) → i < length f → get_or (digits_of f) (2 * i) 0 ≡ digit_of (get_or f i 0 / 16)

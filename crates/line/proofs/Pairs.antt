@@ -11,9 +11,9 @@ use lib.Seq.{take_all}
 use borrow.Author.Tests.{le-leb, lt-leb, leb-true, leb-false, eqb-true, eqb-false}
 use Rattle.ledger.specs.Lists.{all}
 use Rattle.ledger.specs.Config.{twos}
-use Rattle.ledger.specs.Theorems.Twos.{twos_length, twos_at}
+use Rattle.ledger.proofs.Theorems.Twos.{twos_length, twos_at}
 use Rattle.ledger.specs.Lines.{longest_frame, digit_value, joined, bytes_of, frame_of}
-use Rattle.ledger.specs.Theorems.Lines.{Kind, decimal, letter, another, kind}
+use Rattle.ledger.proofs.Theorems.Lines.{Kind, decimal, letter, another, kind}
 use Rattle.line.specs.Digits.{is_some, is_digit, nibble, pairs}
 
 -- ---- one character

@@ -5,7 +5,7 @@ use Rattle.std.specs.Prelude.{Bool, ◌||◌, List, ℕ, ◌<◌, ◌≤◌, get
 use Rattle.std.proofs.Math.Bool.{true, false}
 use Rattle.std.proofs.Math.Dec.{ltb}
 use borrow.Author.Tests.{lt-ltb, le-ltb, ltb-true, ltb-false}
-use Rattle.ledger.specs.Theorems.Checks.{never}
+use Rattle.ledger.proofs.Theorems.Checks.{never}
 use Rattle.messages.specs.Pending.{numbers_in, occurs, complete_in}
 use Rattle.messages.specs.Records.{number_length}
 use Rattle.messages.specs.Full.{full}

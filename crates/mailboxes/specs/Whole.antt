@@ -14,7 +14,7 @@ use Rattle.tables.specs.Shows.{pending_of, mailboxes_in, ShowsAs}
 use Rattle.ledger.specs.Config.{Config}
 use Rattle.ledger.specs.Ledger.{Ledger}
 use Rattle.ledger.specs.Refusals.{inamailbox}
-use Rattle.ledger.specs.Theorems.Once.{Once}
+use Rattle.ledger.proofs.Theorems.Once.{Once}
 use Rattle.mailboxes.specs.Room.{counted, Roomy, whole_in, sound_in, whole_sound, room_left}
 use Rattle.mailboxes.specs.Mail.{bytes, bytes_are, counter}
 use Rattle.mailboxes.specs.Operations.{holds_told}

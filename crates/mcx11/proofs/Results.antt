@@ -10,7 +10,7 @@ use lib.IntN.{ℤ}
 use lib.ListN.{length}
 use Rattle.ledger.specs.Lines as lines
 use Rattle.ledger.specs.Lines.{longest_frame, frame_of, line_of, written_into, read_line, write_line, number, result}
-use Rattle.ledger.specs.Theorems.Lines.{frame_is_short, line_is_short}
+use Rattle.ledger.proofs.Theorems.Lines.{frame_is_short, line_is_short}
 use Rattle.line.specs.Answers.{answer_to, Gives}
 use Rattle.line.specs.declared.Written.{Written}
 use Rattle.mcx11.specs.Results.{returned_length, Returns, of_written, Short}

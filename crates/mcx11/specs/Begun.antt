@@ -8,8 +8,8 @@ use borrow.Rule.Slice.PartMut.{put_mid}
 use Rattle.ledger.specs.Config.{Config, Limits, config_in, config_refusal_by}
 use Rattle.ledger.specs.Ledger.{Ledger, fresh}
 use Rattle.ledger.specs.Session as session
-use Rattle.ledger.specs.Theorems.Checks.{never}
-use Rattle.ledger.specs.Theorems.Once.{Once, once_fresh}
+use Rattle.ledger.proofs.Theorems.Checks.{never}
+use Rattle.ledger.proofs.Theorems.Once.{Once, once_fresh}
 use Rattle.rows.specs.Splice.{cut, splice}
 use Rattle.tables.specs.declared.shape.Shape.{Shape}
 use Rattle.tables.specs.Shows.{Of, ShowsAs, Shows, loosely}

@@ -6,11 +6,12 @@ use Rattle.ledger.specs.Config.{Config, Limits}
 use Rattle.ledger.specs.Ledger.{Ledger, running}
 use Rattle.ledger.specs.Refusals.{refusal}
 use Rattle.ledger.specs.Session.{answer, settle, accept, Stepped, step, Items, items}
-use Rattle.ledger.specs.Theorems.Lowest.{TaskRuns, NullRuns, lowest_runs}
+use Rattle.ledger.specs.Good.{TaskRuns}
+use Rattle.ledger.proofs.Theorems.Lowest.{NullRuns, lowest_runs}
 use Rattle.rows.specs.Tab.{tab_length}
 use Rattle.tables.specs.Layout.{regions}
 use Rattle.tables.specs.Shows.{ticks_in, tasks_in, semaphores_in, mailboxes_in, queues_in, timers_of}
-use Rattle.ledger.specs.Theorems.Once.{Once}
+use Rattle.ledger.proofs.Theorems.Once.{Once}
 use Rattle.mailboxes.specs.Room.{sound_in}
 use Rattle.mailboxes.specs.Whole.{sound_shown}
 use Rattle.configuration.specs.Block.{frame_rule}

@@ -3,8 +3,8 @@ use Rattle.std.specs.Prelude.{ℕ, ◌+◌, ◌-◌, ◌*◌, ◌≤◌, min, �
 use Rattle.std.proofs.Common.{ap, ◌∙◌, arith, leb-true, length-take, length-drop, take_all}
 use Rattle.ledger.specs.Lists.{word}
 use Rattle.ledger.specs.Config.{Config, Limits, longest, config_in}
-use Rattle.ledger.specs.Theorems.Checks.{and_left, and_right}
-use Rattle.ledger.specs.Theorems.Configured.{shapes_many}
+use Rattle.ledger.proofs.Theorems.Checks.{and_left, and_right}
+use Rattle.ledger.proofs.Theorems.Configured.{shapes_many}
 use Rattle.tables.specs.declared.shape.Shape.{Shape}
 use Rattle.tables.specs.Shows.{bytes_of, Of}
 use Rattle.mailboxes.specs.Room.{sound_in}

@@ -7,7 +7,7 @@ use mathlib.Core.List.{List}
 use borrow.Rule.Slice.PartMut.{put_mid}
 use Rattle.ledger.specs.Lists.{word}
 use Rattle.ledger.specs.Config.{Config, Limits, config_in}
-use Rattle.ledger.specs.Theorems.Checks.{never, and_left, and_right}
+use Rattle.ledger.proofs.Theorems.Checks.{never, and_left, and_right}
 use Rattle.rows.specs.Splice.{cut}
 use Rattle.rows.specs.Laws.{length_cut}
 use Rattle.tables.specs.declared.shape.Shape.{Shape}

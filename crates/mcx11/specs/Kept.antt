@@ -8,7 +8,7 @@ use Rattle.rows.specs.Laws.{length_cut}
 use Rattle.ledger.specs.Config.{Config, Limits, config_in}
 use Rattle.ledger.specs.Ledger.{Ledger}
 use Rattle.ledger.specs.Session.{step}
-use Rattle.ledger.specs.Theorems.Once.{Once, once_step}
+use Rattle.ledger.proofs.Theorems.Once.{Once, once_step}
 use Rattle.tables.specs.Shows.{Of}
 use Rattle.configuration.specs.Limits.{Made}
 use Rattle.configuration.specs.Block.{rule, frame_rule, frame_rule_lem}

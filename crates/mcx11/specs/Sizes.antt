@@ -4,7 +4,7 @@ use Rattle.std.proofs.Math.Path.{sym, ap, subst}
 use Rattle.std.proofs.Common.{◌∙◌}
 use native.Mathlib.Omega.{arith}
 use borrow.Author.Tests.{leb-true, le-leb}
-use Rattle.ledger.specs.Theorems.Checks.{and_left, and_right}
+use Rattle.ledger.proofs.Theorems.Checks.{and_left, and_right}
 use Rattle.ledger.specs.Config.{Limits, controller, brake_module}
 use Rattle.configuration.specs.Block.{frame_rule}
 use Rattle.parts.specs.Parts.{kept_frame}

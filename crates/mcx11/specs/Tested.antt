@@ -6,7 +6,7 @@ use native.Mathlib.Omega.{arith}
 use borrow.Author.Tests.{leb-true}
 use Rattle.std.proofs.Math.ListN.{length}
 use Rattle.ledger.specs.Config.{Limits, longest, config_in}
-use Rattle.ledger.specs.Theorems.Checks.{and_left, and_right}
+use Rattle.ledger.proofs.Theorems.Checks.{and_left, and_right}
 use Rattle.tables.specs.declared.shape.Shape.{Shape}
 use Rattle.tables.specs.Layout.{Fits, fitting}
 use Rattle.tables.specs.Shows.{Of}

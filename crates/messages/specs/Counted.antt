@@ -8,9 +8,9 @@ use borrow.Author.Tests.{eq-eqb, ne_eqb, eqb-true, le-leb, leb-true, not-true}
 use Rattle.ledger.specs.Lists.{at, put, within, any, all, keep}
 use Rattle.ledger.specs.Config.{Config}
 use Rattle.ledger.specs.Ledger.{Message}
-use Rattle.ledger.specs.Theorems.Items.{Numbered}
-use Rattle.ledger.specs.Theorems.Sound.Messages.{copies, copies_empty, front_more}
-use Rattle.ledger.specs.Theorems.Once.{Once}
+use Rattle.ledger.specs.Good.{Numbered}
+use Rattle.ledger.proofs.Theorems.Sound.Messages.{copies, copies_empty, front_more}
+use Rattle.ledger.proofs.Theorems.Once.{Once}
 use Rattle.rows.specs.Rows.{rows_of}
 use Rattle.rows.specs.Tab.{tab, tab_at, tab_put, tab_length}
 use Rattle.messages.specs.Lists.{and_left, and_right, or_left, or_right}

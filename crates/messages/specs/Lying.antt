@@ -3,7 +3,7 @@ use Rattle.std.specs.Prelude.{◌≡◌, ℕ, zero, suc, ◌+◌, ◌<◌, ◌�
 use Rattle.std.proofs.Common.{ap, ◌∙◌, arith}
 use Rattle.ledger.specs.Lists.{at, put}
 use Rattle.ledger.specs.Ledger.{Message}
-use Rattle.ledger.specs.Theorems.Items.{Numbered}
+use Rattle.ledger.specs.Good.{Numbered}
 use Rattle.rows.specs.Rows.{rows_of, length_rows}
 use Rattle.messages.specs.Pending.{Pending, pending_of, pending_in, mailboxes_of}
 use Rattle.messages.specs.Mailboxes.{mailboxes_none}

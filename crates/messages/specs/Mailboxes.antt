@@ -9,7 +9,7 @@ use borrow.Author.Tests.{eq-eqb, ne_eqb, eqb-true, lt-ltb, le-ltb, ltb-true, ltb
 use Rattle.ledger.specs.Lists.{within, any, keep, find, without, insert_by}
 use Rattle.ledger.specs.Ledger.{Message}
 use Rattle.ledger.specs.Services.{wanted}
-use Rattle.ledger.specs.Theorems.Parts.{part_keep, part_length}
+use Rattle.ledger.proofs.Theorems.Parts.{part_keep, part_length}
 use Rattle.rows.specs.Rows.{insert_at, remove_at, map_insert_at_lem}
 use Rattle.rows.specs.First.{first_of, keep_insert, keep_insert_other, keep_remove, keep_remove_other, keep_at, map_remove_at_lem, without_is, find_some, find_none, any_is, insert_by_is_lem}
 use Rattle.rows.specs.Tab.{tab}

@@ -16,7 +16,7 @@ use Rattle.rows.specs.Rows.{row_fits}
 use Rattle.rings.specs.Ring.{wrap_of, holds}
 use Rattle.rings.specs.Laws.{wrap_in, wrap_next, holds_put}
 use Rattle.ledger.specs.Config.{Config}
-use Rattle.ledger.specs.Theorems.Items.{at_put_same, at_put_other}
+use Rattle.ledger.proofs.Theorems.Items.{at_put_same, at_put_other}
 use Rattle.rows.specs.Tab.{tab_length}
 use Rattle.ledger.specs.Ledger.{Ledger, Queue, empty_queue, queue, held, set_queue}
 use Rattle.ledger.specs.Services.{shape, put_entry}

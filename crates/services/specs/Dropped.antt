@@ -17,7 +17,8 @@ use Rattle.ledger.specs.Config.{Config}
 use Rattle.ledger.specs.Ledger as ledger
 use Rattle.ledger.specs.Ledger.{Ledger, mailbox, set_mailbox}
 use Rattle.ledger.specs.Services.{signal, wanted, drop_messages}
-use Rattle.ledger.specs.Theorems.Dropped.{drop_first, drop_turn, drop_none, drop_fewer}
+use Rattle.ledger.specs.Dropped.{drop_first}
+use Rattle.ledger.proofs.Theorems.Dropped.{drop_turn, drop_none, drop_fewer}
 
 -- ---- the first message dropped
 

@@ -9,8 +9,8 @@ use Rattle.tables.specs.SetTwice.{task_task, task_set}
 use Rattle.ledger.specs.Config.{Config}
 use Rattle.ledger.specs.Ledger.{Ledger, Task, Blocks, Outcome, plain, none, only_idle, task, set_task, set_semaphores, set_timers, set_blocks, set_outcome, set_request}
 use Rattle.ledger.specs.Services.{withdraw_wait, drop_messages, terminate}
-use Rattle.ledger.specs.Theorems.Untaken.{View, view, of_drop}
-use Rattle.ledger.specs.Theorems.Terminated.{ended}
+use Rattle.ledger.proofs.Theorems.Untaken.{View, view, of_drop}
+use Rattle.ledger.proofs.Theorems.Terminated.{ended}
 use Rattle.clock.specs.Does.{purged, removed_is}
 
 -- a task's record with no open request

@@ -5,7 +5,7 @@ ghost use Rattle.tables.specs.Shows.{Does, Tells};
 ghost use Rattle.mailboxes.specs.Room.{Roomy};
 ghost use Rattle.ledger.specs.Ledger as ledger;
 ghost use Rattle.ledger.specs.Services as ledger_services;
-ghost use Rattle.ledger.specs.Theorems.Dropped.{drop_first};
+ghost use Rattle.ledger.specs.Dropped.{drop_first};
 
 use mailboxes::Received;
 use tables::blocks::Block;

@@ -15,7 +15,7 @@ use prog.Memory as machine
 use prog.Model.{AllFit}
 use Rattle.ledger.specs.Config.{Limits, controller, brake_module, longest, config_refusal_by}
 use Rattle.ledger.specs.Shams.{two_tasks, the_answers}
-use Rattle.ledger.specs.Theorems.Parts.{Every}
+use Rattle.ledger.proofs.Theorems.Parts.{Every}
 use Rattle.configuration.specs.Limits.{Made}
 use Rattle.mcx11.specs.Contract.{Memory, memory, sizes_of, full_size}
 use Rattle.mcx11.specs.Sizes.{sizes_full}

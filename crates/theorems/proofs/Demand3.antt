@@ -14,7 +14,7 @@ use borrow.Fn.Kinds.{ended_of}
 use denote.Triple.Clauses.{Lasts, at_exit}
 use Rattle.ledger.specs.Config.{Config, Limits, controller, brake_module, config_in, config_refusal, config_refusal_by}
 use Rattle.ledger.specs.Seen.{Seen}
-use Rattle.ledger.specs.Theorems.Within.{controller_gives}
+use Rattle.ledger.proofs.Theorems.Within.{controller_gives}
 use Rattle.configuration.specs.Limits.{controller_made, brake_module_made}
 use Rattle.mcx11.specs.Contract.{Memory, memory, full_size, Configures, Frames}
 use Rattle.theorems.specs.Calls as calls

@@ -21,7 +21,7 @@ use Rattle.running.specs.Memories.{Loads}
 use Rattle.running.specs.Machine.{Cells, ◌∗◌}
 use Rattle.ledger.specs.Config.{Config, Limits, config_in, config_refusal_by}
 use Rattle.ledger.specs.Session as ledger
-use Rattle.ledger.specs.Theorems.Parts.{Every}
+use Rattle.ledger.proofs.Theorems.Parts.{Every}
 use Rattle.mcx11.specs.Contract.{Memory, full_size, Configures, Frames}
 use Rattle.mcx11.specs.Answer.{answer_of}
 use Rattle.theorems.specs.Numbers as refused

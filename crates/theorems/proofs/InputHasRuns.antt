@@ -17,7 +17,7 @@ use denote.Steps.{only}
 use Rattle.theorems.proofs.World.{environment}
 use Rattle.running.specs.Machine.{Pr, Cells, ◌∗◌, ◌⊨◌}
 use Rattle.running.proofs.Buffer.{Buffer, overwritten, as_long, Rest, stored, lent_again}
-use Rattle.ledger.specs.Theorems.Parts.{Every, nil, cons}
+use Rattle.ledger.proofs.Theorems.Parts.{Every, nil, cons}
 use Rattle.mcx11.specs.Contract.{Memory, memory}
 use Rattle.ledger.specs.Config.{controller}
 use Rattle.mcx11.specs.Sizes.{Full}

@@ -16,7 +16,7 @@ use Rattle.running.specs.Slices.{Kind, mut}
 use Rattle.running.specs.Memories.{inarow}
 use Rattle.running.specs.Machine.{Pr, Cells, ◌∗◌, weaken, begins, cells_append, bytes_at}
 use Rattle.ledger.specs.Lines.{output}
-use Rattle.ledger.specs.Theorems.Parts.{Every}
+use Rattle.ledger.proofs.Theorems.Parts.{Every}
 use Rattle.mcx11.specs.Contract.{Memory, Sizes}
 use Rattle.ledger.specs.Config.{controller}
 use Rattle.mcx11.specs.Sizes.{Full, full_sizes, sizes_full, full_kept}

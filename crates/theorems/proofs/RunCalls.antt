@@ -13,7 +13,7 @@ use Rattle.running.specs.Machine.{Pr, Cells, ◌∗◌, ◌⊨◌, weaken, held_
 use Rattle.running.proofs.Buffer.{Buffer}
 use Rattle.ledger.specs.Config.{Config}
 use Rattle.ledger.specs.Seen.{Seen}
-use Rattle.ledger.specs.Theorems.Parts.{Every, nil, cons}
+use Rattle.ledger.proofs.Theorems.Parts.{Every, nil, cons}
 use Rattle.mcx11.specs.Contract.{Memory, Sizes}
 use Rattle.theorems.specs.Calls as contracts
 use Rattle.theorems.proofs.OneCall.{Places, Executive}

@@ -25,7 +25,7 @@ use Rattle.running.specs.Machine.{Pr, Cells, ◌∗◌, ◌⊨◌, bytes_at}
 use Rattle.running.proofs.Buffer.{Buffer, overwritten, as_long, Front, Rest, stored, lent_again}
 use Rattle.ledger.specs.Config.{Config}
 use Rattle.ledger.specs.Seen.{Seen}
-use Rattle.ledger.specs.Theorems.Parts.{Every, nil, cons}
+use Rattle.ledger.proofs.Theorems.Parts.{Every, nil, cons}
 use Rattle.mcx11.specs.Contract.{Memory, Sizes, Configures, Frames}
 use Rattle.mcx11.specs.Answer.{answer_of}
 use Rattle.theorems.specs.Calls as contracts

@@ -5,7 +5,7 @@ use Rattle.std.specs.Prelude.{ℕ, ◌≡◌, List}
 use Rattle.std.proofs.Common.{sym, ◌∙◌}
 use Rattle.ledger.specs.Config.{Limits, brake_module, config_in, config_refusal, config_refusal_by}
 use Rattle.ledger.specs.Session.{run}
-use Rattle.ledger.specs.Theorems.Within.{by_accepted}
+use Rattle.ledger.proofs.Theorems.Within.{by_accepted}
 use Rattle.tables.specs.Layout.{regions}
 use Rattle.configuration.specs.Layout.{shape_of}
 use Rattle.mcx11.specs.Contract.{Memory, tables_part, slots_part, timers_part, Displays}

@@ -5,8 +5,8 @@ use Rattle.std.proofs.Common.{sym, ap, ◌∙◌}
 use Rattle.ledger.specs.Config.{Limits, config_in}
 use Rattle.ledger.specs.Ledger.{Ledger}
 use Rattle.ledger.specs.Session.{items}
-use Rattle.ledger.specs.Theorems.Parts.{Every}
-use Rattle.ledger.specs.Theorems.WithoutSeason.{codes_before, run_by, session_by, Without, same_run, same_session}
+use Rattle.ledger.proofs.Theorems.Parts.{Every}
+use Rattle.ledger.proofs.Theorems.WithoutSeason.{codes_before, run_by, session_by, Without, same_run, same_session}
 use Rattle.mcx11.specs.Contract.{Memory}
 use Rattle.mcx11.specs.Displayed.{items_in}
 use Rattle.theorems.specs.Same.{Same}

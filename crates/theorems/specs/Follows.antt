@@ -5,7 +5,7 @@ use Rattle.std.proofs.Common.{ap₂, sym, ◌∙◌, subst}
 use Rattle.ledger.specs.Config.{Config, Limits}
 use Rattle.ledger.specs.Ledger.{Ledger}
 use Rattle.ledger.specs.Session.{step, run_from}
-use Rattle.ledger.specs.Theorems.Once.{Once, once_step}
+use Rattle.ledger.proofs.Theorems.Once.{Once, once_step}
 use Rattle.configuration.specs.Limits.{Made}
 use Rattle.mcx11.specs.Contract.{Memory, config_of, lent_well, Displays, Tidily, OutsideStays, Frames}
 use Rattle.theorems.specs.Calls.{FrameCalls, none, call}

@@ -7,8 +7,8 @@ use Rattle.ledger.specs.Config.{Config, Limits, config_refusal_by}
 use Rattle.ledger.specs.Ledger.{Ledger, fresh}
 use Rattle.ledger.specs.Refusals.{from_input, from_state, refusal}
 use Rattle.ledger.specs.Session.{step}
-use Rattle.ledger.specs.Theorems.Checks.{never_given}
-use Rattle.ledger.specs.Theorems.Parts.{Every, nil, cons}
+use Rattle.ledger.proofs.Theorems.Checks.{never_given}
+use Rattle.ledger.proofs.Theorems.Parts.{Every, nil, cons}
 
 unfoldable pub numbers_from : Config → Ledger → List (List ℕ) → List ℕ
 numbers_from c l [] = []

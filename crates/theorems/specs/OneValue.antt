@@ -20,11 +20,11 @@ use Rattle.ledger.specs.Config.{Config, Limits, config_in, config_refusal}
 use Rattle.ledger.specs.Ledger as ledger
 use Rattle.ledger.specs.Ledger.{Ledger, mailbox, queue, held}
 use Rattle.ledger.specs.Lists.{Bytes, within, all, keep}
-use Rattle.ledger.specs.Theorems.Checks.{and_left, and_right}
+use Rattle.ledger.proofs.Theorems.Checks.{and_left, and_right}
 use Rattle.ledger.specs.Services.{shape}
 use Rattle.ledger.specs.Session.{TimerLeft, timer_left, run}
-use Rattle.ledger.specs.Theorems.Parts.{Every, every_at}
-use Rattle.ledger.specs.Theorems.Sound.{sound}
+use Rattle.ledger.proofs.Theorems.Parts.{Every, every_at}
+use Rattle.ledger.proofs.Theorems.Sound.{sound}
 use Rattle.messages.specs.Pending as messages
 use Rattle.messages.specs.Pending.{letter_of, pending_in, to_task, addressed, for, mailbox_of}
 use Rattle.messages.specs.Lying.{lying}

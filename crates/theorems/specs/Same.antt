@@ -6,14 +6,15 @@ use Rattle.ledger.specs.Lists.{byte}
 use Rattle.ledger.specs.Config.{Config, Limits, config_in, config_refusal, config_refusal_by}
 use Rattle.ledger.specs.Ledger.{Task, running, fresh, queue, held}
 use Rattle.ledger.specs.Session.{accept, answer, run, session, refused_configuration, Items, items}
-use Rattle.ledger.specs.Theorems.Parts.{Every}
-use Rattle.ledger.specs.Theorems.Lowest.{TaskRuns, NullRuns}
-use Rattle.ledger.specs.Theorems.Shown.{lowest_shown, reissues_shown}
-use Rattle.ledger.specs.Theorems.HandedOut.{handed_out}
-use Rattle.ledger.specs.Theorems.HandsOver.{Copy, Asked, HandsOver}
-use Rattle.ledger.specs.Theorems.HandedOver.{handed_over}
-use Rattle.ledger.specs.Theorems.Once.{Once, once_fresh}
-use Rattle.ledger.specs.Theorems.Within.{by_accepted, other_number}
+use Rattle.ledger.proofs.Theorems.Parts.{Every}
+use Rattle.ledger.specs.Good.{TaskRuns}
+use Rattle.ledger.proofs.Theorems.Lowest.{NullRuns}
+use Rattle.ledger.proofs.Theorems.Shown.{lowest_shown, reissues_shown}
+use Rattle.ledger.proofs.Theorems.HandedOut.{handed_out}
+use Rattle.ledger.proofs.Theorems.HandsOver.{Copy, Asked, HandsOver}
+use Rattle.ledger.proofs.Theorems.HandedOver.{handed_over}
+use Rattle.ledger.proofs.Theorems.Once.{Once, once_fresh}
+use Rattle.ledger.proofs.Theorems.Within.{by_accepted, other_number}
 use Rattle.configuration.specs.Limits.{Made}
 use Rattle.parts.specs.Parts.{kept_frame}
 use Rattle.mcx11.specs.Contract.{Memory, full_size, config_of, lent_well, Displays, Tidily, OutsideStays, OutsideSpared, answering, Configures}

@@ -10,9 +10,9 @@ use Rattle.ledger.specs.Shams.{two_tasks, takes, puts, delays, starts, ticks, wa
 use Rattle.tables.specs.Layout.{regions}
 use Rattle.tables.specs.Decode.{state_as}
 use Rattle.tables.specs.Shows.{semaphore_count}
-use Rattle.ledger.specs.Theorems.Checks.{never}
-use Rattle.ledger.specs.Theorems.Parts.{Every}
-use Rattle.ledger.specs.Theorems.Within.{other_number, says_27}
+use Rattle.ledger.proofs.Theorems.Checks.{never}
+use Rattle.ledger.proofs.Theorems.Parts.{Every}
+use Rattle.ledger.proofs.Theorems.Within.{other_number, says_27}
 use Rattle.configuration.specs.Limits.{Made, brake_module_made}
 use Rattle.configuration.specs.Layout.{shape_of}
 use Rattle.mcx11.specs.Contract.{Memory, full_size, tables_part, Configures}

@@ -5,10 +5,10 @@ use Rattle.ledger.specs.Config.{Config, Limits, config_in, config_refusal_by}
 use Rattle.ledger.specs.Ledger.{Ledger, fresh}
 use Rattle.ledger.specs.Session.{step}
 use Rattle.ledger.specs.Seen.{Seen, NoTurnMissed, TocksAreFed, EachTurnSignals}
-use Rattle.ledger.specs.Theorems.Configured.{configured}
-use Rattle.ledger.specs.Theorems.Once.{Once, once_fresh}
-use Rattle.ledger.specs.Theorems.Within.{by_accepted}
-use Rattle.ledger.specs.Theorems.TurnsSeen.{sight, sights, none_missed, tocks_fed, each_signals}
+use Rattle.ledger.proofs.Theorems.Configured.{configured}
+use Rattle.ledger.proofs.Theorems.Once.{Once, once_fresh}
+use Rattle.ledger.proofs.Theorems.Within.{by_accepted}
+use Rattle.ledger.proofs.Theorems.TurnsSeen.{sight, sights, none_missed, tocks_fed, each_signals}
 use Rattle.configuration.specs.Limits.{Made}
 use Rattle.mcx11.specs.Contract.{Memory, full_size, config_of, lent_well, Displays, Configures}
 use Rattle.mcx11.specs.Kept.{begins_config}

@@ -4,7 +4,7 @@ use mathlib.Core.Path.{◌≡◌, sym, subst}
 use native.Mathlib.Omega.{arith}
 use native.Mathlib.Nat.{div-add-mod', mod-lt, div-lt_iff_lt-mul, zero-mul}
 use Rattle.ledger.specs.Time.{nearest}
-use Rattle.ledger.specs.Theorems.Nearest.{Nearest, only_nearest}
+use Rattle.ledger.proofs.Theorems.Nearest.{Nearest, only_nearest}
 
 lowest : (m p q : ℕ) → q * (2 * p) ≤ 2 * m + p → (2 * q - 1) * p ≤ 2 * m
 lowest m p zero h = omega (arith, zero-mul p)

@@ -5,7 +5,7 @@ use Rattle.std.proofs.Common.{sym, ◌∙◌, ap, arith}
 use Rattle.std.specs.Int.{Width, w8, w16, w32, w64, w128}
 use mir.Val.{bits, hbits, SFits, of_z}
 use Rattle.ledger.specs.Time.{TockValue, none, one_shot, cyclic, signed}
-use Rattle.ledger.specs.Theorems.TockValues.{none_at_0, positive, negative}
+use Rattle.ledger.proofs.Theorems.TockValues.{none_at_0, positive, negative}
 
 abbrev pub asked : ℤ → TockValue
 asked (pos zero) = none

@@ -3,7 +3,7 @@
 use mathlib.Core.Path.{sym}
 use mir.Syntax.{w16, w32}
 use Rattle.ledger.specs.Time.{tock_value}
-use Rattle.ledger.specs.Theorems.TockValues.{none_at_0}
+use Rattle.ledger.proofs.Theorems.TockValues.{none_at_0}
 use Rattle.tocks.proofs.Opposite.{widens, positive_cast, positive_asked, opposite_fits, opposite_cast, opposite_asked}
 use Rattle.tocks.proofs.tock_value.Goals as goal
 

@@ -1,7 +1,7 @@
 -- What document 01 refuses keeps its number; of the rest the limits decide.
 use native.Mathlib.Omega.{arith}
 use mathlib.Core.Path.{sym, ◌∙◌}
-use Rattle.ledger.specs.Theorems.Within.{other_number, gives_27, accepted_by}
+use Rattle.ledger.proofs.Theorems.Within.{other_number, gives_27, accepted_by}
 use Rattle.configuration.specs.Limits.{limits_of}
 use Rattle.configuration.proofs.frame.refusal_by.Goals as goal
 

@@ -3,7 +3,7 @@ use native.Mathlib.Omega.{arith}
 use mathlib.Core.Path.{refl, sym, ◌∙◌}
 use lib.ListN.{length}
 use Rattle.ledger.specs.Config.{pair_of, good_pair}
-use Rattle.ledger.specs.Theorems.Twos.{all_next, all_not, all_over}
+use Rattle.ledger.proofs.Theorems.Twos.{all_next, all_not, all_over}
 use Rattle.configuration.proofs.pairs.good_pairs.Goals as goal
 
 pub loop-k-init : goal.loop-k-init

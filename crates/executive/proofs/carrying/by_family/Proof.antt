@@ -6,7 +6,7 @@ use native.Mathlib.Omega.{arith}
 use Rattle.ledger.specs.Config.{config_in}
 use Rattle.ledger.specs.Services.{effect}
 use Rattle.ledger.specs.Refusals.{code_at}
-use Rattle.ledger.specs.Theorems.WithoutSeason.{value_word, behind_drop}
+use Rattle.ledger.proofs.Theorems.WithoutSeason.{value_word, behind_drop}
 use Rattle.tables.specs.Shows.{moved}
 use Rattle.executive.specs.Suits.{configuration, tables, slots, timers}
 use Rattle.executive.specs.Meant.{value_of, rest_of, MeansX, MeansEntry}

@@ -5,7 +5,7 @@ use native.Mathlib.Omega.{arith}
 use Rattle.ledger.specs.Config.{config_in}
 use Rattle.ledger.specs.Ledger.{plain, set_outcome}
 use Rattle.ledger.specs.Refusals.{fields, code_at}
-use Rattle.ledger.specs.Theorems.Accepted.{good}
+use Rattle.ledger.proofs.Theorems.Accepted.{good}
 use Rattle.tables.specs.Shows.{moved}
 use Rattle.command.specs.Configured.{of, fits}
 use Rattle.command.specs.Refused.{row_is, task_is, semaphore_is, owner_of}

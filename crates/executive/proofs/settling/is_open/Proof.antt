@@ -4,7 +4,7 @@ use native.Mathlib.Omega.{arith}
 use mathlib.Core.Path.{ap}
 use Rattle.tables.specs.Decode.{view_request}
 use Rattle.ledger.specs.Session.{is_open}
-use Rattle.ledger.specs.Theorems.Checks.{never}
+use Rattle.ledger.proofs.Theorems.Checks.{never}
 use Rattle.executive.specs.Meeting.{null_closed, request_is}
 use borrow.Author.Rules.{rules}
 use Rattle.executive.proofs.settling.is_open.Statement.{statement}

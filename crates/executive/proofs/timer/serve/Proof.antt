@@ -7,8 +7,8 @@ use Rattle.ledger.specs.Services.{wait_for, start_timer, effect}
 use Rattle.ledger.specs.Lists.{at, byte}
 use Rattle.ledger.specs.Refusals.{fields, code_at}
 use Rattle.ledger.specs.Time.{TockValue}
-use Rattle.ledger.specs.Theorems.Accepted.{GoodX}
-use Rattle.ledger.specs.Theorems.WithoutSeason.{value_word}
+use Rattle.ledger.specs.Good.{GoodX}
+use Rattle.ledger.proofs.Theorems.WithoutSeason.{value_word}
 use Rattle.tocks.specs.Views.{tock_view}
 use Rattle.tables.specs.Shows.{moved}
 use Rattle.clock.specs.Does.{purged, purge_is}

@@ -2,7 +2,7 @@
 use native.Mathlib.Omega.{arith}
 use mathlib.Core.Path.{sym, ◌∙◌}
 use Rattle.tables.specs.Layout.{fitting}
-use Rattle.ledger.specs.Theorems.Checks.{never}
+use Rattle.ledger.proofs.Theorems.Checks.{never}
 use Rattle.ledger.specs.Config.{controller}
 use Rattle.configuration.specs.Limits.{controller_made}
 use Rattle.parts.specs.Parts.{kept_frame}

@@ -5,7 +5,7 @@ use mathlib.Core.Path.{refl}
 use native.Mathlib.Omega.{arith}
 use lib.ListN.{length, length-set}
 use Rattle.ledger.specs.Lines.{digits_of}
-use Rattle.ledger.specs.Theorems.Lines.{length_digits}
+use Rattle.ledger.proofs.Theorems.Lines.{length_digits}
 use Rattle.line.proofs.Front.{front_end}
 use Rattle.line.proofs.Digits.{digits_turn}
 use Rattle.line.proofs.writing.put_digits.Goals as goal

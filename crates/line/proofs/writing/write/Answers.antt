@@ -4,7 +4,7 @@ use Prim.Native.Nat.{◌*◌}
 use native.Mathlib.Omega.{arith}
 use lib.ListN.{length}
 use Rattle.ledger.specs.Lines.{digits_of, line_of, write_line}
-use Rattle.ledger.specs.Theorems.Lines.{length_digits}
+use Rattle.ledger.proofs.Theorems.Lines.{length_digits}
 use Rattle.line.proofs.Digits.{long_frame, short_frame}
 use Rattle.line.proofs.Giving.{gives_1, gives_11, gives_result}
 use Rattle.line.proofs.writing.write.Goals as goal

@@ -1,0 +1,6 @@
+-- `nobody_asks` goes by the first test.
+use borrow.Author.Rules.{rules}
+use Rattle.command.proofs.input.nobody_asks.Goals as goal
+
+pub returns-then-service : goal.returns-then-service
+returns-then-service c = rw c.if-service.true

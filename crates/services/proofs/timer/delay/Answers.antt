@@ -1,0 +1,9 @@
+-- `delay` starts the timer, then waits for its task.
+use Rattle.ledger.specs.Services as ledger
+use borrow.Author.Rules.{rules}
+use Rattle.services.proofs.timer.delay.Goals as goal
+
+pub returns : goal.returns
+returns c =
+    let a = c.args in
+    λ v ev ep tidy g L z l h. c.wait_for.ensures tidy g (ledger.start_timer a.a a.b v L) z _ (c.start.ensures v ev ep tidy g L a.tables.now z l h)
