@@ -1,7 +1,7 @@
--- The walk's table is what it should be before the first timer, with one more, and after the last one (specs/Collected).
+-- The walk's table is what it should be before the first timer, with one more, and after the last one (proofs/Collected).
 use Rattle.std.proofs.Common.{◌-◌, ◌<◌, sym, subst}
 use Rattle.starts.specs.declared.table.Table.{Table}
-use Rattle.starts.specs.Collected.{Collected, collects, turns, falls, searchable, ends}
+use Rattle.starts.proofs.Collected.{Collected, collects, turns, falls, searchable, ends}
 use Rattle.starts.proofs.free_start.Goals as goal
 
 pub loop-t-init : goal.loop-t-init

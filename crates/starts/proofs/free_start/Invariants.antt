@@ -1,6 +1,6 @@
--- The invariant: the table is what it should be before the timer at, and the walk's end comes nearer.
+-- The invariant: the table is what it should be before the timer at.
 use Rattle.std.proofs.Common.{◌-◌}
-use Rattle.starts.specs.Collected.{Collected}
+use Rattle.starts.proofs.Collected.{Collected}
 use Rattle.starts.proofs.free_start.Given as goal
 
 abbrev pub invariant-loop-t : goal.invariant-loop-t
