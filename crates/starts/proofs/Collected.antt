@@ -10,10 +10,11 @@ use Rattle.starts.specs.Starts.{timer_at, cycle, Taken, most_cycles, InRange, Va
 use Rattle.starts.specs.Decided.{Decides}
 use Rattle.starts.specs.Least.{Least, least_iff}
 use Rattle.starts.specs.Divisor.{Gcd, gcd_of, gcd_of_lem, gcd_pos}
-use Rattle.starts.specs.Collisions.{collide_rests}
+use Rattle.starts.proofs.Collisions.{collide_rests}
 use Rattle.starts.specs.Enough.{enough_starts}
-use Rattle.starts.specs.Theorems.{all_taken}
-use Rattle.starts.specs.Computed.{in_range, range_decides, enough}
+use Rattle.starts.proofs.Theorems.{all_taken}
+use Rattle.starts.specs.Computed.{in_range}
+use Rattle.starts.proofs.Computed.{range_decides, enough}
 use Rattle.starts.specs.Table.{empty_of, before_of, Ready, with_timer, turn_of, Hit, Searchable, tried_of, Searched}
 
 -- a divisor and a rest are those of a timer beside a new one of period p
