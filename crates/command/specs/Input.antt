@@ -1,5 +1,5 @@
 -- The numbers that the frame and the number of the running task give: the program's checks are the ledger's list, part by part.
-use Rattle.std.specs.Prelude.{ℕ, ◌+◌, ◌-◌, ◌≤◌, ◌≡◌, refl, Bool, true, false, not, ◌&&◌, eqb, length, drop}
+use Rattle.std.specs.Prelude.{ℕ, ◌-◌, ◌≤◌, ◌≡◌, refl, Bool, true, false, not, ◌&&◌, eqb, length, drop}
 use Rattle.std.proofs.Math.Path.{sym}
 use Rattle.std.proofs.Common.{ap, ◌∙◌, subst, length-drop, le-ltb, le-leb, eqb-true}
 use mathlib.Core.List.{List, [], ◌∷◌, ◌++◌}

@@ -8,8 +8,7 @@ use configuration::limits::{brake_module, controller};
 use parts::FRAME_AT;
 
 // Configures the ride controller.
-#[unsafe(no_mangle)]
-pub extern "C" fn mcx11_configure_blocks(
+pub fn mcx11_configure_blocks(
     frame: &[u8],
     config: &mut [u8],
     tables: &mut [u8],
@@ -24,8 +23,7 @@ pub extern "C" fn mcx11_configure_blocks(
 }
 
 // Carries out a frame on the ride controller.
-#[unsafe(no_mangle)]
-pub extern "C" fn mcx11_frame_blocks(
+pub fn mcx11_frame_blocks(
     frame: &[u8],
     config: &[u8],
     tables: &mut [u8],
@@ -54,8 +52,7 @@ pub extern "C" fn mcx11_frame_blocks(
 }
 
 // Configures the brake module.
-#[unsafe(no_mangle)]
-pub extern "C" fn mcx11_module_configure_blocks(
+pub fn mcx11_module_configure_blocks(
     frame: &[u8],
     config: &mut [u8],
     tables: &mut [u8],
@@ -70,8 +67,7 @@ pub extern "C" fn mcx11_module_configure_blocks(
 }
 
 // Carries out a frame on the brake module.
-#[unsafe(no_mangle)]
-pub extern "C" fn mcx11_module_frame_blocks(
+pub fn mcx11_module_frame_blocks(
     frame: &[u8],
     config: &[u8],
     tables: &mut [u8],

@@ -41,24 +41,21 @@ fn returned(w: Written) -> i32
 }
 
 // Reads a line of digits into the front of frame.
-#[unsafe(no_mangle)]
-pub extern "C" fn mcx11_read_line(line: &[u8], frame: &mut [u8]) -> i32
+pub fn mcx11_read_line(line: &[u8], frame: &mut [u8]) -> i32
     ensures { Returns (lines.read_line (length frame.old) line.now) frame.old frame.new result }
 {
     returned(line::read(line, frame))
 }
 
 // Writes a frame's digits into the front of line.
-#[unsafe(no_mangle)]
-pub extern "C" fn mcx11_write_line(frame: &[u8], line: &mut [u8]) -> i32
+pub fn mcx11_write_line(frame: &[u8], line: &mut [u8]) -> i32
     ensures { Returns (lines.write_line (length line.old) frame.now) line.old line.new result }
 {
     returned(line::write(frame, line))
 }
 
 // Milliseconds as tocks of per milliseconds each.
-#[unsafe(no_mangle)]
-pub extern "C" fn mcx11_milliseconds(ms: u16, per: u16) -> i32
+pub fn mcx11_milliseconds(ms: u16, per: u16) -> i32
     ensures { result ≡ returned_tocks (time.milliseconds ms per) }
 {
     match tocks::milliseconds(ms, per) {
@@ -67,10 +64,8 @@ pub extern "C" fn mcx11_milliseconds(ms: u16, per: u16) -> i32
     }
 }
 
-// The busiest stretch of w records: 0 with its sum and its place, or the number that refuses the call. Proved by hand, since the list is
-// of structs.
-#[unsafe(no_mangle)]
-pub extern "C" fn mcx11_busiest(
+// The busiest stretch of w records: 0 with its sum and its place, or the number that refuses the call.
+pub fn mcx11_busiest(
     records: &[Record],
     w: usize,
     sum: &mut u32,
@@ -83,8 +78,7 @@ pub extern "C" fn mcx11_busiest(
 
 // A start for a new timer of the period that collides with none of the timers: 0 with the smallest, or that there is none, or the number
 // that refuses the call. Proved by hand, since the list is of structs.
-#[unsafe(no_mangle)]
-pub extern "C" fn mcx11_free_start(timers: &[Cycle], period: u32, start: &mut u32) -> u8
+pub fn mcx11_free_start(timers: &[Cycle], period: u32, start: &mut u32) -> u8
     ensures { Leaves timers.now period start.old start.new result }
 {
     starts::give(starts::free_start(timers, period), start)

@@ -1,6 +1,6 @@
 // A start that never collides, document 02's W11: beside up to eight cyclic timers the smallest start for a new one of a given period.
 // Promises: the answer is the one asked for (specs/Starts: no tock is in a given row and in the new one, which have no end), for every call.
-// Rests on nothing but the kit. The walk over the list is proved by hand; what it calls at each timer is in table.rt.
+// Rests on nothing but the kit. What the walk over the list calls at each timer is in table.rt.
 #![tactic(auto)]
 
 pub mod divisor;

@@ -15,7 +15,7 @@ pub const MOST_CYCLES: usize = 8;
 // The longest period, in tocks.
 pub const LONGEST_CYCLE: u32 = 32768;
 
-// Eight timers that take so many starts side by side take all (specs/Enough).
+// Eight timers that take so many starts side by side take all (proofs/Enough).
 pub const ENOUGH: u32 = 256;
 
 // The table before the timer at; upto is where the list ends. The period is the new timer's, or 0 where the call is refused.

@@ -5,7 +5,6 @@ use Rattle.ledger.specs.Config.{config_in}
 use Rattle.ledger.proofs.Theorems.Accepted.{good}
 use Rattle.command.specs.Configured.{of, fits}
 use Rattle.command.specs.Refused.{row_is, by_input, by_state, task_is, semaphore_is, owner_of, waits_of, means}
-use borrow.Author.Rules.{rules}
 use Rattle.command.proofs.checked.Goals as goal
 
 pub row-u-requires : goal.row-u-requires

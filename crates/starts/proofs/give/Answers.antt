@@ -2,7 +2,6 @@
 use mathlib.Core.Path.{refl, sym, subst}
 use Rattle.starts.specs.declared.Free.{Free}
 use Rattle.starts.specs.Starts.{no_start, Gives}
-use borrow.Author.Rules.{rules}
 use Rattle.starts.proofs.give.Goals as goal
 
 pub returns-in-Start : goal.returns-in-Start

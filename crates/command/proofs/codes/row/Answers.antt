@@ -2,7 +2,6 @@
 use Rattle.ledger.specs.Lists.{at}
 use Rattle.ledger.specs.Refusals.{fields, code_at}
 use Rattle.command.specs.Codes.{row_of, last_code}
-use borrow.Author.Rules.{rules}
 use Rattle.command.proofs.codes.row.Goals as goal
 
 pub returns-in-1 : goal.returns-in-1
@@ -75,4 +74,4 @@ returns-in-17 c = row_of _ 17 c.uses-in-17.ensures c.in-17.is
 
 pub returns-in_default : goal.returns-in_default
 unfolding fields code_at at
-returns-in_default c = let o = c.requires in let r = c.in_default.rest in row_of _ 18 c.uses-in_default.ensures (last_code _ o.0 o.1 r.0.0.0.0.0.0.0.0.0.0.0.0.0.0.0.0.1 r.0.0.0.0.0.0.0.0.0.0.0.0.0.0.0.1 r.0.0.0.0.0.0.0.0.0.0.0.0.0.0.1 r.0.0.0.0.0.0.0.0.0.0.0.0.0.1 r.0.0.0.0.0.0.0.0.0.0.0.0.1 r.0.0.0.0.0.0.0.0.0.0.0.1 r.0.0.0.0.0.0.0.0.0.0.1 r.0.0.0.0.0.0.0.0.0.1 r.0.0.0.0.0.0.0.0.1 r.0.0.0.0.0.0.0.1 r.0.0.0.0.0.0.1 r.0.0.0.0.0.1 r.0.0.0.0.1 r.0.0.0.1 r.0.0.1 r.0.1 r.1)
+returns-in_default c = let o = c.requires in let r = c.in_default.in_default-own.rest in row_of _ 18 c.uses-in_default.ensures (last_code _ o.0 o.1 r.0.0.0.0.0.0.0.0.0.0.0.0.0.0.0.0.1 r.0.0.0.0.0.0.0.0.0.0.0.0.0.0.0.1 r.0.0.0.0.0.0.0.0.0.0.0.0.0.0.1 r.0.0.0.0.0.0.0.0.0.0.0.0.0.1 r.0.0.0.0.0.0.0.0.0.0.0.0.1 r.0.0.0.0.0.0.0.0.0.0.0.1 r.0.0.0.0.0.0.0.0.0.0.1 r.0.0.0.0.0.0.0.0.0.1 r.0.0.0.0.0.0.0.0.1 r.0.0.0.0.0.0.0.1 r.0.0.0.0.0.0.1 r.0.0.0.0.0.1 r.0.0.0.0.1 r.0.0.0.1 r.0.0.1 r.0.1 r.1)

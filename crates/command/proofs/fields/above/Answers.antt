@@ -2,7 +2,6 @@
 use Prim.Native.Nat.{◌+◌}
 use native.Mathlib.Omega.{arith}
 use Rattle.command.specs.Numbers.{above, named_few}
-use borrow.Author.Rules.{rules}
 use Rattle.command.proofs.fields.above.Goals as goal
 
 pub overflow_add-result : goal.overflow_add-result

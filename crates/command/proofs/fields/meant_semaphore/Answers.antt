@@ -7,7 +7,6 @@ use Rattle.ledger.specs.Refusals.{meant_semaphore}
 use Rattle.command.specs.declared.codes.FieldB.{FieldB}
 use Rattle.command.specs.Codes.{view_b}
 use Rattle.command.specs.Table.{Owner}
-use borrow.Author.Rules.{rules}
 use Rattle.command.proofs.fields.meant_semaphore.Goals as goal
 
 pub or_own-requires-in-OfTask : goal.or_own-requires-in-OfTask

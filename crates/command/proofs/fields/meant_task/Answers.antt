@@ -1,6 +1,5 @@
 -- `meant_task` is the ledger's, case by case.
 use Rattle.ledger.specs.Refusals.{meant_task}
-use borrow.Author.Rules.{rules}
 use Rattle.command.proofs.fields.meant_task.Goals as goal
 
 pub returns-in-Unused : goal.returns-in-Unused

@@ -4,7 +4,6 @@ use mathlib.Core.Bool.{true, false, not}
 use Rattle.ledger.specs.Lists.{within}
 use Rattle.ledger.specs.Refusals.{wrong_task}
 use Rattle.command.specs.Numbers.{task_outside}
-use borrow.Author.Rules.{rules}
 use Rattle.command.proofs.fields.not_another.Goals as goal
 
 pub returns-then-outside : goal.returns-then-outside

@@ -2,7 +2,6 @@
 use native.Mathlib.Omega.{arith}
 use borrow.Author.Tests.{eq-eqb, ne_eqb}
 use Rattle.command.specs.Numbers.{owned}
-use borrow.Author.Rules.{rules}
 use Rattle.command.proofs.fields.or_own.Goals as goal
 
 pub overflow_add-result : goal.overflow_add-result

@@ -7,7 +7,6 @@ use Rattle.ledger.specs.Refusals.{value_x, wrong_length}
 use Rattle.command.specs.declared.codes.Follows.{Follows}
 use Rattle.command.specs.Codes.{view_follows}
 use Rattle.command.specs.Input.{long_enough}
-use borrow.Author.Rules.{rules}
 use Rattle.command.proofs.fields.value.Goals as goal
 
 pub bounds-frame-5 : goal.bounds-frame-5

@@ -1,6 +1,5 @@
 -- `wrong_length` is the ledger's, case by case.
 use Rattle.ledger.specs.Refusals.{wrong_length}
-use borrow.Author.Rules.{rules}
 use Rattle.command.proofs.fields.wrong_length.Goals as goal
 
 pub returns-in-X : goal.returns-in-X

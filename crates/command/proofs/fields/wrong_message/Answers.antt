@@ -3,7 +3,6 @@ use mathlib.Core.List.{[]}
 use mathlib.Core.Path.{sym, ◌∙◌}
 use Rattle.ledger.specs.Lists.{first}
 use Rattle.command.specs.Numbers.{here, next, message_outside}
-use borrow.Author.Rules.{rules}
 use Rattle.command.proofs.fields.wrong_message.Goals as goal
 
 pub returns-then-outside : goal.returns-then-outside

@@ -1,7 +1,6 @@
 -- `wrong_queue` is the ledger's, case by case.
 use Rattle.ledger.specs.Refusals.{wrong_queue}
 use Rattle.command.specs.Numbers.{queue_outside}
-use borrow.Author.Rules.{rules}
 use Rattle.command.proofs.fields.wrong_queue.Goals as goal
 
 pub returns-in-Unused : goal.returns-in-Unused

@@ -1,7 +1,6 @@
 -- `wrong_semaphore` is the ledger's, case by case.
 use Rattle.ledger.specs.Refusals.{wrong_semaphore}
 use Rattle.command.specs.Numbers.{semaphore_above}
-use borrow.Author.Rules.{rules}
 use Rattle.command.proofs.fields.wrong_semaphore.Goals as goal
 
 pub returns-in-Unused : goal.returns-in-Unused

@@ -1,7 +1,6 @@
 -- `wrong_task` is the ledger's, case by case.
 use Rattle.ledger.specs.Refusals.{wrong_task}
 use Rattle.command.specs.Numbers.{task_outside, task_above}
-use borrow.Author.Rules.{rules}
 use Rattle.command.proofs.fields.wrong_task.Goals as goal
 
 pub returns-in-Unused : goal.returns-in-Unused

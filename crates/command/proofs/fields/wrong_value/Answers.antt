@@ -1,7 +1,6 @@
 -- `wrong_value`: the kind of X decides which of the two checks there is.
 use Rattle.ledger.specs.Lists.{first}
 use Rattle.ledger.specs.Refusals.{is_message, is_tock_value}
-use borrow.Author.Rules.{rules}
 use Rattle.command.proofs.fields.wrong_value.Goals as goal
 
 pub returns-in-Unused : goal.returns-in-Unused

@@ -2,7 +2,6 @@
 use native.Mathlib.Omega.{arith}
 use mathlib.Core.Path.{ap, ◌∙◌}
 use mathlib.Core.List.{List}
-use borrow.Author.Rules.{rules}
 use Rattle.ledger.specs.Lists.{any}
 use Rattle.ledger.specs.Config.{Pair, config_in}
 use Rattle.ledger.specs.Refusals.{holds_back, meets26}

@@ -1,6 +1,5 @@
 -- The pair is another task's, or its first is no task, or the first's idle block decides.
 use mathlib.Core.Path.{sym, ◌∙◌}
-use borrow.Author.Rules.{rules}
 use Rattle.command.specs.State.{idle_told}
 use Rattle.command.specs.Firsts.{of_another, of_nobody, of_first, one_of}
 use Rattle.command.proofs.firsts.holds_back.Goals as goal

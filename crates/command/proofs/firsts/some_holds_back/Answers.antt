@@ -1,14 +1,8 @@
 -- What is left to look at is the pairs from k on.
-use Prim.Native.Nat.{ℕ, ◌-◌, ◌*◌, ◌≤◌}
 use native.Mathlib.Omega.{arith}
-use mathlib.Core.Path.{◌≡◌, refl, sym, ◌∙◌}
-use mathlib.Core.List.{List}
-use lib.ListN.{drop}
-use Rattle.ledger.specs.Lists.{any}
-use Rattle.ledger.specs.Config.{Config, pair_of, pairs_in}
-use Rattle.ledger.specs.Ledger.{Ledger}
+use mathlib.Core.Path.{refl, sym, ◌∙◌}
+use Rattle.ledger.specs.Config.{pair_of}
 use Rattle.ledger.specs.Refusals.{holds_back}
-use Rattle.tables.specs.Shows.{Shows}
 use Rattle.ledger.proofs.Theorems.Twos.{any_next, any_found, any_over}
 use Rattle.command.proofs.firsts.some_holds_back.Goals as goal
 

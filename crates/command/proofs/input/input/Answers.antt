@@ -3,7 +3,6 @@ use mathlib.Core.Path.{sym, ◌∙◌}
 use Rattle.ledger.specs.Config.{config_in}
 use Rattle.command.specs.Configured.{of, fits}
 use Rattle.command.specs.Input.{input_long, input_nobody, input_fields, input_entry_in, input_entry, input_passes}
-use borrow.Author.Rules.{rules}
 use Rattle.command.proofs.input.input.Goals as goal
 
 pub returns-then-wrong_length : goal.returns-then-wrong_length

@@ -1,5 +1,4 @@
 -- `nobody_asks` goes by the first test.
-use borrow.Author.Rules.{rules}
 use Rattle.command.proofs.input.nobody_asks.Goals as goal
 
 pub returns-then-service : goal.returns-then-service

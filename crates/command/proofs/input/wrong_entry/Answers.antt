@@ -8,7 +8,6 @@ use Rattle.command.specs.Codes.{view_follows}
 use Rattle.command.specs.Configured.{bytes, of}
 use Rattle.command.specs.Table.{EntryIn}
 use Rattle.command.specs.Input.{entry_told}
-use borrow.Author.Rules.{rules}
 use Rattle.command.proofs.input.wrong_entry.Goals as goal
 
 pub ring_of-ring-requires : goal.ring_of-ring-requires

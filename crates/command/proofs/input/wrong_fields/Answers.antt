@@ -3,7 +3,6 @@ use mathlib.Core.Path.{sym, ◌∙◌}
 use Rattle.command.specs.Numbers.{here, next}
 use Rattle.command.specs.Input.{value_told}
 use Rattle.command.specs.Codes.{view_x, view_follows}
-use borrow.Author.Rules.{rules}
 use Rattle.command.proofs.input.wrong_fields.Goals as goal
 
 pub returns-then-wrong_task : goal.returns-then-wrong_task

@@ -4,7 +4,6 @@ use Rattle.ledger.specs.Refusals.{meets25}
 use Rattle.command.specs.declared.codes.Waits.{Waits}
 use Rattle.command.specs.Codes.{view_waits}
 use Rattle.command.specs.Table.{WaitsIn}
-use borrow.Author.Rules.{rules}
 use Rattle.command.proofs.state.busy.Goals as goal
 
 pub idle_or_waiting-requires : goal.idle_or_waiting-requires

@@ -1,6 +1,5 @@
 -- `idle_or_waiting` goes through the ledger's three blocks, as the task has them.
 use Rattle.command.specs.State.{blocks_told}
-use borrow.Author.Rules.{rules}
 use Rattle.command.proofs.state.idle_or_waiting.Goals as goal
 
 pub returns-then-blocks : goal.returns-then-blocks

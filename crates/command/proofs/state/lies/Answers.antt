@@ -1,6 +1,5 @@
 -- `lies`: only a message can lie in a mailbox.
 use Rattle.ledger.specs.Refusals.{is_message}
-use borrow.Author.Rules.{rules}
 use Rattle.command.proofs.state.lies.Goals as goal
 
 pub returns-in-Unused : goal.returns-in-Unused

@@ -10,7 +10,6 @@ use Rattle.command.specs.Configured.{bytes, of}
 use Rattle.command.specs.declared.codes.Waits.{Waits}
 use Rattle.command.specs.Codes.{view_waits}
 use Rattle.command.specs.Table.{WaitsIn}
-use borrow.Author.Rules.{rules}
 use Rattle.command.proofs.state.meets21.Goals as goal
 
 pub is_waiting-requires : goal.is_waiting-requires

@@ -1,7 +1,6 @@
 -- `no_timer`: only a tock value asks for a timer.
 use Rattle.ledger.specs.Lists.{first}
 use Rattle.ledger.specs.Refusals.{is_tock_value}
-use borrow.Author.Rules.{rules}
 use Rattle.command.proofs.state.no_timer.Goals as goal
 
 pub returns-in-Unused : goal.returns-in-Unused

@@ -4,7 +4,6 @@ use Rattle.ledger.specs.Refusals.{from_state}
 use Rattle.ledger.specs.Config.{config_in}
 use Rattle.command.specs.Numbers.{here, next}
 use Rattle.command.specs.State.{is_25, is_26, is_22, is_21, is_24}
-use borrow.Author.Rules.{rules}
 use Rattle.command.proofs.state.state.Goals as goal
 
 pub returns-then-busy : goal.returns-then-busy

@@ -7,7 +7,6 @@ use borrow.Author.Tests.{le-leb, lt-leb}
 use lib.ListN.{length}
 use Rattle.ledger.specs.Lists.{first, ◌⇒◌}
 use Rattle.command.specs.Numbers.{here, next}
-use borrow.Author.Rules.{rules}
 use Rattle.command.proofs.state.timer_refused.Goals as goal
 
 pub returns-then-has : goal.returns-then-has

@@ -1,10 +1,8 @@
 -- `drop_messages` drops one message a turn: to drop the rest comes to the same as to drop all, until the mailbox is empty or as many turns are done as there are messages.
 use native.Mathlib.Omega.{arith}
-use mathlib.Core.Path.{◌≡◌, refl}
-use borrow.Author.Tests.{not-true, not-false}
-use lib.ListN.{length}
+use mathlib.Core.Path.{refl}
 use Rattle.tables.specs.Layout.{still_fits}
-use Rattle.services.specs.Dropped.{Dropping, none_dropped, one_dropped, all_dropped, all_counted}
+use Rattle.services.specs.Dropped.{none_dropped, one_dropped, all_dropped, all_counted}
 use Rattle.services.proofs.message.drop_messages.Goals as goal
 
 pub loop-left-init : goal.loop-left-init
@@ -21,7 +19,7 @@ returns-then-not-drop_first c =
     let a = c.args in
     let l = c.loop-left in
     let f = c.drop_first in
-    all_dropped a.shape a.t a.tables.now l.tables l.left l.invariant.1 f.new.tables f.result f.ensures (not-true f.result c.if-not-drop_first.true)
+    all_dropped a.shape a.t a.tables.now l.tables l.left l.invariant.1 f.new.tables f.result (f.ensures.does, f.ensures.tells) c.if-not-drop_first.true
 
 pub overflow_sub-left : goal.overflow_sub-left
 overflow_sub-left c = omega arith
@@ -34,7 +32,7 @@ loop-left-preserved c =
     let a = c.args in
     let l = c.loop-left in
     let f = c.drop_first in
-    (omega arith, one_dropped a.shape a.t a.tables.now l.tables l.left l.invariant.1 f.new.tables f.result f.ensures (not-false f.result c.if-not-drop_first.false))
+    (omega arith, one_dropped a.shape a.t a.tables.now l.tables l.left l.invariant.1 f.new.tables f.result (f.ensures.does, f.ensures.tells) c.if-not-drop_first.false)
 
 pub shape_of-tables : goal.shape_of-tables
 shape_of-tables c = omega arith

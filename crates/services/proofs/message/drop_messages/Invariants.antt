@@ -1,10 +1,7 @@
 -- `drop_messages` drops one message a turn: to drop the rest comes to the same as to drop all, until the mailbox is empty or as many turns are done as there are messages.
-use native.Mathlib.Omega.{arith}
-use mathlib.Core.Path.{◌≡◌, refl}
-use borrow.Author.Tests.{not-true, not-false}
+use mathlib.Core.Path.{◌≡◌}
 use lib.ListN.{length}
-use Rattle.tables.specs.Layout.{still_fits}
-use Rattle.services.specs.Dropped.{Dropping, none_dropped, one_dropped, all_dropped, all_counted}
+use Rattle.services.specs.Dropped.{Dropping}
 use Rattle.services.proofs.message.drop_messages.Given as goal
 
 abbrev pub invariant-loop-left : goal.invariant-loop-left

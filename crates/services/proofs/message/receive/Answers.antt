@@ -3,7 +3,6 @@ use native.Mathlib.Omega.{arith}
 use Rattle.tables.specs.Layout.{still_fits}
 use Rattle.tables.specs.Decode.{view_outcome, view_request}
 use Rattle.services.specs.Messages.{received_none, received_one}
-use borrow.Author.Rules.{rules}
 use Rattle.services.proofs.message.receive.Goals as goal
 
 pub set-requires : goal.set-requires
@@ -19,10 +18,10 @@ pub returns-in-Nothing : goal.returns-in-Nothing
 unfolding view_request
 returns-in-Nothing c =
     let a = c.args in
-    λ tidy g L z w h. received_none g a.shape L a.tables.now z w h a.t a.from _ c.in-Nothing.is c.take-r.ensures c.set.ensures c.store_request.ensures
+    λ tidy g L z w h. received_none g a.shape L a.tables.now z w h a.t a.from _ c.in-Nothing.is (c.take-r.ensures.tells, c.take-r.ensures.does) c.set.ensures c.store_request.ensures
 
 pub returns-in-Message : goal.returns-in-Message
 unfolding view_outcome
 returns-in-Message c =
     let a = c.args in
-    λ tidy g L z w h. received_one g a.shape L a.tables.now z w h a.t a.from _ _ _ _ c.in-Message.is c.take-r.ensures c.store_outcome.ensures.does
+    λ tidy g L z w h. received_one g a.shape L a.tables.now z w h a.t a.from _ _ _ _ c.in-Message.is (c.take-r.ensures.tells, c.take-r.ensures.does) c.store_outcome.ensures.does

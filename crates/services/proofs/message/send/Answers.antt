@@ -6,7 +6,6 @@ use Rattle.tables.specs.Decode.{view_outcome}
 use Rattle.ledger.specs.Lists.{insert_by}
 use Rattle.ledger.specs.Ledger.{Message, mailbox, set_mailbox, set_message_wait}
 use Rattle.ledger.specs.Services as ledger
-use borrow.Author.Rules.{rules}
 use Rattle.services.proofs.message.send.Goals as goal
 
 pub set-requires : goal.set-requires

@@ -2,7 +2,6 @@
 use native.Mathlib.Omega.{arith}
 use Rattle.tables.specs.Layout.{still_fits}
 use Rattle.ledger.specs.Services as ledger
-use borrow.Author.Rules.{rules}
 use Rattle.services.proofs.message.sendw.Goals as goal
 
 pub wait_for-requires : goal.wait_for-requires

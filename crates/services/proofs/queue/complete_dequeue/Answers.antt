@@ -2,7 +2,6 @@
 use native.Mathlib.Omega.{arith}
 use Rattle.tables.specs.Layout.{still_fits, fits_end}
 use Rattle.services.specs.Queues.{dequeue_completes}
-use borrow.Author.Rules.{rules}
 use Rattle.services.proofs.queue.complete_dequeue.Goals as goal
 
 pub not_full-full-requires : goal.not_full-full-requires

@@ -3,7 +3,6 @@ use native.Mathlib.Omega.{arith}
 use Rattle.tables.specs.Layout.{still_fits, fits_end}
 use Rattle.queues.specs.Waits.{room_is}
 use Rattle.services.specs.Queues.{enqueue_completes}
-use borrow.Author.Rules.{rules}
 use Rattle.services.proofs.queue.complete_enqueue.Goals as goal
 
 pub not_full-full-requires : goal.not_full-full-requires

@@ -1,6 +1,5 @@
 -- `dequeue` waits where the queue holds nothing, and completes where it holds something.
 use Rattle.queues.specs.Waits.{holds_none, holds_some}
-use borrow.Author.Rules.{rules}
 use Rattle.services.proofs.queue.dequeue.Goals as goal
 
 pub returns-then-count-eq0 : goal.returns-then-count-eq0

@@ -2,7 +2,6 @@
 use mathlib.Core.Path.{ap, ◌∙◌}
 use Rattle.queues.specs.Rings.{width_is}
 use Rattle.queues.specs.Waits.{is_full, room_left}
-use borrow.Author.Rules.{rules}
 use Rattle.services.proofs.queue.enqueue.Goals as goal
 
 pub returns-then-count-ring : goal.returns-then-count-ring

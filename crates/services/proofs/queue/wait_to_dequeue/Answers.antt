@@ -3,7 +3,6 @@ use native.Mathlib.Omega.{arith}
 use Rattle.tables.specs.Layout.{still_fits, fits_end}
 use Rattle.tables.specs.Decode.{view_request}
 use Rattle.services.specs.Queues.{dequeue_waits}
-use borrow.Author.Rules.{rules}
 use Rattle.services.proofs.queue.wait_to_dequeue.Goals as goal
 
 pub not_full-full-requires : goal.not_full-full-requires

@@ -2,7 +2,6 @@
 use native.Mathlib.Omega.{arith}
 use Rattle.tables.specs.Layout.{still_fits, fits_end}
 use Rattle.services.specs.Queues.{enqueue_waits}
-use borrow.Author.Rules.{rules}
 use Rattle.services.proofs.queue.wait_to_enqueue.Goals as goal
 
 pub not_full-full-requires : goal.not_full-full-requires

@@ -1,6 +1,5 @@
 -- `signal` signals nothing where the number names no semaphore.
 use Rattle.services.specs.Semaphores.{none_signalled, past_signalled}
-use borrow.Author.Rules.{rules}
 use Rattle.services.proofs.semaphore.signal.Goals as goal
 
 pub returns-then-b-eq0 : goal.returns-then-b-eq0

@@ -3,7 +3,6 @@ use native.Mathlib.Omega.{arith}
 use Rattle.tables.specs.Layout.{still_fits}
 use Rattle.tables.specs.Decode.{view_outcome}
 use Rattle.services.specs.Semaphores.{signal_shown}
-use borrow.Author.Rules.{rules}
 use Rattle.services.proofs.semaphore.signal_by.Goals as goal
 
 pub store_outcome-requires : goal.store_outcome-requires

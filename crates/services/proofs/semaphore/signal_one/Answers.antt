@@ -6,7 +6,6 @@ use Rattle.tables.specs.Decode.{view_semaphore}
 use Rattle.ledger.specs.Ledger.{set_semaphore, PENDING}
 use Rattle.ledger.specs.Services.{signalled}
 use Rattle.services.specs.Semaphores.{waiter, signal_arm, signal_told}
-use borrow.Author.Rules.{rules}
 use Rattle.services.proofs.semaphore.signal_one.Goals as goal
 
 pub set-requires : goal.set-requires
@@ -30,5 +29,8 @@ pub returns-in-Waiting : goal.returns-in-Waiting
 unfolding signalled view_semaphore
 returns-in-Waiting c = let a = c.args in
     let l = c.load-s in
-    let m = c.in-Waiting.is in record { does = signal_arm a.shape a.tables.now a.b _ _ l.ensures.tells m
-          (λ tidy g L z w h. c.set.ensures tidy g (set_semaphore a.b PENDING L) z w (c.store-in-Waiting.ensures tidy g L z w h)); tells = signal_told a.shape a.tables.now a.b _ _ l.ensures.tells m _ (λ L. refl) }
+    let m = c.in-Waiting.is in record {
+      does = signal_arm a.shape a.tables.now a.b _ _ l.ensures.tells m
+          (λ tidy g L z w h. c.set.ensures tidy g (set_semaphore a.b PENDING L) z w (c.store-in-Waiting.ensures tidy g L z w h));
+      tells = signal_told a.shape a.tables.now a.b _ _ l.ensures.tells m _ (λ L. refl);
+    }

@@ -4,7 +4,6 @@ use Rattle.tables.specs.Layout.{still_fits}
 use Rattle.tables.specs.Decode.{view_outcome}
 use Rattle.ledger.specs.Ledger.{semaphore_of}
 use Rattle.ledger.specs.Services as ledger
-use borrow.Author.Rules.{rules}
 use Rattle.services.proofs.semaphore.wait.Goals as goal
 
 pub store_outcome-requires : goal.store_outcome-requires

@@ -4,7 +4,6 @@ use Rattle.tables.specs.Layout.{still_fits}
 use Rattle.tables.specs.Decode.{view_semaphore}
 use Rattle.ledger.specs.Ledger.{set_semaphore, WAITING}
 use Rattle.ledger.specs.Services.{wait_for}
-use borrow.Author.Rules.{rules}
 use Rattle.services.proofs.semaphore.wait_for.Goals as goal
 
 pub set-requires : goal.set-requires

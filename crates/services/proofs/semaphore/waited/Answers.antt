@@ -2,7 +2,6 @@
 use Rattle.tables.specs.Decode.{view_semaphore}
 use Rattle.ledger.specs.Services.{waited}
 use Rattle.services.specs.Semaphores.{waited_arm}
-use borrow.Author.Rules.{rules}
 use Rattle.services.proofs.semaphore.waited.Goals as goal
 
 pub returns-in-Pending : goal.returns-in-Pending

@@ -2,7 +2,6 @@
 use Rattle.tables.specs.Decode.{view_semaphore}
 use Rattle.ledger.specs.Services.{woken}
 use Rattle.services.specs.Semaphores.{wake_arm}
-use borrow.Author.Rules.{rules}
 use Rattle.services.proofs.semaphore.wake.Goals as goal
 
 pub returns-in-Pending : goal.returns-in-Pending

@@ -4,7 +4,6 @@ use Rattle.tables.specs.Layout.{still_fits}
 use Rattle.tables.specs.Decode.{view_blocks, view_outcome}
 use Rattle.ledger.specs.Ledger.{set_semaphores, task}
 use Rattle.ledger.specs.Services as ledger
-use borrow.Author.Rules.{rules}
 use Rattle.services.proofs.task.execute.Goals as goal
 
 pub set_record-requires : goal.set_record-requires

@@ -4,7 +4,6 @@ use Rattle.tables.specs.Layout.{still_fits}
 use Rattle.tables.specs.Decode.{view_blocks, view_outcome, view_request}
 use Rattle.ledger.specs.Ledger.{task, set_blocks, set_outcome}
 use Rattle.services.specs.Tasks.{record_set}
-use borrow.Author.Rules.{rules}
 use Rattle.services.proofs.task.set_record.Goals as goal
 
 pub store_outcome-requires : goal.store_outcome-requires

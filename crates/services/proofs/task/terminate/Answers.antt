@@ -6,7 +6,6 @@ use Rattle.tables.specs.Decode.{view_blocks, view_outcome}
 use Rattle.clock.specs.Does.{purged}
 use Rattle.ledger.specs.Services as ledger
 use Rattle.services.specs.Tasks.{terminated}
-use borrow.Author.Rules.{rules}
 use Rattle.services.proofs.task.terminate.Goals as goal
 
 pub drop_messages-requires : goal.drop_messages-requires

@@ -1,6 +1,5 @@
 -- `delay` starts the timer, then waits for its task.
 use Rattle.ledger.specs.Services as ledger
-use borrow.Author.Rules.{rules}
 use Rattle.services.proofs.timer.delay.Goals as goal
 
 pub returns : goal.returns

@@ -1,13 +1,9 @@
 -- `tick` advances the clock, then takes each due timer and signals for it: after k turns k of them have been drained.
 use native.Mathlib.Omega.{arith}
-use Prim.Native.Nat.{◌-◌, ◌≤◌}
-use mathlib.Core.Path.{◌≡◌, refl}
-use lib.ListN.{length}
-use borrow.Author.Rules.{rules}
-use Rattle.timers.specs.Timers.{due_in}
+use mathlib.Core.Path.{refl}
 use Rattle.tables.specs.Layout.{still_fits}
-use Rattle.clock.specs.Held.{held_in, still_holds}
-use Rattle.clock.specs.Tocks.{Turned, no_turn, turn_done, ticked}
+use Rattle.clock.specs.Held.{still_holds}
+use Rattle.clock.specs.Tocks.{no_turn, turn_done, ticked}
 use Rattle.services.proofs.timer.tick.Goals as goal
 
 pub loop-k-init : goal.loop-k-init
@@ -35,7 +31,7 @@ loop-k-preserved c =
     let l = c.loop-k in
     let t = c.take_due-b in
     let g = c.signal in
-    (omega arith, omega (arith, t.ensures.fewer, l.invariant.1), omega arith, omega arith, turn_done c.args.shape _ _ l.tables l.timers g.new.tables t.new.timers l.k t.result l.invariant.4 t.ensures.tells.0 t.ensures.tells.1 g.ensures.does)
+    (omega arith, omega (arith, t.ensures.fewer, l.invariant.1), omega arith, omega arith, turn_done c.args.shape _ _ l.tables l.timers g.new.tables t.new.timers l.k t.result l.invariant.4 t.ensures.tells t.ensures.does g.ensures.does)
 
 pub shape_of-tables : goal.shape_of-tables
 shape_of-tables c = omega arith

@@ -1,13 +1,10 @@
 -- `tick` advances the clock, then takes each due timer and signals for it: after k turns k of them have been drained.
-use native.Mathlib.Omega.{arith}
 use Prim.Native.Nat.{◌-◌, ◌≤◌}
-use mathlib.Core.Path.{◌≡◌, refl}
+use mathlib.Core.Path.{◌≡◌}
 use lib.ListN.{length}
-use borrow.Author.Rules.{rules}
 use Rattle.timers.specs.Timers.{due_in}
-use Rattle.tables.specs.Layout.{still_fits}
-use Rattle.clock.specs.Held.{held_in, still_holds}
-use Rattle.clock.specs.Tocks.{Turned, no_turn, turn_done, ticked}
+use Rattle.clock.specs.Held.{held_in}
+use Rattle.clock.specs.Tocks.{Turned}
 use Rattle.services.proofs.timer.tick.Given as goal
 
 abbrev pub invariant-loop-k : goal.invariant-loop-k

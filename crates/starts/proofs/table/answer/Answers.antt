@@ -5,7 +5,6 @@ use native.Mathlib.Nat.{pos_of_ne-zero}
 use native.Mathlib.Omega.{arith}
 use Rattle.starts.specs.Least.{Least}
 use Rattle.starts.specs.Table.{Hit}
-use borrow.Author.Rules.{rules}
 use Rattle.starts.proofs.table.answer.Goals as goal
 
 pub first_free-s-requires : goal.first_free-s-requires

@@ -1,9 +1,7 @@
 -- The invariant: every start before s is hit.
-use Prim.Native.Nat.{ℕ, ◌≤◌, ◌<◌, ◌-◌}
 use native.Mathlib.Omega.{arith}
 use borrow.Author.Count.{below_more}
 use borrow.Author.Rules.{rules}
-use Rattle.starts.specs.Table.{Hit}
 use Rattle.starts.specs.Decided.{holds, fails}
 use Rattle.starts.proofs.table.first_free.Goals as goal
 
