@@ -1,1 +1,3 @@
 pub mod Session
+-- Its functions in the world of a build.
+pub mod Linked

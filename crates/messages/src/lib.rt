@@ -47,7 +47,7 @@ pub struct Search {
 fn is_within(x: u8, top: usize) -> bool
     ensures { result ≡ within 1 top x }
 {
-    std::num::wrapping_sub_usize(x as usize, 1) < top
+    (x as usize).wrapping_sub(1) < top
 }
 
 // Whether record k is for task `to`: its receiver is that number, or is no task, which means task 1.

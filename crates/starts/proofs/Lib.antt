@@ -8,3 +8,5 @@ pub mod Theorems
 pub mod Computed
 -- What holds of the table at each timer.
 pub mod Collected
+-- Its functions in the world of a build.
+pub mod Linked

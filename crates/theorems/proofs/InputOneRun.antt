@@ -5,7 +5,7 @@ use mathlib.Core.List.{List, ◌∷◌}
 use lib.ListN.{length, take}
 use mir.Syntax.{w64}
 use mir.Fields.{get_v}
-use mir.Val.{Val, Vals, vnil, vunit, vbool, vint, vfloat, vptr, vstruct, as_int}
+use mir.Val.{Val, Vals, vnil, vunit, vbool, vint, vfloat, vptr, vstruct, vcode, as_int}
 use prog.Memory as machine
 use prog.Machine.{done as ended}
 use prog.Routine.{step}
@@ -29,6 +29,7 @@ fields_of (vint w k) = vnil
 fields_of (vfloat f x) = vnil
 fields_of (vptr b o) = vnil
 fields_of (vstruct vs) = vs
+fields_of (vcode c) = vnil
 
 number_at : ℕ → Val → ℕ
 number_at k v = as_int zero (get_v (fields_of v) k) (λ _ n. n)

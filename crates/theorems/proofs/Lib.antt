@@ -1,4 +1,6 @@
 pub mod Demand3
+-- the environment in which the functions are run
+pub mod World
 -- the runs of a session
 pub mod OneCall
 pub mod Runs

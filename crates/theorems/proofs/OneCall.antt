@@ -104,7 +104,7 @@ module _ (q : Places) (x : List ℕ) (m : Memory) where
   pub frame_runs : FrameRan q x m controller (environment frame-symbol.name)
   frame_runs =
       let L = frame_slices q x m in
-      runs (environment frame-symbol.name) frame_contract (frame_met.met closed.𝓤 logic₀ model⁺ (𝓡_in environment) frame_wired) L u8 frame_bound (vals_of L) (λ i. refl)
+      runs (environment frame-symbol.name) frame_contract (frame-met.met closed.𝓤 logic₀ model⁺ (𝓡_in environment) frame_wired) L u8 frame_bound (vals_of L) (λ i. refl)
       (λ i. asks_nothing (Enters L u8 i)) (FrameSays q x m controller) (λ i v. id⊢ closed.𝓤 (frame_contract.post (frame_bound i) v))
 
 abbrev pub the_controller : Executive

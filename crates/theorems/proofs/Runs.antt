@@ -151,8 +151,8 @@ module _ (q : Places) (s : Sizes) (rooms : RoomsAt s) (n : ℕ) (small : n < 2 ^
       }
 
   -- the same sizes as before
-  sizes : (ρ : Routine) {σ₀ σ' : machine.Memory} {v : Val} {k : ℕ} → step ρ k (arguments q (lengths_of m) (length f)) σ₀ ≡ ended (v, σ') → step ρ k (arguments q s (length f)) σ₀ ≡ ended (v, σ')
-  sizes ρ {σ₀} {σ'} {v} {k} e = subst (λ (z : Sizes). step ρ k (arguments q z (length f)) σ₀ ≡ ended (v, σ')) sized e
+  sizes : (ρ : Routine) (σ₀ : machine.Memory) (k : ℕ) {σ' : machine.Memory} {v : Val} → step ρ k (arguments q (lengths_of m) (length f)) σ₀ ≡ ended (v, σ') → step ρ k (arguments q s (length f)) σ₀ ≡ ended (v, σ')
+  sizes ρ σ₀ k {σ'} {v} e = subst (λ (z : Sizes). step ρ k (arguments q z (length f)) σ₀ ≡ ended (v, σ')) sized e
 
   module _ (x : Executive) where
     pub configure_called : ∥ Called x.configure q s f (λ m' r. Configures x.limits f m m' r) n σ F ∥₁
@@ -161,7 +161,7 @@ module _ (q : Places) (s : Sizes) (rooms : RoomsAt s) (n : ℕ) (small : n < 2 ^
         ∥∥₁_map (x.configures q f m (room, subst RoomsAt (sym sized) rooms) t.0 (rest ∗ F) t.2) (λ k.
         let m' : Memory = left_by_configure q f m k.last in
         let e : lengths_of m' ≡ s = (λ i. record { config = k.same.1.0 i; tables = k.same.1.1.0 i; slots = k.same.1.1.1.0 i; timers = k.same.1.1.1.1.0 i; answer = k.same.1.1.1.1.1.0 i }) ∙ sized in
-        let stop : Stopped x.configure q s f σ = record { between = t.0; stores = t.1; fuel = k.fuel; value = k.value; last = k.memory; run = sizes x.configure k.run } in
+        let stop : Stopped x.configure q s f σ = record { between = t.0; stores = t.1; fuel = k.fuel; value = k.value; last = k.memory; run = sizes x.configure t.0 k.fuel k.run } in
         called x.configure (λ m' r. Configures x.limits f m m' r) stop m' k.result (ap only k.is.0) (record { sizes = e; loads = k.loads.1; bytes = k.bytes.1 }) k.says k.is.1 k.holds))
 
     pub frame_called : ∥ Called x.frame q s f (λ m' r. Frames x.limits f m m' r) n σ F ∥₁
@@ -170,7 +170,7 @@ module _ (q : Places) (s : Sizes) (rooms : RoomsAt s) (n : ℕ) (small : n < 2 ^
         ∥∥₁_map (x.frames q f m (room, subst RoomsAt (sym sized) rooms) t.0 (rest ∗ F) t.2) (λ k.
         let m' : Memory = left_by_frame q f m k.last in
         let e : lengths_of m' ≡ s = (λ i. record { config = length m.config; tables = k.same.1.1.0 i; slots = k.same.1.1.1.0 i; timers = k.same.1.1.1.1.0 i; answer = k.same.1.1.1.1.1.0 i }) ∙ sized in
-        let stop : Stopped x.frame q s f σ = record { between = t.0; stores = t.1; fuel = k.fuel; value = k.value; last = k.memory; run = sizes x.frame k.run } in
+        let stop : Stopped x.frame q s f σ = record { between = t.0; stores = t.1; fuel = k.fuel; value = k.value; last = k.memory; run = sizes x.frame t.0 k.fuel k.run } in
         called x.frame (λ m' r. Frames x.limits f m m' r) stop m' k.result (ap only k.is.0) (record { sizes = e; loads = k.loads.1; bytes = k.bytes.1 }) k.says k.is.1 k.holds))
 
 -- ---- a list of frames

@@ -16,4 +16,6 @@ wrapped x r top hr ht e = go (ltb r top) refl
         above false f = refl
 
 pub returns : goal.returns
-returns c = wrapped c.args.x c.wrapping_sub_usize.result c.args.top c.wrapping_sub_usize.type_inv c.ranges.top.fits c.wrapping_sub_usize.ensures.value
+returns c =
+    let h : c.args.x < 2 ^ 8 = c.ranges.x.fits in
+    wrapped c.args.x ((c.args.x + 18446744073709551615) % 2 ^ 64) c.args.top (omega arith) c.ranges.top.fits (omega (arith, h))

@@ -1,0 +1,24 @@
+-- The crate's functions in the world of a build, which is what an environment is made of (the kit's prog.Linked): its table of functions, and
+-- that a world with this table has the code of the functions that other crates call, whatever else is in it.
+use prog.Linked.{Tree, World, Holds, in_world}
+use prog.LinkedThreads.{HasT}
+use mathlib.Core.Bool.{true}
+use Rattle.tocks.proofs.TheLink as link
+use Rattle.tocks.proofs.long_tock_value_at.Symbol as long_tock_value_at
+use Rattle.tocks.proofs.milliseconds.Symbol as milliseconds
+use Rattle.tocks.proofs.tock_value_at.Symbol as tock_value_at
+
+pub the_table : Tree
+the_table = link.table
+
+pub long_tock_value_at_linked : (W : World) → Holds W "tocks" the_table → HasT (in_world W) true long_tock_value_at.code
+unfolding the_table
+long_tock_value_at_linked W h = link.linked-tocks::long_tock_value_at W h tt
+
+pub milliseconds_linked : (W : World) → Holds W "tocks" the_table → HasT (in_world W) true milliseconds.code
+unfolding the_table
+milliseconds_linked W h = link.linked-tocks::milliseconds W h tt
+
+pub tock_value_at_linked : (W : World) → Holds W "tocks" the_table → HasT (in_world W) true tock_value_at.code
+unfolding the_table
+tock_value_at_linked W h = link.linked-tocks::tock_value_at W h tt
