@@ -65,12 +65,7 @@ pub fn mcx11_milliseconds(ms: u16, per: u16) -> i32
 }
 
 // The busiest stretch of w records: 0 with its sum and its place, or the number that refuses the call.
-pub fn mcx11_busiest(
-    records: &[Record],
-    w: usize,
-    sum: &mut u32,
-    place: &mut usize,
-) -> u8
+pub fn mcx11_busiest(records: &[Record], w: usize, sum: &mut u32, place: &mut usize) -> u8
     ensures { Gives (busiest_of records.now w) sum.old place.old sum.new place.new result }
 {
     stretch::give(stretch::busiest(records, w), sum, place)
