@@ -1,4 +1,4 @@
-// The exported C functions, thin over the proved crates: the entries of the ride controller and of the brake module, over one executive
+// The exported functions, thin over the proved crates: the entries of the ride controller and of the brake module, over one executive
 // (by_limits), lines and milliseconds, the busiest stretch of a run's records, and a start that never collides.
 // Promises: each result and each byte of a lent buffer is the ledger's, and those of the last two are their definitions', for every
 // argument; no call asks anything of its caller.
@@ -65,19 +65,14 @@ pub fn mcx11_milliseconds(ms: u16, per: u16) -> i32
 }
 
 // The busiest stretch of w records: 0 with its sum and its place, or the number that refuses the call.
-pub fn mcx11_busiest(
-    records: &[Record],
-    w: usize,
-    sum: &mut u32,
-    place: &mut usize,
-) -> u8
+pub fn mcx11_busiest(records: &[Record], w: usize, sum: &mut u32, place: &mut usize) -> u8
     ensures { Gives (busiest_of records.now w) sum.old place.old sum.new place.new result }
 {
     stretch::give(stretch::busiest(records, w), sum, place)
 }
 
 // A start for a new timer of the period that collides with none of the timers: 0 with the smallest, or that there is none, or the number
-// that refuses the call. Proved by hand, since the list is of structs.
+// that refuses the call.
 pub fn mcx11_free_start(timers: &[Cycle], period: u32, start: &mut u32) -> u8
     ensures { Leaves timers.now period start.old start.new result }
 {

@@ -53,7 +53,7 @@ pub extern "C" fn mcx11_busiest(
 }
 
 // A start for a new timer of the period that collides with none of the timers: 0 with the smallest, or that there is none, or the number
-// that refuses the call. Proved by hand, since the list is of structs.
+// that refuses the call.
 #[unsafe(no_mangle)]
 pub extern "C" fn mcx11_free_start(timers: &[Cycle], period: u32, start: &mut u32) -> u8
     ensures { Leaves timers.now period start.old start.new result }
