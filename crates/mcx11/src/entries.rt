@@ -1,4 +1,4 @@
-// The exported C functions of the executive: the ride controller's, and those of the brake module, which has less memory.
+// The exported functions of the executive: the ride controller's, and those of the brake module, which has less memory.
 // Each gives the number: 0 accepted, 11 where the lent memory is short or, for a frame, broken; then nothing is written.
 // A frame's limits are tested in the entry itself, with numbers that the compiler knows; the rest is one function for both.
 ghost use Rattle.ledger.specs.Config as limits;

@@ -2,9 +2,9 @@
 // (by_limits), lines and milliseconds, the busiest stretch of a run's records, and a start that never collides.
 // Promises: each result and each byte of a lent buffer is the ledger's, and those of the last two are their definitions', for every
 // argument; no call asks anything of its caller.
-// Rests on the crates below it, and on a caller that lends each slice as a pointer with its length, and each number as a pointer.
+// Rests on the crates below it. mcx11_c gives these functions to C, each under its name.
 //
-// A call of the reader, the writer or milliseconds returns one int32_t: what was computed, from 0 up, or with a minus sign the
+// A call of the reader, the writer or milliseconds returns one i32, C's int32_t: what was computed, from 0 up, or with a minus sign the
 // number of document 01 that refuses the call. No such number is 0, so a caller's test is `if (r < 0)`.
 #![tactic(auto)]
 
