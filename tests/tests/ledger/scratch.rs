@@ -8,7 +8,7 @@ use crate::compared::COMPARED;
 use crate::facts::Fact;
 use crate::followed::FOLLOWED;
 
-const LIBRARY: &str = "// Random sessions.\n";
+const LIBRARY: &str = "// Random sessions.\n#![tactic(auto)]\n";
 const CRATES: &str = "ledger:\nsessions: ledger\n";
 
 /// Facts that stand in one file, behind what they all need.
@@ -23,7 +23,7 @@ pub fn check(name: &str, files: &[File]) -> Result<(), String> {
     write_sessions(&scratch, files);
     let output = Command::new("rt")
         .arg("check")
-        .current_dir(&scratch)
+        .current_dir(scratch.join("crates/sessions"))
         .output()
         .map_err(|error| format!("`rt`, the checker of the Rattle kit, must be on the PATH: {error}"))?;
     if output.status.success() {
@@ -33,7 +33,7 @@ pub fn check(name: &str, files: &[File]) -> Result<(), String> {
     Err(difference(files, &String::from_utf8_lossy(&printed)))
 }
 
-/// The ledger's definitions without its theorems and examples.
+/// The ledger's definitions without its examples, and without its proofs/, which has its theorems.
 fn write_ledger(from: &Path, to: &Path) {
     let _ = fs::remove_dir_all(to);
     copy(&from.join("src"), &to.join("src"));
@@ -59,7 +59,7 @@ fn copy(from: &Path, to: &Path) {
 
 /// A module, by its file's name or the line that names it.
 fn is_left_out(module: &str) -> bool {
-    module.contains("Theorems") || module.contains("Examples")
+    module.contains("Examples")
 }
 
 fn write_sessions(scratch: &Path, files: &[File]) {
