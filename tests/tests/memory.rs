@@ -56,7 +56,7 @@ struct Caller {
 }
 
 const CONTROLLER: Caller = Caller { limits: Limits::CONTROLLER, name: "controller", column: 1 };
-const MODULE: Caller = Caller { limits: Limits::MODULE, name: "brakeModule", column: 2 };
+const MODULE: Caller = Caller { limits: Limits::MODULE, name: "brake_module", column: 2 };
 
 /// Of each block its bytes, and what a configuration needs.
 fn sizes(caller: &Caller) -> Vec<(String, usize, String)> {
@@ -218,23 +218,23 @@ fn the_limits_are_those_of_the_sources() {
     }
 }
 
-/// The sizes of the page are `sizesOf` of the limits.
+/// The sizes of the page are `sizes_of` of the limits.
 #[test]
 fn the_sizes_are_those_of_the_sources() {
-    let sums = record_of("crates/mcx11/specs/Contract.antt", "sizesOf k");
+    let sums = record_of("crates/mcx11/specs/Contract.antt", "sizes_of k");
     for caller in [CONTROLLER, MODULE] {
         let Limits { tasks, queues, timers, messages, queue_bytes } = caller.limits;
-        let value = |name: &str| match name.trim_start_matches("k .") {
+        let value = |name: &str| match name.trim_start_matches("k.") {
             "tasks" => tasks.into(),
             "queues" => queues.into(),
             "timers" => timers.into(),
             "messages" => messages.into(),
             "bytes" => queue_bytes,
             "longest k" => 8 + usize::from(tasks) + 2 * usize::from(queues) + 2 * MOST_PAIRS,
-            "partAt" | "frameAt" => number("crates/parts/specs/Parts.antt", name),
-            "recordsAt" => number("crates/tables/specs/Layout.antt", name),
-            "answerBytes" => number("crates/answer/specs/Written.antt", name),
-            _ => panic!("sizesOf: no number {name}"),
+            "part_at" | "frame_at" => number("crates/parts/specs/Parts.antt", name),
+            "records_at" => number("crates/tables/specs/Layout.antt", name),
+            "answer_bytes" => number("crates/answer/specs/Written.antt", name),
+            _ => panic!("sizes_of: no number {name}"),
         };
         for (block, bytes, _) in sizes(&caller) {
             assert_eq!(evaluate(&sums[&block], value), bytes, "{block} of {}", caller.name);
@@ -268,22 +268,22 @@ fn the_marks_and_the_parts_are_those_of_the_sources() {
         let mark = &marks()[block];
         let digits: Vec<String> = mark.iter().map(|byte| format!("{byte:02X}")).collect();
         assert_eq!(row[2], digits.join(" "), "{block}");
-        let low_first = number("crates/mcx11/specs/Contract.antt", &format!("{block}Mark"));
+        let low_first = number("crates/mcx11/specs/Contract.antt", &format!("{block}_mark"));
         assert_eq!(u32::from_le_bytes(mark[..].try_into().expect("four bytes")) as usize, low_first, "{block}");
     }
-    for (name, at) in [("partAt", PART), ("frameAt", FRAME)] {
+    for (name, at) in [("part_at", PART), ("frame_at", FRAME)] {
         assert_eq!(number("crates/parts/specs/Parts.antt", name), at, "{name}");
     }
 }
 
-/// Both sides of each line such as `pub waiting : s .waitingat ≡ s .semaphoreat + s .semaphores` in a record of the specifications.
+/// Both sides of each line such as `pub waiting : s.waitingat ≡ s.semaphoreat + s.semaphores` in a record of the specifications.
 fn sides(file: &str, record: &str, sign: &str) -> Vec<(String, String)> {
     let source = text(file);
     let from = source.find(&format!("pub record {record} ")).unwrap_or_else(|| panic!("{file} has no {record}"));
     let fields = source[from..].split("\n\n").next().unwrap();
     let both = |line: &str| {
         let (left, right) = line.split_once(" : ")?.1.split_once(sign)?;
-        Some((left.replace("s .", ""), right.replace("s .", "")))
+        Some((left.replace("s.", ""), right.replace("s.", "")))
     };
     fields.lines().filter(|line| line.starts_with("  pub ")).filter_map(both).collect()
 }
@@ -322,7 +322,7 @@ fn the_regions_are_those_of_the_layout() {
     for configuration in some_configurations() {
         let numbers = Numbers::of(&configuration);
         let mut fields = fields(numbers);
-        fields.insert("recordsAt".to_string(), number("crates/tables/specs/Layout.antt", "recordsAt"));
+        fields.insert("records_at".to_string(), number("crates/tables/specs/Layout.antt", "records_at"));
         for (field, sum) in &laid {
             let value = evaluate(sum, |name| fields[name]);
             fields.insert(field.clone(), value);

@@ -47,17 +47,31 @@ fn is_crate(name: &str) -> bool {
     list.lines().filter_map(|line| line.split_once(':')).any(|(listed, _)| listed == name)
 }
 
-/// A file of the repository, or `rt` with one of its own commands and crates that are listed.
+/// A file of the repository, `./build` with what it builds, or `rt` with one of its own commands and crates that are listed.
 fn is_command(command: &str) -> bool {
     let mut words = command.split_whitespace();
-    let program = words.next().unwrap_or("");
-    if program != "rt" {
-        return repository().join(program).is_file() && words.next().is_none();
+    match words.next().unwrap_or("") {
+        "rt" => is_command_of_rt(words.next().unwrap_or("")) && words.all(is_crate),
+        "./build" => words.next().is_some_and(is_built) && words.next().is_none(),
+        program => repository().join(program).is_file() && words.next().is_none(),
     }
-    let help = Command::new("rt").arg("help").output().expect("rt on the PATH").stdout;
-    let wanted = format!("  rt {}", words.next().unwrap_or(""));
-    let lists = |line: &str| line.strip_prefix(&wanted).is_some_and(|rest| rest.starts_with(' '));
-    String::from_utf8_lossy(&help).lines().any(lists) && words.all(is_crate)
+}
+
+fn is_built(name: &str) -> bool {
+    let build = text("build").expect("build");
+    build.lines().any(|line| line.strip_suffix(')') == Some(name))
+}
+
+/// A line of its help begins with it, alone or as one of several, as in `rt check|verdict|lib`.
+fn is_command_of_rt(name: &str) -> bool {
+    let help = Command::new("rt").arg("help").output().expect("rt on the PATH");
+    let lists = |line: &str| {
+        let usage =
+            line.strip_prefix("usage: rt ").or_else(|| line.strip_prefix("  ")?.trim_start().strip_prefix("rt "));
+        let commands = usage.and_then(|usage| usage.split_whitespace().next());
+        commands.is_some_and(|commands| commands.split('|').any(|command| command == name))
+    };
+    String::from_utf8_lossy(&[help.stdout, help.stderr].concat()).lines().any(lists)
 }
 
 // ---- the page
@@ -140,7 +154,7 @@ fn everything_that_the_sheet_cites_is_there() {
     // and the page was read: statements, edits and a command
     let parts = parts(&sheet);
     let items: Vec<&str> = parts.iter().flat_map(|part| quoted(part)).collect();
-    for some in ["demand-3", "Same.answers", "theorems/specs/Same.antt", "clock/must-fail/ticks_ignored.edit", "./test"]
+    for some in ["demand_3", "Same.answers", "theorems/specs/Same.antt", "clock/must-fail/ticks_ignored.edit", "./test"]
     {
         assert!(items.contains(&some), "docs/SHEET.md does not cite {some}");
     }
@@ -149,24 +163,25 @@ fn everything_that_the_sheet_cites_is_there() {
 #[test]
 fn a_wrong_page_is_found_out() {
     let pages = [
-        ("`demand-3` in `theorems/proofs/Demand3.antt`; `rt check ledger`, `./test` and [a link](SHEET.md)", None),
-        ("- `demand-3`, `configures`\n  in `theorems/proofs/Demand3.antt`", None),
-        ("`demand-4` in `theorems/proofs/Demand3.antt`", Some("demand-4: not in")),
-        ("`demand-3` in `theorems/specs/Same.antt`", Some("demand-3: not in")),
-        ("`by-contract` in `theorems/proofs/Demand3.antt`", Some("by-contract: not in")),
+        ("`demand_3` in `theorems/proofs/Demand3.antt`; `./build session`, `rt ci ledger`, `./test` and [a link](SHEET.md)", None),
+        ("- `demand_3`, `configures`\n  in `theorems/proofs/Demand3.antt`", None),
+        ("`demand_4` in `theorems/proofs/Demand3.antt`", Some("demand_4: not in")),
+        ("`demand_3` in `theorems/specs/Same.antt`", Some("demand_3: not in")),
+        ("`by_contract` in `theorems/proofs/Demand3.antt`", Some("by_contract: not in")),
         ("`Same.number` in `theorems/specs/Same.antt`", Some("Same.number: not in")),
         ("`Sam.answers` in `theorems/specs/Same.antt`", Some("Sam.answers: not in")),
-        ("`demand-3` in `theorems/proofs/Hole.antt`", Some("no file")),
-        ("`demand-3`\n\n`Same` in `theorems/specs/Same.antt`", Some("demand-3: a name without a place")),
-        ("- `demand-3`\n- `Same` in `theorems/specs/Same.antt`", Some("demand-3: a name without a place")),
-        ("1. `demand-3`\n2. `Same` in `theorems/specs/Same.antt`", Some("demand-3: a name without a place")),
+        ("`demand_3` in `theorems/proofs/Hole.antt`", Some("no file")),
+        ("`demand_3`\n\n`Same` in `theorems/specs/Same.antt`", Some("demand_3: a name without a place")),
+        ("- `demand_3`\n- `Same` in `theorems/specs/Same.antt`", Some("demand_3: a name without a place")),
+        ("1. `demand_3`\n2. `Same` in `theorems/specs/Same.antt`", Some("demand_3: a name without a place")),
         ("in `theorems/specs/Same.antt`", Some("a place without a name")),
         ("`clock/must-fail/ticks_ignore.edit`", Some("no edit")),
         ("`clock/src/ticks_ignored.edit`", Some("no edit")),
         ("`./tests`", Some("no command")),
         ("`rt prove-all`", Some("no command")),
-        ("`rt check ledgers`", Some("no command")),
-        ("`demand-3", Some("a backquote without another")),
+        ("`rt ci ledgers`", Some("no command")),
+        ("`./build sessions`", Some("no command")),
+        ("`demand_3", Some("a backquote without another")),
         ("[a link](SHEETS.md)", Some("no file behind the link")),
     ];
     for (page, expected) in pages {

@@ -120,11 +120,8 @@ fn the_installation_says_what_is_missing() {
     for file in ["install", "mcx11.h"] {
         fs::copy(repository().join("host").join(file), folder.join("host").join(file)).unwrap();
     }
-    let cases = [
-        (vec![], "host/install PREFIX"),
-        (vec!["there"], "run './build archive' first"),
-        (vec!["a", "b"], "PREFIX"),
-    ];
+    let cases =
+        [(vec![], "host/install PREFIX"), (vec!["there"], "run './build archive' first"), (vec!["a", "b"], "PREFIX")];
     for (arguments, advice) in cases {
         let output = run(Command::new(folder.join("host/install")).args(&arguments).current_dir(&folder), b"");
         assert_eq!(output.status.code(), Some(1), "{arguments:?}");

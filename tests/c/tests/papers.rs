@@ -12,7 +12,7 @@ mod tools;
 use std::fs;
 use std::path::Path;
 use std::process::Command;
-use tools::{built, checkout, installed, printed, repository, scratch, text, two_languages, STRICT};
+use tools::{built, installed, printed, repository, scratch, text, two_languages, Checkout, STRICT};
 
 const PAPERS: [&str; 5] = ["README.md", "docs/HOST.md", "docs/FRAMES.md", "examples/README.md", "tests/README.md"];
 
@@ -121,8 +121,8 @@ fn built_by_cmake(folder: &Path, body: &str) -> String {
 #[test]
 fn every_snippet_is_compiled_or_run() {
     for paper in PAPERS {
-        let folder = checkout(&format!("paper {}", paper.replace('/', " ")));
-        let run = run_all(paper, &folder);
+        let checkout = Checkout::new(&format!("paper {}", paper.replace('/', " ")));
+        let run = run_all(paper, checkout.folder());
         assert!(run > 0 || paper == "docs/FRAMES.md", "{paper}: no snippets");
     }
 }

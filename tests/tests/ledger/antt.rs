@@ -85,7 +85,7 @@ fn timer(timer: &TimerItem) -> String {
 
 pub fn tocks(value: Tocks) -> String {
     match value {
-        Tocks::OneShot(tocks) => format!("oneShot {tocks}"),
+        Tocks::OneShot(tocks) => format!("one_shot {tocks}"),
         Tocks::Cyclic(period) => format!("cyclic {period}"),
     }
 }

@@ -12,38 +12,31 @@ use plain_executive::turns::{Followed, Turns};
 
 /// What stands in front of facts about sessions.
 pub const SESSIONS: &str = "\
-use Prim.Native.Nat.{ℕ}
+use Rattle.std.specs.Prelude.{ℕ, ◌≡◌, refl, Bool, true, false, List, [], ◌∷◌, map}
 use Prim.Native.String.{String}
-use mathlib.Core.Path.{_≡_, refl}
-use mathlib.Core.Bool.{Bool, true, false}
-use mathlib.Core.List.{List, [], _∷_, map}
-use Rattle·ledger.specs.Config.{brakeModule, configRefusalBy}
-use Rattle·ledger.specs.Ledger.{Semaphore, PENDING, DONE, WAITING, Outcome, plain, begin, message, entry, refused, semaphore, \
+use Rattle.ledger.specs.Config.{brake_module, config_refusal_by}
+use Rattle.ledger.specs.Ledger.{Semaphore, PENDING, DONE, WAITING, Outcome, plain, begin, message, entry, refused, semaphore, \
 woke, Request, none, receive, dequeue, enqueue}
-use Rattle·ledger.specs.Session.{session}
-use Rattle·ledger.specs.Lines.{output}
-use Rattle·ledger.specs.Computing.Hex.{hex}
-use Rattle·ledger.specs.Computing.Quick.{everything}
-use Rattle·sessions·specs.specs.Compared.{all, compared, task, letter, timer}
+use Rattle.ledger.specs.Session.{session}
+use Rattle.ledger.specs.Lines.{output}
+use Rattle.ledger.specs.Computing.Hex.{hex}
+use Rattle.ledger.specs.Computing.Quick.{everything}
+use Rattle.sessions.specs.Compared.{all, compared, task, letter, timer}
 ";
 
 /// What stands in front of facts about turns.
 pub const TURNS: &str = "\
-use Prim.Native.Nat.{ℕ}
+use Rattle.std.specs.Prelude.{ℕ, ◌≡◌, refl, Bool, true, false, List, [], ◌∷◌}
 use Prim.Native.String.{String}
-use mathlib.Core.Path.{_≡_, refl}
-use mathlib.Core.Bool.{Bool, true, false}
-use mathlib.Core.List.{List, [], _∷_}
-use Rattle·ledger.specs.Time.{TockValue, oneShot, cyclic}
-use Rattle·sessions·specs.specs.Followed.{allFollowed, followedIn, started}
+use Rattle.ledger.specs.Time.{TockValue, one_shot, cyclic}
+use Rattle.sessions.specs.Followed.{all_followed, followed_in, started}
 ";
 
 /// What stands in front of facts about tocks.
 pub const TIMES: &str = "\
-use Prim.Native.Nat.{ℕ}
-use mathlib.Core.Path.{_≡_, refl}
-use Rattle·ledger.specs.Time.{TockValue, none, oneShot, cyclic, tockValue, longTockValue, Tocks, are, refused, milliseconds}
-use Rattle·ledger.specs.Computing.Quick.{everything}
+use Rattle.std.specs.Prelude.{ℕ, ◌≡◌, refl}
+use Rattle.ledger.specs.Time.{TockValue, none, one_shot, cyclic, tock_value, long_tock_value, Tocks, are, refused, milliseconds}
+use Rattle.ledger.specs.Computing.Quick.{everything}
 ";
 
 #[derive(Clone)]
@@ -95,7 +88,7 @@ pub fn session(number: usize, script: &Script, results: &Results) -> Fact {
     let answers = antt::list(results.answers.iter().map(|answer| antt::digits(answer)));
     let items = antt::items(&results.items);
     Fact {
-        name: format!("session-{number}"),
+        name: format!("session_{number}"),
         equation: format!("compared {configuration} {frames}\n  ≡ (map hex {answers},\n    {items})"),
         unfolding: "all",
         replay: replay(&script.lines()),
@@ -108,9 +101,9 @@ pub fn turns(number: usize, script: &Script, timers: &[Followed]) -> Fact {
     let frames = frames(script);
     let timers = antt::list(timers.iter().map(antt::followed));
     Fact {
-        name: format!("turns-{number}"),
-        equation: format!("followedIn {configuration} {frames}\n  ≡ {timers}"),
-        unfolding: "allFollowed",
+        name: format!("turns_{number}"),
+        equation: format!("followed_in {configuration} {frames}\n  ≡ {timers}"),
+        unfolding: "all_followed",
         replay: replay(&script.lines()),
     }
 }
@@ -125,7 +118,7 @@ pub fn refused_configuration(number: usize, configuration: &[u8]) -> Fact {
     let frames = antt::list([antt::digits(&[0x10, 0, 0, 0, 0])]);
     let answers = antt::list([antt::digits(&[refusal, 0, 0, 0])]);
     Fact {
-        name: format!("configuration-{number}"),
+        name: format!("configuration_{number}"),
         equation: format!("session {} (map hex {frames}) ≡ map hex {answers}", antt::bytes(configuration)),
         unfolding: "everything",
         replay: format!("{}\nrefused here with {refusal}\n", antt::digits(configuration)),
@@ -136,8 +129,8 @@ pub fn refused_configuration(number: usize, configuration: &[u8]) -> Fact {
 pub fn on_the_module(number: usize, configuration: &[u8]) -> Fact {
     let given = Executive::configure_within(Limits::MODULE, configuration).err().unwrap_or(0);
     Fact {
-        name: format!("module-{number}"),
-        equation: format!("configRefusalBy brakeModule {} ≡ {given}", antt::bytes(configuration)),
+        name: format!("module_{number}"),
+        equation: format!("config_refusal_by brake_module {} ≡ {given}", antt::bytes(configuration)),
         unfolding: "everything",
         replay: format!("{}\ngets {given} here, on the module\n", antt::digits(configuration)),
     }
@@ -146,7 +139,7 @@ pub fn on_the_module(number: usize, configuration: &[u8]) -> Fact {
 pub fn input(number: usize, input: &[u8]) -> Fact {
     let output = session::run(input);
     Fact {
-        name: format!("input-{number}"),
+        name: format!("input_{number}"),
         equation: format!("output {} ≡ hex {}", antt::bytes(input), antt::digits(&output)),
         unfolding: "everything",
         replay: replay(input),
@@ -155,14 +148,14 @@ pub fn input(number: usize, input: &[u8]) -> Fact {
 
 /// Of two bytes.
 pub fn tock_value(number: usize, x: u16) -> Fact {
-    let equation = format!("tockValue {x} ≡ {}", written(tocks::tock_value(x)));
-    Fact { name: format!("tocks-{number}"), replay: equation.clone(), equation, unfolding: "everything" }
+    let equation = format!("tock_value {x} ≡ {}", written(tocks::tock_value(x)));
+    Fact { name: format!("tocks_{number}"), replay: equation.clone(), equation, unfolding: "everything" }
 }
 
 /// Of the four of a season timer.
 pub fn season_tock_value(number: usize, x: u32) -> Fact {
-    let equation = format!("longTockValue {x} ≡ {}", written(tocks::season_tock_value(x)));
-    Fact { name: format!("season-tocks-{number}"), replay: equation.clone(), equation, unfolding: "everything" }
+    let equation = format!("long_tock_value {x} ≡ {}", written(tocks::season_tock_value(x)));
+    Fact { name: format!("season_tocks_{number}"), replay: equation.clone(), equation, unfolding: "everything" }
 }
 
 fn written(value: Result<Tocks, Number>) -> String {
@@ -175,7 +168,7 @@ pub fn milliseconds(number: usize, milliseconds: u16, per_tock: u16) -> Fact {
         Err(number) => format!("refused {number}"),
     };
     let equation = format!("milliseconds {milliseconds} {per_tock} ≡ {tocks}");
-    Fact { name: format!("milliseconds-{number}"), replay: equation.clone(), equation, unfolding: "everything" }
+    Fact { name: format!("milliseconds_{number}"), replay: equation.clone(), equation, unfolding: "everything" }
 }
 
 fn replay(input: &[u8]) -> String {

@@ -1,14 +1,14 @@
 //! A scratch repository with the ledger's definitions and the facts, and the checker's verdict on it.
 
-use std::fs;
 use std::path::{Path, PathBuf};
 use std::process::Command;
+use std::{env, fs, process};
 
 use crate::compared::COMPARED;
 use crate::facts::Fact;
 use crate::followed::FOLLOWED;
 
-const LIBRARY: &str = "// Random sessions.\n";
+const LIBRARY: &str = "// Random sessions.\n#![tactic(auto)]\n";
 const CRATES: &str = "ledger:\nsessions: ledger\n";
 
 /// Facts that stand in one file, behind what they all need.
@@ -16,14 +16,13 @@ pub type File = (&'static str, Vec<Fact>);
 
 /// Has the checker prove the facts. The error tells the first difference.
 pub fn check(name: &str, files: &[File]) -> Result<(), String> {
-    let repository = PathBuf::from(env!("CARGO_MANIFEST_DIR")).join("..");
-    // Below the repository's own target/: elsewhere its check would take these files for lost ones.
-    let scratch = repository.join("target").join(name);
-    write_ledger(&repository.join("crates/ledger"), &scratch.join("crates/ledger"));
-    write_sessions(&scratch, files);
+    let ledger = Path::new(env!("CARGO_MANIFEST_DIR")).join("../crates/ledger");
+    let scratch = Scratch::new(name);
+    write_ledger(&ledger, &scratch.0.join("crates/ledger"));
+    write_sessions(&scratch.0, files);
     let output = Command::new("rt")
         .arg("check")
-        .current_dir(&scratch)
+        .current_dir(scratch.0.join("crates/sessions"))
         .output()
         .map_err(|error| format!("`rt`, the checker of the Rattle kit, must be on the PATH: {error}"))?;
     if output.status.success() {
@@ -33,7 +32,24 @@ pub fn check(name: &str, files: &[File]) -> Result<(), String> {
     Err(difference(files, &String::from_utf8_lossy(&printed)))
 }
 
-/// The ledger's definitions without its theorems and examples.
+/// Its folder, outside of this repository: `rt ci` refuses crates and files of antt that crates.txt doesn't name, below target/ too.
+struct Scratch(PathBuf);
+
+impl Scratch {
+    fn new(name: &str) -> Self {
+        let folder = env::temp_dir().join(format!("mcx11-{name}-{}", process::id()));
+        let _ = fs::remove_dir_all(&folder);
+        Scratch(folder)
+    }
+}
+
+impl Drop for Scratch {
+    fn drop(&mut self) {
+        let _ = fs::remove_dir_all(&self.0);
+    }
+}
+
+/// The ledger's definitions without its examples, and without its proofs/, which has its theorems.
 fn write_ledger(from: &Path, to: &Path) {
     let _ = fs::remove_dir_all(to);
     copy(&from.join("src"), &to.join("src"));
@@ -59,7 +75,7 @@ fn copy(from: &Path, to: &Path) {
 
 /// A module, by its file's name or the line that names it.
 fn is_left_out(module: &str) -> bool {
-    module.contains("Theorems") || module.contains("Examples")
+    module.contains("Examples")
 }
 
 fn write_sessions(scratch: &Path, files: &[File]) {

@@ -1,7 +1,7 @@
 //! Programs that are wrong about a free start, each in one way. Three are not among them, since they would be right. Rows may begin with
 //! the start itself: they share the same later tocks. And a search may end behind 256 starts, or a start be cut to 8 bits: what eight
 //! timers leave begins below 256. (Whether x is left says a product of eight factors 1 - e^(2 pi i (x - s) / d), which is a sum of 256
-//! terms c * e^(i a x); such a sum is 0 everywhere if it is 0 at 256 numbers in a row. `covers-all` in crates/starts proves it otherwise.)
+//! terms c * e^(i a x); such a sum is 0 everywhere if it is 0 at 256 numbers in a row. `covers_all` in crates/starts proves it otherwise.)
 
 use plain_executive::numbers::{Number, CYCLES};
 use plain_executive::starts::{LONGEST_CYCLE, MOST_CYCLES};

@@ -63,17 +63,35 @@ pub fn scratch(name: &str) -> PathBuf {
     folder
 }
 
-/// A folder of one's own that looks like the repository: a link to each of its files and folders.
-pub fn checkout(name: &str) -> PathBuf {
-    let folder = scratch(name);
-    for entry in fs::read_dir(repository()).expect("the repository") {
-        let path = entry.expect("an entry").path();
-        let name = path.file_name().expect("a name").to_owned();
-        if !name.to_string_lossy().starts_with(".git") {
-            symlink(&path, folder.join(&name)).expect("a link");
+/// A folder of one's own that looks like the repository: a link to each of its files and folders. It lies outside of the repository, where
+/// `rt ci` refuses links, below target/ too, and is there as long as this value.
+pub struct Checkout(PathBuf);
+
+impl Checkout {
+    pub fn new(name: &str) -> Self {
+        let folder = std::env::temp_dir().join(format!("mcx11 {} {name}", std::process::id()));
+        fs::remove_dir_all(&folder).ok();
+        fs::create_dir_all(&folder).expect("a folder for the test");
+        let checkout = Checkout(folder);
+        for entry in fs::read_dir(repository()).expect("the repository") {
+            let path = entry.expect("an entry").path();
+            let name = path.file_name().expect("a name").to_owned();
+            if !name.to_string_lossy().starts_with(".git") {
+                symlink(&path, checkout.0.join(&name)).expect("a link");
+            }
         }
+        checkout
     }
-    folder
+
+    pub fn folder(&self) -> &Path {
+        &self.0
+    }
+}
+
+impl Drop for Checkout {
+    fn drop(&mut self) {
+        fs::remove_dir_all(&self.0).ok();
+    }
 }
 
 pub fn run(command: &mut Command, input: &[u8]) -> Output {
