@@ -34,5 +34,5 @@ over_silent (x ∷ l) [] = refl
 over_silent l (b ∷ bs) = go (λ k. over_silent k bs) (eqb b 0x0A) refl
   where
     go : ((k : List ℕ) → text over k bs ≡ []) → (e : Bool) → eqb b 0x0A ≡ e → text over l (b ∷ bs) ≡ []
-    go more true e = rw e (more [])
+    go more true e = rw e (more _)
     go more false e = rw e (more (l ++ (b ∷ [])))

@@ -1,5 +1,5 @@
 -- A frame: from what the parts of the blocks promise (specs/Inside) to what the entry promises.
-use Rattle.std.specs.Prelude.{ℕ, ◌+◌, ◌-◌, ◌≤◌, ◌≡◌, Bool, ◌&&◌, length}
+use Rattle.std.specs.Prelude.{ℕ, ◌+◌, ◌≤◌, ◌≡◌, Bool, ◌&&◌, length}
 use Rattle.std.proofs.Math.Path.{refl, subst}
 use Rattle.std.proofs.Common.{sym, ◌∙◌}
 use Rattle.std.proofs.Math.Bool.{true, false}
@@ -13,7 +13,7 @@ use Rattle.mcx11.specs.Contract.{Memory, memory, sizes_of, full_size, is_marked,
 use Rattle.mcx11.specs.Sizes.{full_sizes}
 use Rattle.mcx11.specs.Framed.{long_config, kept_within}
 use Rattle.mcx11.specs.Tested.{MeetsLimits, rest_rule}
-use Rattle.mcx11.specs.Inside.{Sized, StepsInside, FramesInside}
+use Rattle.mcx11.specs.Inside.{Sized, FramesInside}
 
 module _ (k : Limits) (f g d z w a : List ℕ) where
   abbrev m : Memory

@@ -1,4 +1,4 @@
--- A frame: from the step over the parts of the blocks to what the entry promises.
+-- A frame: the step over the parts of the blocks, with the rest of the test. (From there to what the entry promises: proofs/Inside.)
 use Rattle.std.specs.Prelude.{ℕ, ◌+◌, ◌-◌, ◌*◌, ◌≤◌, ◌≡◌, length}
 use Rattle.std.proofs.Math.Path.{refl, ap, subst}
 use Rattle.std.proofs.Common.{sym, ◌∙◌, arith}
