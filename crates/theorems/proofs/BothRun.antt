@@ -21,8 +21,8 @@ use Rattle.mcx11.specs.Contract.{Memory, memory, sizes_of, full_size}
 use Rattle.mcx11.specs.Sizes.{sizes_full}
 use Rattle.theorems.proofs.OneCall.{Executive, the_controller, the_module}
 use Rattle.theorems.proofs.Runs.{lengths_of, SessionRuns, FitsBuffer}
-use Rattle.theorems.proofs.SessionStart.{Lendable, SessionStarts, session_start, places_of}
-use Rattle.theorems.proofs.EveryRun.{AsTheLedger, SessionRan, Asks, runs, every_run, every_answer, every_number}
+use Rattle.theorems.proofs.SessionStart.{AsTheLedger, Lendable, SessionStarts, session_start, places_of}
+use Rattle.theorems.proofs.EveryRun.{SessionRan, Asks, runs, every_run, every_answer, every_number}
 
 pub controller_runs : {g : List ℕ} {fs : List (List ℕ)} {m : Memory} {buffer others : List ℕ} → Asks the_controller m buffer others g fs → ∥ SessionRan the_controller m buffer others g fs ∥₁
 controller_runs = runs the_controller

@@ -27,19 +27,15 @@ use Rattle.mcx11.specs.Answer.{answer_of}
 use Rattle.theorems.specs.Numbers as refused
 use Rattle.theorems.specs.Calls.{FrameCalls, seen}
 use Rattle.theorems.specs.Same.{Same, every_list}
-use Rattle.theorems.specs.TurnsKept.{TurnsKept, turns_kept}
+use Rattle.theorems.specs.TurnsKept.{TurnsKept}
+use Rattle.theorems.proofs.TurnsKept.{turns_kept}
 use Rattle.theorems.proofs.OneCall.{Executive}
 use Rattle.theorems.proofs.Runs.{lengths_of, ConfigureRuns, FrameRuns, SessionRuns, session, seen_session, FitsBuffer, feeds}
-use Rattle.theorems.proofs.SessionStart.{SessionStarts, session_start, places_of, others_at, others, rooms, frame_runs_from, configure_runs_from}
+use Rattle.theorems.proofs.SessionStart.{SessionStarts, AsTheLedger, session_start, places_of, others_at, others, rooms, frame_runs_from, configure_runs_from}
 use Rattle.theorems.proofs.CallOneRun.{known}
 use Rattle.theorems.proofs.RunCalls.{run_calls}
 
 -- ---- there are runs
-
--- what demand 3 says of runs that left the memory `last`, in which the five blocks hold m' and all else is as it was
-pub record AsTheLedger (k : Limits) (m : Memory) (d o g : List ℕ) (fs answers : List (List ℕ)) (numbers : List ℕ) (last : machine.Memory) (m' : Memory) : Type 0 where
-  pub same : Same k g m fs answers numbers m'
-  pub others : Loads last 0 (others_at m d) o
 
 pub record SessionRan (x : Executive) (m : Memory) (buffer others g : List ℕ) (fs : List (List ℕ)) : Type 0 where
   pub answers : List (List ℕ)
