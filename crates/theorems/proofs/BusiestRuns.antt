@@ -31,7 +31,7 @@ use Rattle.running.specs.Machine.{𝓡₀, 𝓡_in, asks_nothing}
 use Rattle.running.specs.Rows.{StoresRow, LoadsRow}
 use Rattle.running.specs.Loans.{AllAre}
 use Rattle.running.specs.Lent.{Param, value, lent, number, list, Fits, LastValues, lifetimes_of, shares_of, values_of, passed_of, Enters}
-use Rattle.running.specs.Hosts.{Hosts, Call, Done, hosts, runs, every_run}
+use Rattle.running.specs.Hosts.{Hosts, Call, hosts, runs, every_run}
 use Rattle.stretch.specs.Busiest.{busiest_of, Gives, Leaves}
 use Rattle.stretch.proofs.Theorems.{gives_leaves}
 use Rattle.stretch.specs.declared.Record.{Record}

@@ -12,7 +12,7 @@ use Rattle.ledger.specs.Config.{Config, Limits, controller, brake_module, config
 use Rattle.ledger.specs.Seen.{Seen}
 use Rattle.ledger.proofs.Theorems.Within.{controller_gives}
 use Rattle.configuration.specs.Limits.{controller_made, brake_module_made}
-use Rattle.mcx11.specs.Contract.{Memory, memory, full_size, Configures, Frames}
+use Rattle.mcx11.specs.Contract.{Memory, full_size, Configures, Frames}
 use Rattle.theorems.proofs.Learnt.{FrameLearnt, FrameCallOf, FrameCallsOf, frame_learnt, ConfigureCall, FrameCall, FrameCalls, module_frame_learnt, ModuleConfigureCall, ModuleFrameCall, ModuleFrameCalls}
 use Rattle.theorems.specs.Calls as calls
 use Rattle.theorems.specs.Calls.{Calls, none, call, seen_call, seen}

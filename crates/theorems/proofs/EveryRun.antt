@@ -19,14 +19,14 @@ use prog.Memory as machine
 use ghost.Model as closed
 use Rattle.running.specs.Memories.{Loads}
 use Rattle.running.specs.Machine.{Cells, ◌∗◌}
-use Rattle.ledger.specs.Config.{Config, Limits, config_in, config_refusal_by}
+use Rattle.ledger.specs.Config.{Config, config_in, config_refusal_by}
 use Rattle.ledger.specs.Session as ledger
 use Rattle.ledger.proofs.Theorems.Parts.{Every}
 use Rattle.mcx11.specs.Contract.{Memory, full_size, Configures, Frames}
 use Rattle.mcx11.specs.Answer.{answer_of}
 use Rattle.theorems.specs.Numbers as refused
 use Rattle.theorems.specs.Calls.{FrameCalls, seen}
-use Rattle.theorems.specs.Same.{Same, every_list}
+use Rattle.theorems.specs.Same.{every_list}
 use Rattle.theorems.specs.TurnsKept.{TurnsKept}
 use Rattle.theorems.proofs.TurnsKept.{turns_kept}
 use Rattle.theorems.proofs.OneCall.{Executive}

@@ -30,7 +30,7 @@ use Rattle.running.specs.Machine.{𝓡₀, 𝓡_in, asks_nothing}
 use Rattle.running.specs.Rows.{StoresRow, LoadsRow}
 use Rattle.running.specs.Loans.{AllAre}
 use Rattle.running.specs.Lent.{Param, value, lent, number, list, Fits, LastValues, lifetimes_of, shares_of, values_of, passed_of, Enters}
-use Rattle.running.specs.Hosts.{Hosts, Call, Done, hosts, runs, every_run}
+use Rattle.running.specs.Hosts.{Hosts, Call, hosts, runs, every_run}
 use Rattle.starts.specs.Starts.{Leaves}
 use Rattle.starts.specs.declared.Cycle.{Cycle}
 use Rattle.starts.specs.contracts.Cycle as C

@@ -2,7 +2,7 @@
 -- the code of the functions that it calls, of whatever crate. It is the kit's world of a build (prog.Linked), of the crates below with their own tables.
 --     environment      what a name means there: `environment F.name` is the routine of the function F
 --     F_wired          it has the code of F, and of all that F calls
-use Rattle.std.specs.Prelude.{refl, List, [], ◌∷◌}
+use Rattle.std.specs.Prelude.{refl, [], ◌∷◌}
 use mathlib.Core.Bool.{true}
 use lib.Chars.{codes}
 use prog.Routine.{Env}
