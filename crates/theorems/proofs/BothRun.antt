@@ -1,7 +1,7 @@
 -- The ride controller and the brake module on the machine, by name.
---     controller-runs, module-runs                a configuration that it accepts and a list of frames have runs
---     controller-every-run, module-every-run      and every such runs are as demand 3 says
---     runs-alike                                  a configuration that both accept: every runs of the one give the answers and the numbers
+--     controller_runs, module_runs                a configuration that it accepts and a list of frames have runs
+--     controller_every_run, module_every_run      and every such runs are as demand 3 says
+--     runs_alike                                  a configuration that both accept: every runs of the one give the answers and the numbers
 --                                                 of every runs of the other, each from a memory of its own
 --     both_run                                    and there are such: two tasks, and any frames of at most 326 bytes
 use Prim.Native.Nat.{ℕ, zero, suc, ◌<◌, ◌^◌}

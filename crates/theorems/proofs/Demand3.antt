@@ -1,9 +1,9 @@
 -- Demand 3 about the exported functions themselves, `mcx11_configure_blocks` and `mcx11_frame_blocks`, and the module's own: a call is what
 -- the checker says that a caller of the function learns, and that is the contract in mcx11.
---     demand-3             every list of calls on the ride controller
---     module-demand-3      on the brake module, against the same ledger
---     both-alike           a configuration that both accept, and the same frames
---     every-turn, module-every-turn     no timer misses a turn in what a host sees of a list of calls
+--     demand_3             every list of calls on the ride controller
+--     module_demand_3      on the brake module, against the same ledger
+--     both_alike           a configuration that both accept, and the same frames
+--     every_turn, module_every_turn     no timer misses a turn in what a host sees of a list of calls
 use Prim.Native.Nat.{ℕ}
 use mathlib.Core.Path.{◌≡◌, refl, ap, subst, ◌∙◌}
 use mathlib.Core.Bool.{true}

@@ -1,10 +1,10 @@
 -- DEMAND 3 ON THE MACHINE, of an executive x, the ride controller's or the brake module's. A run begins with a memory that holds the five
 -- blocks, the host's buffer and any other bytes, side by side, whatever they are.
 --     runs           from there a configuration and a list of frames have runs, one after the other, as demand 3 says
---     every-run      and every such runs are as demand 3 says: the machine has one run from one memory
---     every-answer, every-number           its first two parts, as plain equations
---     run-every-turn                       nor does a timer miss a turn in what a host sees of them
---     every-frame, every-configuration     one call, whatever the blocks hold and however large they are: it is as its contract
+--     every_run      and every such runs are as demand 3 says: the machine has one run from one memory
+--     every_answer, every_number           its first two parts, as plain equations
+--     run_every_turn                       nor does a timer miss a turn in what a host sees of them
+--     every_frame, every_configuration     one call, whatever the blocks hold and however large they are: it is as its contract
 --                                          says
 use Prim.Native.Nat.{ℕ}
 use mathlib.Core.Path.{◌≡◌, refl, subst}

@@ -1,7 +1,7 @@
 -- One call on the machine: from every memory that holds the lent bytes, each of the four entries runs, ends, returns a byte, and leaves
 -- bytes of which its contract holds.
 --     Executive                     two such routines, with the limits by which their contracts speak
---     theController, theModule      `mcx11_configure_blocks` and `mcx11_frame_blocks`; `mcx11_module_configure_blocks` and
+--     the_controller, the_module    `mcx11_configure_blocks` and `mcx11_frame_blocks`; `mcx11_module_configure_blocks` and
 --                                   `mcx11_module_frame_blocks`
 use mathlib.Core.Path.{refl}
 use Prim.Native.Nat.{ℕ}
@@ -81,7 +81,7 @@ pub record Executive : Type 2 where
   pub configures : (q : Places) (f : List ℕ) (m : Memory) → ConfigureRan q f m limits configure
   pub frames : (q : Places) (f : List ℕ) (m : Memory) → FrameRan q f m limits frame
 
--- ---- theController: its two contracts at the closed model, and their runs
+-- ---- the_controller: its two contracts at the closed model, and their runs
 abbrev configure_contract : Contract closed.𝓤
 configure_contract = triple_of logic₀ configure.signature (configure.spec logic₀ model⁺.mem 𝓡₀.returns)
 
@@ -112,7 +112,7 @@ the_controller =
           (λ i. asks_nothing (Enters L u8 i)) (FrameSays q x m controller) (λ i v. id⊢ closed.𝓤 (frame_contract.post (frame_bound q x m i) v));
     }
 
--- ---- theModule: its two contracts at the closed model, and their runs
+-- ---- the_module: its two contracts at the closed model, and their runs
 abbrev module_configure_contract : Contract closed.𝓤
 module_configure_contract = triple_of logic₀ module-configure.signature (module-configure.spec logic₀ model⁺.mem 𝓡₀.returns)
 
