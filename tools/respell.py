@@ -82,7 +82,7 @@ def names(root):
 
 def turns(own, fields):
     """The new spelling of each name that gets one. A lemma that would have a definition's name ends in _lem."""
-    definitions = {snake(n) for n in own if re.search(r"[a-z][A-Z]", n) and n[0].islower()}
+    definitions = {snake(n) for n in own if re.search(r"[a-z][A-Z]", n) and n[0].islower() and "-" not in n}
     table = {}
     for n in own:
         new = FIELDS.get(n) or snake(n)

@@ -1,4 +1,4 @@
-//! Links the verified functions: `rt staticlib mcx11` writes the archive. Says which programs are installed that some tests
+//! Links the verified functions: `./build archive` writes the archive. Says which programs are installed that some tests
 //! need: without them these tests are ignored, and not counted.
 
 use std::env;
@@ -9,7 +9,7 @@ fn main() {
     let root = env::var("CARGO_MANIFEST_DIR").expect("cargo names the package's folder");
     let folder = Path::new(&root).join("../../target/staticlib");
     let archive = folder.join("libmcx11.a");
-    assert!(archive.exists(), "{} is missing: run `rt staticlib mcx11` first", archive.display());
+    assert!(archive.exists(), "{} is missing: run `./build archive` first", archive.display());
     println!("cargo:rustc-link-search=native={}", folder.display());
     println!("cargo:rustc-link-lib=static=mcx11");
     println!("cargo:rerun-if-changed={}", archive.display());

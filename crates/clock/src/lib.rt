@@ -144,7 +144,7 @@ fn count_tick(ticks: &mut Ticks) -> bool
     after.tock
 }
 
-// Makes the record and lends it for one tick. Whoever calls this needs no proof by hand.
+// Makes the record and lends it for one tick.
 fn lent_tick(left: usize, pertock: usize) -> Ticked
     requires { (1 ≤ left) × (left ≤ pertock) }
     ensures { AfterTick pertock left result.left result.tock }

@@ -8,7 +8,7 @@ use native.Mathlib.Omega.{arith}
 use Rattle.std.proofs.Math.ListN.{length, get_or}
 use Rattle.std.proofs.lemmas.List.{get_or-replicate}
 use borrow.Author.Tests.{ne_eqb, le-leb, leb-true}
-use Rattle.rows.specs.Rows.{row_at, get_d_row_lem, length_row, drop_elems}
+use Rattle.rows.specs.Rows.{row_at, get_d_row, length_row, drop_elems}
 use Rattle.rows.specs.Tab.{tab, tab_ext, tab_of, map_tab}
 use Rattle.messages.specs.Pending.{addressed, pending_in, mailboxes_of}
 use Rattle.messages.specs.Mailboxes.{mailboxes_none}
@@ -111,7 +111,7 @@ module _ (c : Config) (s : Shape) (o : Of c s) (d z w : List ℕ)
 
   in_record : (i j : ℕ) → i < c.T → j < 6 → get_or (row_at 6 i p.records) j 0 ≡ get_or d (s.recordat + (i * 6 + j)) 0
   unfolding regions named bound
-  in_record i j h k = let l = o.laid in get_d_row_lem 6 i j (region s d 2) k ∙ region_at s d 2 (i * 6 + j) (omega arith)
+  in_record i j h k = let l = o.laid in get_d_row 6 i j (region s d 2) k ∙ region_at s d 2 (i * 6 + j) (omega arith)
 
   in_semaphores : (i : ℕ) → i < s.semaphores → get_or p.semaphores i 0 ≡ 0
   unfolding regions named bound
@@ -126,7 +126,7 @@ module _ (c : Config) (s : Shape) (o : Of c s) (d z w : List ℕ)
       let n : length (row_at 16 i z) ≡ 16 = length_row 16 i z (omega arith) in
       ext_get_or 0 (row_at 16 i z) (replicate 16 0) n (λ j k.
       let m : j < 16 = omega arith in
-      get_d_row_lem 16 i j z m ∙ zeros (i * 16 + j) (omega arith) ∙ sym (get_or-replicate 16 j 0 0 m))
+      get_d_row 16 i j z m ∙ zeros (i * 16 + j) (omega arith) ∙ sym (get_or-replicate 16 j 0 0 m))
 
   task_fresh : (i : ℕ) → i < c.T → fresh_task (get_or c.states i 0) ≡ task_at c p z i
   unfolding task_at

@@ -7,7 +7,7 @@ use Rattle.std.proofs.Math.Dec.{leb}
 use Rattle.std.proofs.Math.ListN.{length}
 use borrow.Author.Tests.{ltb-true, ltb-false, le-leb, lt-leb}
 use Rattle.rows.specs.Splice.{cut}
-use Rattle.rows.specs.Laws.{length_cut, get_d_cut_lem}
+use Rattle.rows.specs.Laws.{length_cut, get_d_cut}
 use Rattle.ledger.specs.Lists.{byte}
 use Rattle.ledger.specs.Config.{Limits, longest, config_in, front, few_enough}
 use Rattle.tables.specs.Encoded.{case}
@@ -32,7 +32,7 @@ module _ (m : Limits) (b : List ℕ) (n : ℕ) (room : longest m < length b) whe
     byte_f : (i : ℕ) → i < n → byte i f ≡ byte i b
     byte_f i h =
         let e : 0 + i ≡ i = omega arith in
-        get_d_cut_lem b 0 n i (omega arith) ∙ ap (λ (j : ℕ). get_or b j 0) e
+        get_d_cut b 0 n i (omega arith) ∙ ap (λ (j : ℕ). get_or b j 0) e
 
     -- without what is in front of the pairs
     shorter : length f < front (config_in f) → counts_rule m f ≡ false

@@ -6,7 +6,7 @@ use mathlib.Core.List.{List, [], ◌∷◌, map}
 use native.Mathlib.Omega.{arith}
 use Rattle.std.proofs.Math.ListN.{get_or, take}
 use Rattle.rows.specs.Splice.{cut}
-use Rattle.rows.specs.Laws.{length_cut, get_d_cut_lem}
+use Rattle.rows.specs.Laws.{length_cut, get_d_cut}
 use Rattle.ledger.specs.Lists.{at, byte, sum}
 use Rattle.ledger.specs.Config as config
 use Rattle.ledger.specs.Config.{shapes_in, config_in}
@@ -53,7 +53,7 @@ module _ (g : List ℕ) (s : Shape) (long : front_bytes s ≤ length g) (o : Of 
   part_length = let l = o.laid in length_cut g here (here + 2 * s.queues) (omega arith) ∙ omega arith
 
   part_at : (j : ℕ) → j < 2 * s.queues → get_or part j 0 ≡ get_or g (here + j) 0
-  part_at j h = get_d_cut_lem g here (here + 2 * s.queues) j (omega arith)
+  part_at j h = get_d_cut g here (here + 2 * s.queues) j (omega arith)
 
   small : sum (map product (config_in g).shapes) ≤ 4096
   unfolding bytes_of

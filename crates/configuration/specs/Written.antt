@@ -4,7 +4,7 @@ use Rattle.std.proofs.Common.{sym, ap, ◌∙◌, subst, arith, length-set, ext_
 use Rattle.std.proofs.lemmas.List.{length-replicate, get_or-replicate}
 use borrow.Rule.Slice.PartMut.{put_mid}
 use Rattle.rows.specs.Splice.{cut, splice}
-use Rattle.rows.specs.Laws.{length_cut, get_d_cut_lem, length_splice}
+use Rattle.rows.specs.Laws.{length_cut, get_d_cut, length_splice}
 use Rattle.rows.specs.Bytes.{byte_in, byte_below, byte_above, lent_part}
 use Rattle.tables.specs.declared.shape.Shape.{Shape}
 use Rattle.tables.specs.declared.blocks.Block.{Block}
@@ -115,7 +115,7 @@ module _ (s : Shape) (l : Laid s) (states d : List ℕ) (room : s.end ≤ length
   planes = cut d₁ planes_at records_at
 
   planes_blank : (i : ℕ) → i < 64 → get_or planes i 0 ≡ 0
-  planes_blank i h = get_d_cut_lem d₁ planes_at records_at i (omega arith) ∙ blank (planes_at + i) (omega arith)
+  planes_blank i h = get_d_cut d₁ planes_at records_at i (omega arith) ∙ blank (planes_at + i) (omega arith)
 
   length_two : (ps d₂ : List ℕ) → length ps ≡ 64 → d₂ ≡ put_mid planes_at (records_at - planes_at) d₁ ps → (length d₂ ≡ length d) × (d₂ ≡ splice d₁ planes_at ps)
   length_two ps d₂ n e =
@@ -169,7 +169,7 @@ module _ (s : Shape) (l : Laid s) (states d : List ℕ) (room : s.end ≤ length
     no_request : (i j : ℕ) → i < s.tasks → 1 ≤ j → j < 6 → get_or d₄ (s.recordat + (i * 6 + j)) 0 ≡ 0
     no_request i j h x y =
         within (i * 6 + j) (omega arith) ∙ b.others i j x y
-        ∙ get_d_cut_lem d₂ s.recordat s.semaphoreat (i * 6 + j) (omega arith)
+        ∙ get_d_cut d₂ s.recordat s.semaphoreat (i * 6 + j) (omega arith)
         ∙ was_above (s.recordat + (i * 6 + j)) (omega arith) (omega arith)
 
     planes_now : cut d₄ planes_at records_at ≡ ps
@@ -177,7 +177,7 @@ module _ (s : Shape) (l : Laid s) (states d : List ℕ) (room : s.end ≤ length
         let n : length (cut d₄ planes_at records_at) ≡ 64 = length_cut d₄ planes_at records_at (omega (arith, length-set d₃ 0 k, length_d₃)) in
         ext_get_or 0 (cut d₄ planes_at records_at) ps (n ∙ sym lp) (λ i h.
         let u : i < 64 = omega arith in
-        get_d_cut_lem d₄ planes_at records_at i (omega arith) ∙ before (planes_at + i) (omega arith) (omega arith) ∙ was_plane i u)
+        get_d_cut d₄ planes_at records_at i (omega arith) ∙ before (planes_at + i) (omega arith) (omega arith) ∙ was_plane i u)
 
     written_tables : FreshTables s k states d₄
     written_tables =

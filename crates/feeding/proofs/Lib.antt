@@ -1,3 +1,4 @@
+pub mod Whole
 pub mod Session
 -- Its functions in the world of a build.
 pub mod Linked

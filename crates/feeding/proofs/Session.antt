@@ -13,7 +13,8 @@ use Rattle.mcx11.specs.Contract.{memory}
 use Rattle.feeding.specs.declared.Reached.{Reached}
 use Rattle.feeding.specs.declared.Stage.TheVariants.{Ended}
 use Rattle.feeding.specs.Input.{Stands, first, over, Fed, behind, fed, last}
-use Rattle.feeding.specs.Whole.{parts, text, whole, over_silent}
+use Rattle.feeding.specs.Whole.{parts, text, over_silent}
+use Rattle.feeding.proofs.Whole.{whole}
 use Rattle.feeding.specs.Line.{Keeps, keeps_none}
 use Rattle.feeding.specs.Replies.{At, only_over}
 use Rattle.feeding.specs.Feeds.{begun, again, Lent, lent, Feeds, Ends}

@@ -67,9 +67,9 @@ pub length_pairs : (ds : List ℕ) → length (pairs ds) ≡ length ds / 2
 unfolding pairs
 length_pairs ds = twos_length _ ds (length ds / 2) (omega arith) (omega arith)
 
-pub get_d_pairs_lem : (ds : List ℕ) (i : ℕ) → i < length ds / 2 → get_or (pairs ds) i 0 ≡ 16 * nibble (get_or ds (2 * i) 0) + nibble (get_or ds (2 * i + 1) 0)
+pub get_d_pairs : (ds : List ℕ) (i : ℕ) → i < length ds / 2 → get_or (pairs ds) i 0 ≡ 16 * nibble (get_or ds (2 * i) 0) + nibble (get_or ds (2 * i + 1) 0)
 unfolding pairs
-get_d_pairs_lem ds i b = twos_at _ i ds 0 (omega arith)
+get_d_pairs ds i b = twos_at _ i ds 0 (omega arith)
 
 -- ---- the bytes of the digits: none of an odd line or one with another character
 

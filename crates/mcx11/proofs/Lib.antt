@@ -1,4 +1,5 @@
 pub mod Signed
 pub mod Results
+pub mod Inside
 -- Its functions in the world of a build.
 pub mod Linked

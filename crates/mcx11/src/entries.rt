@@ -1,4 +1,4 @@
-// The exported C functions of the executive: the ride controller's, and those of the brake module, which has less memory.
+// The exported functions of the executive: the ride controller's, and those of the brake module, which has less memory.
 // Each gives the number: 0 accepted, 11 where the lent memory is short or, for a frame, broken; then nothing is written.
 // A frame's limits are tested in the entry itself, with numbers that the compiler knows; the rest is one function for both.
 ghost use Rattle.ledger.specs.Config as limits;
@@ -8,8 +8,7 @@ use configuration::limits::{brake_module, controller};
 use parts::FRAME_AT;
 
 // Configures the ride controller.
-#[unsafe(no_mangle)]
-pub extern "C" fn mcx11_configure_blocks(
+pub fn mcx11_configure_blocks(
     frame: &[u8],
     config: &mut [u8],
     tables: &mut [u8],
@@ -24,8 +23,7 @@ pub extern "C" fn mcx11_configure_blocks(
 }
 
 // Carries out a frame on the ride controller.
-#[unsafe(no_mangle)]
-pub extern "C" fn mcx11_frame_blocks(
+pub fn mcx11_frame_blocks(
     frame: &[u8],
     config: &[u8],
     tables: &mut [u8],
@@ -54,8 +52,7 @@ pub extern "C" fn mcx11_frame_blocks(
 }
 
 // Configures the brake module.
-#[unsafe(no_mangle)]
-pub extern "C" fn mcx11_module_configure_blocks(
+pub fn mcx11_module_configure_blocks(
     frame: &[u8],
     config: &mut [u8],
     tables: &mut [u8],
@@ -70,8 +67,7 @@ pub extern "C" fn mcx11_module_configure_blocks(
 }
 
 // Carries out a frame on the brake module.
-#[unsafe(no_mangle)]
-pub extern "C" fn mcx11_module_frame_blocks(
+pub fn mcx11_module_frame_blocks(
     frame: &[u8],
     config: &[u8],
     tables: &mut [u8],

@@ -10,8 +10,8 @@ use Rattle.ledger.specs.Lists.{within, any, keep, find, without, insert_by}
 use Rattle.ledger.specs.Ledger.{Message}
 use Rattle.ledger.specs.Services.{wanted}
 use Rattle.ledger.proofs.Theorems.Parts.{part_keep, part_length}
-use Rattle.rows.specs.Rows.{insert_at, remove_at, map_insert_at_lem}
-use Rattle.rows.specs.First.{first_of, keep_insert, keep_insert_other, keep_remove, keep_remove_other, keep_at, map_remove_at_lem, without_is, find_some, find_none, any_is, insert_by_is_lem}
+use Rattle.rows.specs.Rows.{insert_at, remove_at, map_insert_at}
+use Rattle.rows.specs.First.{first_of, keep_insert, keep_insert_other, keep_remove, keep_remove_other, keep_at, map_remove_at, without_is, find_some, find_none, any_is, insert_by_is}
 use Rattle.rows.specs.Tab.{tab}
 use Rattle.messages.specs.Lists.{and_left, first_map, first_passes, any_map, any_keep, any_ext, below_any, below_tab, below_eqb}
 use Rattle.messages.specs.Pending.{Pending, pending, for, mailbox_of, mailboxes_of, place_for, wanted_by, place_of}
@@ -29,9 +29,9 @@ module _ (p : Pending) (l : List Pending) where
       let s : Message → Bool = λ m. ltb p.message.sender m.sender in
       let k : List Pending = keep (for p.to) l in
       ap (map contents) (keep_insert (for p.to) q p (eq-eqb p.to p.to refl) l)
-      ∙ map_insert_at_lem contents (first_of q k) p k
+      ∙ map_insert_at contents (first_of q k) p k
       ∙ ap (λ (i : ℕ). insert_at i p.message (map contents k)) (sym (first_map contents s k))
-      ∙ sym (insert_by_is_lem (λ (m : Message). m.sender) p.message (map contents k))
+      ∙ sym (insert_by_is (λ (m : Message). m.sender) p.message (map contents k))
 
   pub mailbox_insert_other : (u k : ℕ) → (p.to ≢ u) → mailbox_of u (insert_at k p l) ≡ mailbox_of u l
   unfolding mailbox_of
@@ -50,7 +50,7 @@ module _ (t a : ℕ) (l : List Pending) where
   unfolding mailbox_of place_of
   mailbox_remove =
       ap (map contents) (keep_remove (for t) asked l)
-      ∙ map_remove_at_lem contents (first_of asked kept) kept
+      ∙ map_remove_at contents (first_of asked kept) kept
       ∙ ap (λ (i : ℕ). remove_at i (map contents kept)) (sym (first_map contents (wanted a) kept))
       ∙ sym (without_is (wanted a) (map contents kept))
 

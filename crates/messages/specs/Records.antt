@@ -6,8 +6,8 @@ use Rattle.std.proofs.Math.Option.{none, some}
 use Rattle.std.proofs.Math.ListN.{length-map, get_or-map}
 use Rattle.ledger.specs.Lists.{within, any, all, find}
 use Rattle.ledger.specs.Services.{wanted}
-use Rattle.rows.specs.Rows.{rows_of, insert_at, remove_at, get_d_row_lem, get_d_rows, length_rows, map_insert_at_lem}
-use Rattle.rows.specs.First.{first_of, map_remove_at_lem, any_is}
+use Rattle.rows.specs.Rows.{rows_of, insert_at, remove_at, get_d_row, get_d_rows, length_rows, map_insert_at}
+use Rattle.rows.specs.First.{first_of, map_remove_at, any_is}
 use Rattle.messages.specs.Lists.{all_insert, all_remove, any_map, any_ext}
 use Rattle.messages.specs.Pending.{Pending, to_task, addressed, letter, pending, receiver, pending_of, pending_at, pending_in, letter_at, numbers_in, for, mailbox_of, mailboxes_of, numbered, behind, place_for, wanted_by, place_of, occurs}
 use Rattle.messages.specs.Changes.{Inserted, Found, Removed, Taken}
@@ -57,11 +57,11 @@ module _ (T : ℕ) where
       → pending (receiver T (slice_index d (k * 4))) (slice_index d (k * 4 + 1)) (slice_index d (k * 4 + 2)) (slice_index d (k * 4 + 3)) ≡ pending_at T k d
   unfolding pending_at
   pending_bytes k d =
-      sym (simp (get_d_row_lem 4 k 0 d (omega arith), get_d_row_lem 4 k 1 d (omega arith), get_d_row_lem 4 k 2 d (omega arith), get_d_row_lem 4 k 3 d (omega arith), add-zero))
+      sym (simp (get_d_row 4 k 0 d (omega arith), get_d_row 4 k 1 d (omega arith), get_d_row 4 k 2 d (omega arith), get_d_row 4 k 3 d (omega arith), add-zero))
 
 pub letter_bytes : (k : ℕ) (d : List ℕ) → letter (slice_index d (k * 4 + 1)) (slice_index d (k * 4 + 2)) (slice_index d (k * 4 + 3)) ≡ letter_at k d
 unfolding letter_at
-letter_bytes k d = sym (simp (get_d_row_lem 4 k 1 d (omega arith), get_d_row_lem 4 k 2 d (omega arith), get_d_row_lem 4 k 3 d (omega arith)))
+letter_bytes k d = sym (simp (get_d_row 4 k 1 d (omega arith), get_d_row 4 k 2 d (omega arith), get_d_row 4 k 3 d (omega arith)))
 
 pub number_length : (n : ℕ) (d : List ℕ) → length (numbers_in n d) ≡ n
 unfolding numbers_in
@@ -70,7 +70,7 @@ number_length n d = length-map (rows_of 4 n d) (λ r. slice_index r 1) ∙ lengt
 pub number_at : (n k : ℕ) (d : List ℕ) → k < n → slice_index (numbers_in n d) k ≡ slice_index d (k * 4 + 1)
 unfolding numbers_in
 number_at n k d h =
-    get_or-map (λ (r : List ℕ). slice_index r 1) (rows_of 4 n d) k [] ∙ ap (λ (r : List ℕ). slice_index r 1) (get_d_rows 4 n k d h) ∙ get_d_row_lem 4 k 1 d (omega arith)
+    get_or-map (λ (r : List ℕ). slice_index r 1) (rows_of 4 n d) k [] ∙ ap (λ (r : List ℕ). slice_index r 1) (get_d_rows 4 n k d h) ∙ get_d_row 4 k 1 d (omega arith)
 
 -- ---- record k, tested by its bytes
 
@@ -146,7 +146,7 @@ inserted T n k t x s b d d' low high at e =
     let l : List Pending = pending_in T n d in
     let m : pending_of T (t ∷ x ∷ s ∷ b ∷ []) ≡ p = ap (λ (u : ℕ). pending u x s b) (means_task T t low high) in
     let q : pending_in T (n + 1) d' ≡ insert_at (place_for t s l) p l =
-    ap (map (pending_of T)) e ∙ map_insert_at_lem (pending_of T) k (t ∷ x ∷ s ∷ b ∷ []) (rows_of 4 n d) ∙ ap₂ (λ (i : ℕ) (u : Pending). insert_at i u l) at m in
+    ap (map (pending_of T)) e ∙ map_insert_at (pending_of T) k (t ∷ x ∷ s ∷ b ∷ []) (rows_of 4 n d) ∙ ap₂ (λ (i : ℕ) (u : Pending). insert_at i u l) at m in
     record {
       own = ap (mailbox_of t) q ∙ mailbox_insert p l;
       others = λ u ne. ap (mailbox_of u) q ∙ mailbox_insert_other p l u (place_for t s l) ne;
@@ -156,7 +156,7 @@ inserted T n k t x s b d d' low high at e =
 pub removed : (n k : ℕ) (d d' : List ℕ) → rows_of 4 (n - 1) d' ≡ remove_at k (rows_of 4 n d) → Removed n k d d'
 unfolding pending_in addressed
 removed n k d d' e T = (
-  ap (map (pending_of T)) e ∙ map_remove_at_lem (pending_of T) k (rows_of 4 n d),
+  ap (map (pending_of T)) e ∙ map_remove_at (pending_of T) k (rows_of 4 n d),
   λ h. ap (all (to_task T)) e ∙ all_remove (to_task T) k (rows_of 4 n d) h,
 )
 

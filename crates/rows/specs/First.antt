@@ -125,11 +125,11 @@ module _ {A : Type 0} (p : A → Bool) (l : List A) (k : ℕ) where
   unfolding keep
   keep_end h = rw (drop_of_length-le l {i = k} h, take_all k l h) (append-nil l)
 
-pub map_remove_at_lem : {A B : Type 0} (f : A → B) (k : ℕ) (l : List A) → map f (remove_at k l) ≡ remove_at k (map f l)
-map_remove_at_lem {B = B} f zero [] = refl
-map_remove_at_lem {B = B} f zero (x ∷ xs) = refl
-map_remove_at_lem {B = B} f (suc k) [] = rw suc-add
-map_remove_at_lem {B = B} f (suc k) (x ∷ xs) = rw suc-add (ap (λ (r : List B). f x ∷ r) (map_remove_at_lem f k xs))
+pub map_remove_at : {A B : Type 0} (f : A → B) (k : ℕ) (l : List A) → map f (remove_at k l) ≡ remove_at k (map f l)
+map_remove_at {B = B} f zero [] = refl
+map_remove_at {B = B} f zero (x ∷ xs) = refl
+map_remove_at {B = B} f (suc k) [] = rw suc-add
+map_remove_at {B = B} f (suc k) (x ∷ xs) = rw suc-add (ap (λ (r : List B). f x ∷ r) (map_remove_at f k xs))
 
 -- ---- the ledger's functions on lists, by the place of the first that passes
 module _ {A : Type 0} (p : A → Bool) where
@@ -176,10 +176,10 @@ module _ {A : Type 0} (p : A → Bool) where
       go false e = e ∙ rw (add-one, compare.suc-suc (suc (first_of p us)) (length us))
 
 -- a later insertion behind equals
-pub insert_by_is_lem : {A : Type 0} (key : A → ℕ) (x : A) (l : List A) → insert_by key x l ≡ insert_at (first_of (λ (y : A). ltb (key x) (key y)) l) x l
+pub insert_by_is : {A : Type 0} (key : A → ℕ) (x : A) (l : List A) → insert_by key x l ≡ insert_at (first_of (λ (y : A). ltb (key x) (key y)) l) x l
 unfolding insert_by
-insert_by_is_lem {A} key x [] = refl
-insert_by_is_lem {A} key x (y ∷ ys) = go (ltb (key x) (key y)) (insert_by_is_lem key x ys)
+insert_by_is {A} key x [] = refl
+insert_by_is {A} key x (y ∷ ys) = go (ltb (key x) (key y)) (insert_by_is key x ys)
   where
     go : (b : Bool) → insert_by key x ys ≡ insert_at (first_of (λ (y : A). ltb (key x) (key y)) ys) x ys
         → cond b (x ∷ y ∷ ys) (y ∷ insert_by key x ys) ≡ insert_at (cond b 0 (first_of (λ (y : A). ltb (key x) (key y)) ys + 1)) x (y ∷ ys)

@@ -11,8 +11,8 @@ use Rattle.rows.specs.Splice.{cut, splice}
 pub length_cut : (d : List ℕ) (a e : ℕ) → e ≤ length d → length (cut d a e) ≡ e - a
 length_cut d a e h = simp (length-take, length-drop) (omega arith)
 
-pub get_d_cut_lem : (d : List ℕ) (a e i : ℕ) → i < e - a → get_or (cut d a e) i 0 ≡ get_or d (a + i) 0
-get_d_cut_lem d a e i h = get_or-take (e - a) (drop a d) i 0 h ∙ get_or-drop a d i 0
+pub get_d_cut : (d : List ℕ) (a e i : ℕ) → i < e - a → get_or (cut d a e) i 0 ≡ get_or d (a + i) 0
+get_d_cut d a e i h = get_or-take (e - a) (drop a d) i 0 h ∙ get_or-drop a d i 0
 
 pub length_splice : (d : List ℕ) (at : ℕ) (s : List ℕ) → at + length s ≤ length d → length (splice d at s) ≡ length d
 length_splice d at s h = simp (length-append, length-take, length-drop) (omega arith)

@@ -151,11 +151,11 @@ inserted w n k d d₁ d₂ s room h e p q =
 
 -- the front of a list changed
 module _ {A : Type 0} (k : ℕ) (x y : List A) where
-  remove_at_front_lem : k < length x → remove_at k (x ++ y) ≡ remove_at k x ++ y
-  remove_at_front_lem h = rw (take-append-le k x y (omega arith), drop-append-le (k + 1) x y (omega arith)) (sym (append_assoc (take k x) (drop (k + 1) x) y))
+  remove_at_front : k < length x → remove_at k (x ++ y) ≡ remove_at k x ++ y
+  remove_at_front h = rw (take-append-le k x y (omega arith), drop-append-le (k + 1) x y (omega arith)) (sym (append_assoc (take k x) (drop (k + 1) x) y))
 
-  insert_at_between_lem : (a : A) → length x ≡ k → insert_at k a (x ++ y) ≡ x ++ a ∷ y
-  insert_at_between_lem a e = rw (take_at x y k e, drop_at x y k e)
+  insert_at_between : (a : A) → length x ≡ k → insert_at k a (x ++ y) ≡ x ++ a ∷ y
+  insert_at_between a e = rw (take_at x y k e, drop_at x y k e)
 
 -- row k goes out, and a row comes in as row j, at or behind it
 pub replaced : (w n k j : ℕ) (d d₁ d₂ s : List ℕ) → n * w ≤ length d → k ≤ j → j < n → length s ≡ w
@@ -195,13 +195,13 @@ replaced w n k j d d₁ d₂ s room h f e p q =
     ∙ ap (λ (l : List (List ℕ)). l ++ s ∷ rows_of w r (drop (j * w + w) d₁)) front
     ∙ ap (λ (x : List ℕ). remove_at k X ++ s ∷ rows_of w r x) behind
     ∙ sym (ap (λ (l : List (List ℕ)). insert_at j s (remove_at k l)) all
-    ∙ ap (insert_at j s) (remove_at_front_lem k X Y (omega arith))
-    ∙ insert_at_between_lem j (remove_at k X) Y s lf)
+    ∙ ap (insert_at j s) (remove_at_front k X Y (omega arith))
+    ∙ insert_at_between j (remove_at k X) Y s lf)
 
 -- ---- inside a row
 
-pub get_d_row_lem : (w k j : ℕ) (d : List ℕ) → j < w → get_or (row_at w k d) j 0 ≡ get_or d (k * w + j) 0
-get_d_row_lem w k j d h = get_or-take w (drop (k * w) d) j 0 h ∙ get_or-drop (k * w) d j 0
+pub get_d_row : (w k j : ℕ) (d : List ℕ) → j < w → get_or (row_at w k d) j 0 ≡ get_or d (k * w + j) 0
+get_d_row w k j d h = get_or-take w (drop (k * w) d) j 0 h ∙ get_or-drop (k * w) d j 0
 
 pub length_row : (w k : ℕ) (d : List ℕ) → k * w + w ≤ length d → length (row_at w k d) ≡ w
 length_row w k d h = simp (length-take, length-drop) (omega arith)
@@ -262,22 +262,22 @@ map_upto f (suc k) [] = []
 map_upto f (suc k) (x ∷ xs) = f x ∷ map_upto f k xs
 
 module _ {A : Type 0} (f : A → A) where
-  pub map_upto_at_lem : (k : ℕ) (l : List A) (z : A) → get_or (map_upto f k l) k z ≡ get_or l k z
-  map_upto_at_lem zero l z = refl
-  map_upto_at_lem (suc k) [] z = refl
-  map_upto_at_lem (suc k) (x ∷ xs) z = map_upto_at_lem k xs z
+  pub map_upto_at : (k : ℕ) (l : List A) (z : A) → get_or (map_upto f k l) k z ≡ get_or l k z
+  map_upto_at zero l z = refl
+  map_upto_at (suc k) [] z = refl
+  map_upto_at (suc k) (x ∷ xs) z = map_upto_at k xs z
 
-  pub map_upto_suc_lem : (k : ℕ) (l : List A) (z : A) → k < length l → set (map_upto f k l) k (f (get_or l k z)) ≡ map_upto f (suc k) l
-  map_upto_suc_lem zero [] z h = refl
-  map_upto_suc_lem zero (x ∷ xs) z h = refl
-  map_upto_suc_lem (suc k) [] z h = refl
-  map_upto_suc_lem (suc k) (x ∷ xs) z h = ap (λ (r : List A). f x ∷ r) (map_upto_suc_lem k xs z (omega arith))
+  pub map_upto_suc : (k : ℕ) (l : List A) (z : A) → k < length l → set (map_upto f k l) k (f (get_or l k z)) ≡ map_upto f (suc k) l
+  map_upto_suc zero [] z h = refl
+  map_upto_suc zero (x ∷ xs) z h = refl
+  map_upto_suc (suc k) [] z h = refl
+  map_upto_suc (suc k) (x ∷ xs) z h = ap (λ (r : List A). f x ∷ r) (map_upto_suc k xs z (omega arith))
 
-  pub map_upto_all_lem : (k : ℕ) (l : List A) → length l ≤ k → map_upto f k l ≡ map f l
-  map_upto_all_lem zero [] h = refl
-  map_upto_all_lem zero (x ∷ xs) h = absurd (omega arith)
-  map_upto_all_lem (suc k) [] h = refl
-  map_upto_all_lem (suc k) (x ∷ xs) h = ap (λ (r : List A). f x ∷ r) (map_upto_all_lem k xs (omega arith))
+  pub map_upto_all : (k : ℕ) (l : List A) → length l ≤ k → map_upto f k l ≡ map f l
+  map_upto_all zero [] h = refl
+  map_upto_all zero (x ∷ xs) h = absurd (omega arith)
+  map_upto_all (suc k) [] h = refl
+  map_upto_all (suc k) (x ∷ xs) h = ap (λ (r : List A). f x ∷ r) (map_upto_all k xs (omega arith))
 
 pub map_set : {A B : Type 0} (f : A → B) (l : List A) (k : ℕ) (a : A) → map f (set l k a) ≡ set (map f l) k (f a)
 map_set {B = B} f [] k a = refl
@@ -293,7 +293,7 @@ pub drop_elems : (m i : ℕ) (r : List ℕ) → length r ≡ i + m → drop i r 
 drop_elems zero i r h = drop_of_length-le r {i = i} (omega arith)
 drop_elems (suc m) i r h = drop-cons r i 0 (omega arith) ∙ ap (λ (z : List ℕ). get_or r i 0 ∷ z) (drop_elems m (suc i) r (omega arith))
 
-pub map_insert_at_lem : {A B : Type 0} (f : A → B) (k : ℕ) (a : A) (l : List A) → map f (insert_at k a l) ≡ insert_at k (f a) (map f l)
-map_insert_at_lem {B = B} f zero a l = refl
-map_insert_at_lem {B = B} f (suc k) a [] = refl
-map_insert_at_lem {B = B} f (suc k) a (x ∷ xs) = ap (λ (r : List B). f x ∷ r) (map_insert_at_lem f k a xs)
+pub map_insert_at : {A B : Type 0} (f : A → B) (k : ℕ) (a : A) (l : List A) → map f (insert_at k a l) ≡ insert_at k (f a) (map f l)
+map_insert_at {B = B} f zero a l = refl
+map_insert_at {B = B} f (suc k) a [] = refl
+map_insert_at {B = B} f (suc k) a (x ∷ xs) = ap (λ (r : List B). f x ∷ r) (map_insert_at f k a xs)

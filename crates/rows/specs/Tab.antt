@@ -68,13 +68,13 @@ map_tab {B = B} g (suc n) f = ap₂ ◌∷◌ refl (map_tab g n (λ i. f (suc i)
 
 -- ---- numbered items, mapped, and one of them new
 module _ {A B : Type 0} (f : A → B) where
-  get_d_of_map_lem : (l : List A) (n : ℕ) (z : A) → get_or (map f l) n (f z) ≡ f (get_or l n z)
-  get_d_of_map_lem l n z = get_or-map f l n z
+  get_d_of_map : (l : List A) (n : ℕ) (z : A) → get_or (map f l) n (f z) ≡ f (get_or l n z)
+  get_d_of_map l n z = get_or-map f l n z
 
   pub at_map : (l : List A) (n : ℕ) (z : A) → at (map f l) n (f z) ≡ f (at l n z)
   unfolding at
   at_map l zero z = refl
-  at_map l (suc n) z = get_d_of_map_lem l n z
+  at_map l (suc n) z = get_d_of_map l n z
 
   pub map_put : (l : List A) (n : ℕ) (v : A) → map f (put l n v) ≡ put (map f l) n (f v)
   unfolding put
@@ -82,16 +82,16 @@ module _ {A B : Type 0} (f : A → B) where
   map_put l (suc n) v = map_set f l n v
 
 module _ {A : Type 0} (P : A → Type 0) where
-  get_d_every_lem : (l : List A) (n : ℕ) (v z : A) → P v → ((m : ℕ) → P (get_or l m z)) → (m : ℕ) → P (get_or (set l n v) m z)
-  get_d_every_lem [] n v z a h m = h m
-  get_d_every_lem (x ∷ xs) zero v z a h zero = a
-  get_d_every_lem (x ∷ xs) zero v z a h (suc m) = h (suc m)
-  get_d_every_lem (x ∷ xs) (suc n) v z a h zero = h zero
-  get_d_every_lem (x ∷ xs) (suc n) v z a h (suc m) = get_d_every_lem xs n v z a (λ k. h (suc k)) m
+  get_d_every : (l : List A) (n : ℕ) (v z : A) → P v → ((m : ℕ) → P (get_or l m z)) → (m : ℕ) → P (get_or (set l n v) m z)
+  get_d_every [] n v z a h m = h m
+  get_d_every (x ∷ xs) zero v z a h zero = a
+  get_d_every (x ∷ xs) zero v z a h (suc m) = h (suc m)
+  get_d_every (x ∷ xs) (suc n) v z a h zero = h zero
+  get_d_every (x ∷ xs) (suc n) v z a h (suc m) = get_d_every xs n v z a (λ k. h (suc k)) m
 
   -- what holds of every item holds with a new one of which it holds
   pub at_every : (l : List A) (n : ℕ) (v z : A) → P v → ((m : ℕ) → P (at l m z)) → (m : ℕ) → P (at (put l n v) m z)
   unfolding at put
   at_every l zero v z a h m = h m
   at_every l (suc n) v z a h zero = h zero
-  at_every l (suc n) v z a h (suc m) = get_d_every_lem l n v z a (λ k. h (suc k)) m
+  at_every l (suc n) v z a h (suc m) = get_d_every l n v z a (λ k. h (suc k)) m

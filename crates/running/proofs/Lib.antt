@@ -1,3 +1,4 @@
+pub mod SlicesStop
 pub mod Runs
 pub mod Stored
 pub mod Buffer

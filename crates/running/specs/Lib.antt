@@ -2,6 +2,7 @@ pub mod Slices
 pub mod Memories
 pub mod Stores
 pub mod OneRun
+pub mod LentSlices
 pub mod Machine
 pub mod One
 pub mod Rows

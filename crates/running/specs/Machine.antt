@@ -5,7 +5,7 @@
 -- That a routine which meets its contract has such a run, from every memory that holds the slices, is `runs` of proofs/Runs.antt.
 use Rattle.std.specs.Prelude.{◌≡◌, ℕ, List, [], ◌∷◌, ◌++◌}
 use mir.Val.{Val}
-use base.Logic.{SProp, ent, sep, ex, guard, emp, via, comm∗, assoc∗, assoc', emp∗, mono∗, mono_l, mono_r, fst∗, ex_i, ex_e}
+use base.Logic.{SProp, ent, sep, ex, emp, via, comm∗, assoc∗, assoc', emp∗, mono∗, mono_l, mono_r, fst∗, ex_i, ex_e}
 use Rattle.std.specs.Borrow.{Fml, RattleType}
 use prog.Memory.{Memory}
 use prog.Machine.{done as ended}
@@ -19,9 +19,10 @@ use contract.Closed.{model⁺, real⁺}
 use contract.Monad.{fact, fact_i, fact_mono}
 use contract.Adequate.{Satisfies, sat_weaken}
 use denote.Laws.{Is}
-use Rattle.running.specs.Slices.{Kind, Slice, Ids, LastValues, afters, SameLengths, AreBytes, owns_of, asides_of, lefts_of, cells_at, cells_of, toks_of}
+use Rattle.running.specs.Slices.{Kind, Slice, Ids, LastValues, afters, SameLengths, AreBytes, lefts_of, cells_at, cells_of, toks_of}
 use Rattle.running.specs.OneRun as any
 use Rattle.running.specs.OneRun.{Lending}
+use Rattle.running.specs.LentSlices as slices
 use Rattle.running.specs.Memories as memories
 use Rattle.running.specs.Memories.{LoadsAll, side_by_side, inarow, AllBytes}
 
@@ -63,22 +64,9 @@ in_front P Q R = via closed.𝓤 (P ∗ (Q ∗ R)) (swap Q P R) (assoc' closed.�
 
 -- ---- one run
 
--- slices are lent; they come back as long as they were, and of bytes
-abbrev pub AsLong : (L : List Slice) → LastValues L → Type 0
-AsLong L ws = SameLengths L ws × AreBytes (afters L ws)
-
+-- slices are lent
 abbrev pub lending : List Slice → Lending closed.𝓤
-lending L =
-    record {
-      Ids = Ids L;
-      Last = LastValues L;
-      before = Cells L;
-      after = λ ws. guard closed.𝓤 (AsLong L ws) (Cells (afters L ws));
-      tokens = toks_of logic₀ L;
-      owns = λ ids. meaning closed.𝓤 closed.H A₀ (owns_of 0 L ids);
-      aside = λ ids. meaning closed.𝓤 closed.H A₀ (asides_of L ids);
-      left = λ ids ws. meaning closed.𝓤 closed.H A₀ (lefts_of L ids ws);
-    }
+lending = slices.lending logic₀
 
 abbrev pub Enters : (L : List Slice) (T : RattleType) → Ids L → Pr
 Enters L T = any.Enters logic₀ model⁺ (lending L) T

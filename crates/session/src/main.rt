@@ -1,13 +1,13 @@
 // The session program: lines of frames from standard input, their answers to standard output.
 // Promises nothing by itself, since no contract can say what is read or written: each block goes through `feeding::feed`.
-// Rests on feeding, whose theorem `session` is about every list of blocks, and on io and libc to read and write.
+// Rests on feeding, whose theorem `session` is about every list of blocks, and on std's streams to read and write.
 #![tactic(auto)]
 
 ghost use Rattle.std.specs.Prelude.{◌≤◌, length};
 ghost use Rattle.feeding.specs.Line.{most};
 
 use feeding::{HELD, Reached, Stage};
-use libc::{STDERR_FILENO, STDIN_FILENO, STDOUT_FILENO};
+use std::io::{Read, Write};
 
 // How far the input is fed, whether there is more of it to feed, and whether its end was met.
 #[derive(Clone, Copy)]
@@ -26,24 +26,25 @@ fn goes_on(stage: Stage) -> bool {
     }
 }
 
-// Says what went wrong, with a line's end, to standard error.
-fn complain(what: &[u8]) {
-    io::write_all(STDERR_FILENO, what);
+// Says what went wrong, with a line's end, to standard error. Where that fails too, nobody can be told.
+fn complain(rt: &HostRuntime, what: &[u8]) {
+    let _ = rt.stderr().write_all(what).is_ok();
 }
 
 // Writes what was printed.
-fn write_out(out: &[u8], printed: usize) -> bool
+fn write_out(rt: &HostRuntime, out: &[u8], printed: usize) -> bool
     requires { printed ≤ length out.now }
 {
-    let written = io::write_all(STDOUT_FILENO, &out[..printed]);
+    let written = rt.stdout().write_all(&out[..printed]).is_ok();
     if !written {
-        complain(b"session: the output cannot be written\n");
+        complain(rt, b"session: the output cannot be written\n");
     }
     written
 }
 
 // Reads a block, feeds it and writes what was printed. An error is not the end of the input, and no line ends with it.
 fn turn(
+    rt: &HostRuntime,
     reached: Reached,
     line: &mut [u8; HELD],
     config: &mut [u8; 336],
@@ -57,16 +58,15 @@ fn turn(
     ensures { result.reached.held ≤ most }
 {
     let mut input = [0u8; 8192];
-    let got = libc::read(STDIN_FILENO, &mut input);
-    if got < 0 {
-        complain(b"session: the input cannot be read\n");
+    let got = rt.stdin().read(&mut input);
+    let Ok(n) = got else {
+        complain(rt, b"session: the input cannot be read\n");
         return Fed {
             reached: reached,
             more: false,
             ended: false,
         };
-    }
-    let n = io::count(got, &input);
+    };
     let from = feeding::next_block(reached);
     let r = feeding::feed(
         &input[..n],
@@ -79,10 +79,10 @@ fn turn(
         answer,
         out,
     );
-    let written = write_out(out, r.printed);
+    let written = write_out(rt, out, r.printed);
     let stage = r.stage;
-    let more = got > 0 && written && goes_on(stage);
-    let ended = got == 0 && written;
+    let more = n > 0 && written && goes_on(stage);
+    let ended = n == 0 && written;
     Fed {
         reached: r,
         more: more,
@@ -92,6 +92,7 @@ fn turn(
 
 // The end of the input.
 fn end(
+    rt: &HostRuntime,
     reached: Reached,
     line: &[u8; HELD],
     config: &mut [u8; 336],
@@ -105,12 +106,12 @@ fn end(
 {
     let last = feeding::next_block(reached);
     let printed = feeding::finish(last, line, config, tables, slots, timers, answer, out);
-    write_out(out, printed);
+    write_out(rt, out, printed);
 }
 
 // Feeds all of the input. A proved loop has to end, and nothing says that an input does, so the turns are counted down from a
 // number that no run uses up.
-fn main() {
+fn main(rt: HostRuntime) {
     let mut line = [0u8; HELD];
     let mut config = [0u8; 336];
     let mut tables = [0u8; 7517];
@@ -124,6 +125,7 @@ fn main() {
     let mut turns = u64::MAX;
     while turns > 0 && more {
         let t = turn(
+            &rt,
             reached,
             &mut line,
             &mut config,
@@ -140,6 +142,7 @@ fn main() {
     }
     if ended {
         end(
+            &rt,
             reached,
             &line,
             &mut config,

@@ -10,7 +10,7 @@ use Rattle.std.proofs.Math.Dec.{eqb, ltb}
 use Rattle.std.proofs.Math.ListN.{length}
 use borrow.Author.Tests.{eqb-true, eqb-false, ltb-true, ltb-false}
 use Rattle.rows.specs.Splice.{cut, splice}
-use Rattle.rows.specs.Laws.{length_cut, get_d_cut_lem, cut_inside, cut_apart, set_is_splice}
+use Rattle.rows.specs.Laws.{length_cut, get_d_cut, cut_inside, cut_apart, set_is_splice}
 use Rattle.rows.specs.Rows.{row_at, row_of_cut}
 use Rattle.tables.specs.declared.shape.Shape.{Shape}
 
@@ -203,7 +203,7 @@ module _ (s : Shape) (l : Laid s) where
 -- a byte of a region
 pub region_at : (s : Shape) (d : List ℕ) (k i : ℕ) → i < bound s (suc k) - bound s k → get_or (region s d k) i 0 ≡ get_or d (bound s k + i) 0
 unfolding region
-region_at s d k i h = get_d_cut_lem d (bound s k) (bound s (suc k)) i h
+region_at s d k i h = get_d_cut d (bound s k) (bound s (suc k)) i h
 
 module _ {s : Shape} {n : ℕ} (f : Fits s n) (d : List ℕ) (t : ℕ) (i : OneOf s.tasks t) where
   pub record_at_lem : row_at 6 (t - 1) (regions s d).records ≡ cut d (s.recordat + (t - 1) * 6) (s.recordat + (t - 1) * 6 + 6)

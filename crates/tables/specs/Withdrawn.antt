@@ -6,7 +6,7 @@ use Rattle.std.proofs.lemmas.List.{length-map}
 use Rattle.std.proofs.Math.ListN.{get_or-map}
 use Rattle.rows.specs.Splice.{cut, splice}
 use Rattle.rows.specs.Laws.{length_cut, length_splice, splice_whole, lent_back}
-use Rattle.rows.specs.Rows.{map_upto, map_upto_at_lem, map_upto_suc_lem, map_upto_all_lem}
+use Rattle.rows.specs.Rows.{map_upto, map_upto_at, map_upto_suc, map_upto_all}
 use Rattle.rows.specs.Tab.{tab_ext, map_tab}
 use Rattle.ledger.specs.Config.{Config}
 use Rattle.ledger.specs.Ledger.{Ledger, Semaphore}
@@ -22,11 +22,11 @@ use Rattle.tables.specs.Stored.{shows_as}
 -- ---- the loop
 pub cleared_turn : (t i : ℕ) (l₀ l : List ℕ) (r : ℕ) → i < length l₀ → l ≡ map_upto (cleared_of t) i l₀ → r ≡ cleared_of t (get_or l i 0) → set l i r ≡ map_upto (cleared_of t) (i + 1) l₀
 cleared_turn t i l₀ l r h e er =
-    let x : r ≡ cleared_of t (get_or l₀ i 0) = er ∙ ap (λ (y : List ℕ). cleared_of t (get_or y i 0)) e ∙ ap (cleared_of t) (map_upto_at_lem (cleared_of t) i l₀ 0) in
-    ap (λ (y : ℕ). set l i y) x ∙ ap (λ (y : List ℕ). set y i (cleared_of t (get_or l₀ i 0))) e ∙ map_upto_suc_lem (cleared_of t) i l₀ 0 h ∙ ap (λ (n : ℕ). map_upto (cleared_of t) n l₀) (sym (add-one i))
+    let x : r ≡ cleared_of t (get_or l₀ i 0) = er ∙ ap (λ (y : List ℕ). cleared_of t (get_or y i 0)) e ∙ ap (cleared_of t) (map_upto_at (cleared_of t) i l₀ 0) in
+    ap (λ (y : ℕ). set l i y) x ∙ ap (λ (y : List ℕ). set y i (cleared_of t (get_or l₀ i 0))) e ∙ map_upto_suc (cleared_of t) i l₀ 0 h ∙ ap (λ (n : ℕ). map_upto (cleared_of t) n l₀) (sym (add-one i))
 
 pub cleared_end : (t i : ℕ) (l₀ l : List ℕ) → length l₀ ≤ i → l ≡ map_upto (cleared_of t) i l₀ → l ≡ map (cleared_of t) l₀
-cleared_end t i l₀ l h e = e ∙ map_upto_all_lem (cleared_of t) i l₀ h
+cleared_end t i l₀ l h e = e ∙ map_upto_all (cleared_of t) i l₀ h
 
 -- ---- one semaphore
 cleared_zero : (t : ℕ) → cleared_of t 0 ≡ 0

@@ -3,7 +3,7 @@ use Rattle.std.specs.Prelude.{◌≡◌, List, ℕ, suc, ◌+◌, ◌*◌, ◌^�
 use Rattle.std.proofs.Common.{sym, ap, ◌∙◌, arith, get_or-take}
 use Rattle.ledger.specs.Ledger.{Timer}
 use Rattle.rows.specs.Splice.{splice}
-use Rattle.rows.specs.Rows.{row_at, get_d_row_lem, drop_elems, elems}
+use Rattle.rows.specs.Rows.{row_at, get_d_row, drop_elems, elems}
 use Rattle.rows.specs.Four.{le4, bytes4, four_back}
 use Rattle.timers.specs.Timers.{row_of, entry, entry_of, record_at, due_at}
 
@@ -35,7 +35,7 @@ pub row_at_lem : (d : List ℕ) (k : ℕ) → entry_of (row_at 10 (suc k) d) ≡
 unfolding entry_of
 row_at_lem d k =
     let g : (i j : ℕ) → i < 10 → j ≡ suc k * 10 + i → get_or (row_at 10 (suc k) d) i 0 ≡ get_or d j 0 =
-    λ i j h e. get_d_row_lem 10 (suc k) i d h ∙ ap (λ (m : ℕ). get_or d m 0) (sym e) in
+    λ i j h e. get_d_row 10 (suc k) i d h ∙ ap (λ (m : ℕ). get_or d m 0) (sym e) in
     rw (
       g 0 (k * 10 + 10) (omega arith) (omega arith),
       g 1 (k * 10 + 11) (omega arith) (omega arith),

@@ -4,7 +4,7 @@ use Rattle.std.proofs.Common.{sym, ap, ◌∙◌, add-one, arith, drop_of_length
 use Rattle.ledger.specs.Lists.{any}
 use Rattle.ledger.specs.Ledger.{Timer}
 use Rattle.ledger.specs.Session.{TimerLeft}
-use Rattle.rows.specs.Rows.{map_upto, map_upto_at_lem, map_upto_suc_lem, map_upto_all_lem, remove_at}
+use Rattle.rows.specs.Rows.{map_upto, map_upto_at, map_upto_suc, map_upto_all, remove_at}
 use Rattle.rows.specs.First.{first_of, first_here, first_on, first_end, keep_from, keep_on, keep_out, keep_end, any_is}
 use Rattle.rows.specs.Four.{le4}
 use Rattle.timers.specs.Timers.{left_at, until_due, records_in, record_at, timers_in, no_timer, no_entry, due_at, settled_by, AllFrom, LastBy, Leaves}
@@ -70,18 +70,18 @@ module _ (back floor n k : ℕ) (d₀ d : List ℕ) (so_far : Leaves n d₀ d (m
       → Leaves n d₀ d' (map_upto (settled_by back floor) (k + 1) (records_in n d₀))
   settle_turn x y d' h ex ey w =
       let l : List Timer = records_in n d₀ in
-      let t : record_at d k ≡ get_or l k no_entry = sym (record_at_lem n k d h) ∙ ap (λ (z : List Timer). get_or z k no_entry) so_far.2 ∙ map_upto_at_lem (settled_by back floor) k l no_entry in
+      let t : record_at d k ≡ get_or l k no_entry = sym (record_at_lem n k d h) ∙ ap (λ (z : List Timer). get_or z k no_entry) so_far.2 ∙ map_upto_at (settled_by back floor) k l no_entry in
       let y= : y ≡ until_due back floor (record_at d k).due = ey ∙ ap (until_due back floor) ex in
       let e : set (records_in n d) k (due_at y (record_at d k)) ≡ map_upto (settled_by back floor) (k + 1) l =
       ap (λ (z : ℕ). set (records_in n d) k (due_at z (record_at d k))) y=
       ∙ ap (λ (u : Timer). set (records_in n d) k (settled_by back floor u)) t
       ∙ ap (λ (z : List Timer). set z k (settled_by back floor (get_or l k no_entry))) so_far.2
-      ∙ map_upto_suc_lem (settled_by back floor) k l no_entry (rw length_records h)
+      ∙ map_upto_suc (settled_by back floor) k l no_entry (rw length_records h)
       ∙ ap (λ (z : ℕ). map_upto (settled_by back floor) z l) (sym (add-one k)) in
       (w.0 ∙ so_far.0, w.1 ∙ so_far.1, w.2 ∙ e)
 
   pub settle_end : n ≤ k → Leaves n d₀ d (map (settled_by back floor) (records_in n d₀))
-  settle_end h = (so_far.0, so_far.1, so_far.2 ∙ map_upto_all_lem (settled_by back floor) k (records_in n d₀) (rw length_records h))
+  settle_end h = (so_far.0, so_far.1, so_far.2 ∙ map_upto_all (settled_by back floor) k (records_in n d₀) (rw length_records h))
 
 -- ---- from the last record back to record k, which lies in row k + 1
 

@@ -12,7 +12,7 @@ use Rattle.ledger.specs.Lists.{insert_by}
 use Rattle.ledger.specs.Ledger.{Timer}
 use Rattle.ledger.specs.Session.{TimerLeft}
 use Rattle.rows.specs.Rows.{insert_at, remove_at}
-use Rattle.rows.specs.First.{first_of, insert_by_is_lem}
+use Rattle.rows.specs.First.{first_of, insert_by_is}
 use Rattle.timers.specs.Timers.{timer, entry, lowest, until_due, left_at, shown_by, tocks_left, later, tocked, no_timer, settled_by, handed_on, no_entry, AllFrom, LastBy}
 use Rattle.timers.specs.Order.{low_le, low_other, low_at, low_insert, low_least, low_remove, low_settled}
 
@@ -107,7 +107,7 @@ module _ (time f left y : ℕ) (ahead : y ≡ time + left) (low : f ≤ y) where
   shown_insert a b p k l h r g =
       shown_put a b p k l h r g
       ∙ ap (λ (i : ℕ). insert_at i (timer a b left p) (shown_by time f l)) (sym (shown_first k l h r g))
-      ∙ sym (insert_by_is_lem tocks_left (timer a b left p) (shown_by time f l))
+      ∙ sym (insert_by_is tocks_left (timer a b left p) (shown_by time f l))
 
 -- one that is due at the floor goes in first, whatever earlier time its row keeps
 pub shown_before : (time f left x a b p : ℕ) (l : List Timer) → f ≡ time + left → x ≤ f → AllFrom (suc f) l
@@ -117,7 +117,7 @@ shown_before time f left x a b p l ahead h g =
     let e : until_due time f (lowest x l) ≡ left = omega (arith, low_le x l) in
     ap (λ (z : ℕ). timer a b z p ∷ shown_by time f l) e
     ∙ ap (λ (i : ℕ). insert_at i (timer a b left p) (shown_by time f l)) (sym (shown_first time f left f ahead (omega arith) 0 l (omega arith) tt g))
-    ∙ sym (insert_by_is_lem tocks_left (timer a b left p) (shown_by time f l))
+    ∙ sym (insert_by_is tocks_left (timer a b left p) (shown_by time f l))
 
 -- ---- a timer taken out
 

@@ -11,8 +11,8 @@ use Rattle.ledger.specs.Ledger.{Timer}
 use Rattle.ledger.specs.Session.{TimerLeft}
 use Rattle.rows.specs.Splice.{splice}
 use Rattle.rows.specs.Laws.{length_splice}
-use Rattle.rows.specs.Rows.{rows_of, row_at, rows_set, insert_at, remove_at, get_d_rows, length_rows, map_set, map_insert_at_lem, splice_row, length_row}
-use Rattle.rows.specs.First.{map_remove_at_lem}
+use Rattle.rows.specs.Rows.{rows_of, row_at, rows_set, insert_at, remove_at, get_d_rows, length_rows, map_set, map_insert_at, splice_row, length_row}
+use Rattle.rows.specs.First.{map_remove_at}
 use Rattle.rows.specs.Four.{le4, bytes4}
 use Rattle.timers.specs.Timers.{row_of, timer, entry, entry_of, left_at, records_in, record_at, timers_in, shown_by, no_timer, no_entry, due_at, Keeps, Leaves, IsUpright, Upright}
 use Rattle.timers.specs.Upright.{upright_shown}
@@ -94,7 +94,7 @@ record_inserted n at t s x p d d' row hx hp er e =
     let f : rows_of 10 (suc (suc n)) d' ≡ take 10 d ∷ insert_at at row rows = simp add-one at e in
     let w = same_clock (suc n) d d' (insert_at at row rows) f in
     let m : map entry_of (insert_at at row rows) ≡ insert_at at (entry t s x p) (map entry_of rows) =
-    map_insert_at_lem entry_of at row rows ∙ ap (λ (z : Timer). insert_at at z (map entry_of rows)) (ap entry_of er ∙ row_entry t s x p hx hp) in
+    map_insert_at entry_of at row rows ∙ ap (λ (z : Timer). insert_at at z (map entry_of rows)) (ap entry_of er ∙ row_entry t s x p hx hp) in
     (w.0, w.1, ap (λ (z : ℕ). records_in z d') (add-one n) ∙ w.2 ∙ m)
 
 -- a row behind row 0 taken out
@@ -106,7 +106,7 @@ record_removed n k d d' h e =
     let m : n + 1 - 1 ≡ suc (n - 1) = omega arith in
     let f : remove_at (k + 1) (rows_of 10 (n + 1) d) ≡ take 10 d ∷ remove_at k rows = simp add-one in
     let w = same_clock (n - 1) d d' (remove_at k rows) (ap (λ (z : ℕ). rows_of 10 z d') (sym m) ∙ e ∙ f) in
-    (w.0, w.1, w.2 ∙ map_remove_at_lem entry_of k rows)
+    (w.0, w.1, w.2 ∙ map_remove_at entry_of k rows)
 
 -- the first row behind row 0 taken out, and a row put in
 pub record_replaced : (n k t s x p : ℕ) (d d' row : List ℕ) → x < 2 ^ 32 → p < 2 ^ 32 → row ≡ row_of t s x p
@@ -117,9 +117,9 @@ record_replaced n k t s x p d d' row hx hp er e =
     let f : rows_of 10 (suc n) d' ≡ take 10 d ∷ insert_at k row (remove_at 0 rows) = simp add-one at e in
     let w = same_clock n d d' (insert_at k row (remove_at 0 rows)) f in
     let m : map entry_of (insert_at k row (remove_at 0 rows)) ≡ insert_at k (entry t s x p) (remove_at 0 (map entry_of rows)) =
-    map_insert_at_lem entry_of k row (remove_at 0 rows)
+    map_insert_at entry_of k row (remove_at 0 rows)
     ∙ ap (λ (z : Timer). insert_at k z (map entry_of (remove_at 0 rows))) (ap entry_of er ∙ row_entry t s x p hx hp)
-    ∙ ap (insert_at k (entry t s x p)) (map_remove_at_lem entry_of 0 rows) in
+    ∙ ap (insert_at k (entry t s x p)) (map_remove_at entry_of 0 rows) in
     (w.0, w.1, w.2 ∙ m)
 
 pub none_in : (d : List ℕ) → timers_in 0 d ≡ []

@@ -207,7 +207,7 @@ fn the_build_says_what_is_missing() {
         fs::copy(repository().join("host").join(file), folder.join(file)).unwrap();
     }
     for (name, advice) in
-        [("example", "run 'rt staticlib mcx11' first"), ("exmaple", "name 'example', 'switching' or 'both'")]
+        [("example", "run './build archive' first"), ("exmaple", "name 'example', 'switching' or 'both'")]
     {
         let output = run(Command::new(folder.join("build")).arg(name), b"");
         assert_eq!(output.status.code(), Some(1));

@@ -122,7 +122,7 @@ fn the_installation_says_what_is_missing() {
     }
     let cases = [
         (vec![], "host/install PREFIX"),
-        (vec!["there"], "run 'rt staticlib mcx11' first"),
+        (vec!["there"], "run './build archive' first"),
         (vec!["a", "b"], "PREFIX"),
     ];
     for (arguments, advice) in cases {

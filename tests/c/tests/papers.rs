@@ -17,7 +17,7 @@ use tools::{built, checkout, installed, printed, repository, scratch, text, two_
 const PAPERS: [&str; 5] = ["README.md", "docs/HOST.md", "docs/FRAMES.md", "examples/README.md", "tests/README.md"];
 
 /// Commands that the gate itself runs, before these tests or around them.
-const OF_THE_GATE: [&str; 2] = ["./test", "rt staticlib mcx11"];
+const OF_THE_GATE: [&str; 2] = ["./test", "./build archive"];
 
 /// The section whose block of four blanks is a list of folders, and no snippet.
 const FOLDERS: &str = "## What is here";

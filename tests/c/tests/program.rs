@@ -1,4 +1,4 @@
-//! The session program, as `rt check session` builds it: its output for an input, against the other implementation's.
+//! The session program, as `./build session` builds it: its output for an input, against the other implementation's.
 
 use std::fs;
 use std::io::{BufRead, BufReader, Read, Write};
@@ -18,7 +18,7 @@ fn root() -> PathBuf {
 fn program(stdin: Stdio, stdout: Stdio) -> Child {
     let path = root().join("target/bin/session");
     let child = Command::new(&path).stdin(stdin).stdout(stdout).stderr(Stdio::piped()).spawn();
-    child.unwrap_or_else(|error| panic!("{}: {error}: run 'rt check session' first", path.display()))
+    child.unwrap_or_else(|error| panic!("{}: {error}: run './build session' first", path.display()))
 }
 
 /// What the program prints for an input.

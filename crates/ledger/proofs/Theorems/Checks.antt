@@ -104,16 +104,16 @@ passes_joined ks ls n e = go (eqb (first ks) 0) refl
     go false z = let p = eqb-false (first ks) 0 z in absurd (p (sym (joined_fails ks ls p) ∙ e))
 
 module _ {A : Type 0} where
-  get_d_all_lem : (p : A → Bool) (xs : List A) (i : ℕ) (d : A) → all p xs ≡ true → i < length xs → p (get_or xs i d) ≡ true
+  get_d_all : (p : A → Bool) (xs : List A) (i : ℕ) (d : A) → all p xs ≡ true → i < length xs → p (get_or xs i d) ≡ true
   unfolding all
-  get_d_all_lem p [] i d h k = absurd (omega arith)
-  get_d_all_lem p (x ∷ xs) zero d h k = and_left (p x) (all p xs) h
-  get_d_all_lem p (x ∷ xs) (suc i) d h k = get_d_all_lem p xs i d (and_right (p x) (all p xs) h) (omega arith)
+  get_d_all p [] i d h k = absurd (omega arith)
+  get_d_all p (x ∷ xs) zero d h k = and_left (p x) (all p xs) h
+  get_d_all p (x ∷ xs) (suc i) d h k = get_d_all p xs i d (and_right (p x) (all p xs) h) (omega arith)
 
   pub at_all : (p : A → Bool) (xs : List A) (n : ℕ) (d : A) → all p xs ≡ true → Numbered (length xs) n → p (at xs n d) ≡ true
   unfolding at
   at_all p xs zero d h k = absurd (omega arith)
-  at_all p xs (suc n) d h k = get_d_all_lem p xs n d h (omega arith)
+  at_all p xs (suc n) d h k = get_d_all p xs n d h (omega arith)
 
   -- and where none passes
   get_d_any : (p : A → Bool) (xs : List A) (i : ℕ) (d : A) → any p xs ≡ false → i < length xs → p (get_or xs i d) ≡ false

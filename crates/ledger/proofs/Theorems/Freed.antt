@@ -26,7 +26,7 @@ use Rattle.ledger.proofs.Theorems.Told.{waits, accept_as}
 pub mod Tasks
 pub mod Semaphores
 pub mod Mailboxes
-use Tasks.{of_signal_all_lem, rests_on, all_woken}
+use Tasks.{of_signal_all, rests_on, all_woken}
 use Semaphores.{Unwaited, all_unwaited, unwaited_on}
 use Mailboxes.{empty_on}
 
@@ -66,7 +66,7 @@ module _ (a : ℕ) (l : Ledger) where
 
   closes : (t : ℕ) → is_open (task l t).request ≡ false → is_open (task (terminate a l) t).request ≡ false
   unfolding updates is_open
-  closes t h = ends_with t (λ k. is_open k.request ≡ false) refl refl (λ n. of_signal_all_lem t (λ k. is_open k.request ≡ false) (λ k p. p) semaphores (withdrawn a l) h)
+  closes t h = ends_with t (λ k. is_open k.request ≡ false) refl refl (λ n. of_signal_all t (λ k. is_open k.request ≡ false) (λ k p. p) semaphores (withdrawn a l) h)
 
   -- the semaphores and the mailbox are as the signals left them
   gone : Every (λ m. Unwaited (terminate a l) m.semaphore) (mailbox l a)

@@ -36,9 +36,9 @@ fresh_mailbox c t = at_replicate c.T t []
 module _ (P : Task → Type 0)
     (runnable : P (record { blocks = no_block; outcome = begin; slot = empty_slot; request = none }))
     (idle : P (record { blocks = only_idle; outcome = plain; slot = empty_slot; request = none })) where
-  fresh_task_is_lem : (s : ℕ) → P (fresh_task s)
+  fresh_task_is : (s : ℕ) → P (fresh_task s)
   unfolding fresh_task
-  fresh_task_is_lem s = go (eqb s 0)
+  fresh_task_is s = go (eqb s 0)
     where
       go : (b : Bool) → P (cond b (record { blocks = no_block; outcome = begin; slot = empty_slot; request = none }) (record { blocks = only_idle; outcome = plain; slot = empty_slot; request = none }))
       go true = runnable
@@ -46,7 +46,7 @@ module _ (P : Task → Type 0)
 
   get_d_fresh : (ss : List ℕ) (i : ℕ) → (length ss ≤ i → P null_task) → P (get_or (map fresh_task ss) i null_task)
   get_d_fresh [] i h = h (omega arith)
-  get_d_fresh (s ∷ ss) zero h = fresh_task_is_lem s
+  get_d_fresh (s ∷ ss) zero h = fresh_task_is s
   get_d_fresh (s ∷ ss) (suc i) h = get_d_fresh ss i (λ k. h (omega arith))
 
   pub fresh_task_lem : (c : Config) (t : ℕ) → ((Numbered (length c.states) t → ⊥) → P null_task) → P (task (fresh c) t)

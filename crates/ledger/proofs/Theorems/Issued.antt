@@ -12,7 +12,7 @@ use Rattle.ledger.proofs.Theorems.Items.{put_length, at_put_same, at_put_other, 
 use Rattle.ledger.proofs.Theorems.Checks.{cond_both}
 use Rattle.ledger.proofs.Theorems.Changes.{Asks, updates}
 use Rattle.ledger.proofs.Theorems.Sound.Queues.{SoundQueues, oldest_width}
-use Rattle.ledger.proofs.Theorems.Untaken.{beside, View, view, slots, of_wait_for_lem, of_wake_waiter_lem, of_put, slots_outcome, slots_waits, slots_received, slots_enqueued}
+use Rattle.ledger.proofs.Theorems.Untaken.{beside, View, view, slots, of_wait_for, of_wake_waiter, of_put, slots_outcome, slots_waits, slots_received, slots_enqueued}
 
 -- task t took an entry of its queue's width
 pub record Takes (c : Config) (t : ℕ) (l m : Ledger) : Type 0 where
@@ -70,7 +70,7 @@ take_elsewhere c t q e l u n = not_t _ t u _ n ∙ not_t l.tasks t u _ n
 woken_too : (c : Config) (t b : ℕ) (l m : Ledger) → Takes c t l m → Takes c t l (wake_waiter b m)
 unfolding view
 woken_too c t b l m s =
-    let e = of_wake_waiter_lem b m in
+    let e = of_wake_waiter b m in
     record {
       from = s.from;
       bytes = s.bytes;
@@ -88,7 +88,7 @@ Elsewhere t l m = (u : ℕ) → (u ≡ t → ⊥) → beside (task m u) ≡ besi
 
 waits_elsewhere : (t b : ℕ) (r : Request) (l : Ledger) → Elsewhere t l (set_request t r (wait_for t b l))
 unfolding set_request updates
-waits_elsewhere t b r l u n = not_t (wait_for t b l).tasks t u _ n ∙ seen l (wait_for t b l) u (of_wait_for_lem t b l)
+waits_elsewhere t b r l u n = not_t (wait_for t b l).tasks t u _ n ∙ seen l (wait_for t b l) u (of_wait_for t b l)
 
 received_issued : (c : Config) (t a : ℕ) (o : Option Message) (l : Ledger) → Issued c t l (received t a o l)
 unfolding received set_request set_message_wait set_outcome updates
@@ -103,7 +103,7 @@ dequeued_issued c t q (e ∷ es) l h n s k =
     let m = take_entry c t q e l in
     record {
       did = inr (woken_too c t (not_full c q) l m (takes c t q e es l h n s k));
-      elsewhere = λ u z. seen m (wake_waiter (not_full c q) m) u (of_wake_waiter_lem (not_full c q) m) ∙ take_elsewhere c t q e l u z;
+      elsewhere = λ u z. seen m (wake_waiter (not_full c q) m) u (of_wake_waiter (not_full c q) m) ∙ take_elsewhere c t q e l u z;
     }
 
 enqueued_issued : (c : Config) (t q : ℕ) (e : List ℕ) (b : Bool) (l : Ledger) → Issued c t l (enqueued c t q e b l)
@@ -111,7 +111,7 @@ unfolding enqueued
 enqueued_issued c t q e true l = record { did = inl (slots_enqueued c t q e true l); elsewhere = waits_elsewhere t (not_full c q) (enqueue q e) l }
 enqueued_issued c t q e false l =
     let m = put_entry q e l in
-    record { did = inl (slots_enqueued c t q e false l); elsewhere = λ u z. seen l (wake_waiter (not_empty c q) m) u (of_wake_waiter_lem (not_empty c q) m ∙ of_put q e l) }
+    record { did = inl (slots_enqueued c t q e false l); elsewhere = λ u z. seen l (wake_waiter (not_empty c q) m) u (of_wake_waiter (not_empty c q) m ∙ of_put q e l) }
 
 pub issued : (c : Config) (t : ℕ) (r : Request) (l : Ledger) → Numbered (length l.tasks) t → Asks c r → SoundQueues c l → Issued c t l (issue c t r l)
 unfolding issue

@@ -62,33 +62,33 @@ module _ {A : Type 0} where
   put_fixed f xs (suc n) (suc m) v d e = set_fixed f xs n m v d e
 
   -- what holds of every item by its number still does if it holds of the new one
-  get_d_set_each_lem : (P : ℕ → A → Type 0) (xs : List A) (n : ℕ) (v d : A) → ((m : ℕ) → P m (get_or xs m d)) → P n v → (m : ℕ) → P m (get_or (set xs n v) m d)
-  get_d_set_each_lem P [] n v d h p m = h m
-  get_d_set_each_lem P (x ∷ xs) zero v d h p zero = p
-  get_d_set_each_lem P (x ∷ xs) zero v d h p (suc m) = h (suc m)
-  get_d_set_each_lem P (x ∷ xs) (suc n) v d h p zero = h zero
-  get_d_set_each_lem P (x ∷ xs) (suc n) v d h p (suc m) = get_d_set_each_lem (λ i. P (suc i)) xs n v d (λ i. h (suc i)) p m
+  get_d_set_each : (P : ℕ → A → Type 0) (xs : List A) (n : ℕ) (v d : A) → ((m : ℕ) → P m (get_or xs m d)) → P n v → (m : ℕ) → P m (get_or (set xs n v) m d)
+  get_d_set_each P [] n v d h p m = h m
+  get_d_set_each P (x ∷ xs) zero v d h p zero = p
+  get_d_set_each P (x ∷ xs) zero v d h p (suc m) = h (suc m)
+  get_d_set_each P (x ∷ xs) (suc n) v d h p zero = h zero
+  get_d_set_each P (x ∷ xs) (suc n) v d h p (suc m) = get_d_set_each (λ i. P (suc i)) xs n v d (λ i. h (suc i)) p m
 
   pub at_put_each : (P : ℕ → A → Type 0) (xs : List A) (n : ℕ) (v d : A) → ((m : ℕ) → P m (at xs m d)) → P n v → (m : ℕ) → P m (at (put xs n v) m d)
   unfolding at put
   at_put_each P xs zero v d h p m = h m
   at_put_each P xs (suc n) v d h p zero = h zero
-  at_put_each P xs (suc n) v d h p (suc m) = get_d_set_each_lem (λ i. P (suc i)) xs n v d (λ i. h (suc i)) p m
+  at_put_each P xs (suc n) v d h p (suc m) = get_d_set_each (λ i. P (suc i)) xs n v d (λ i. h (suc i)) p m
 
   -- a part of an item that the new item has too is everywhere as before
   pub at_put_part : {B : Type 0} (f : A → B) (xs : List A) (n m : ℕ) (v d : A) → f v ≡ f (at xs n d) → f (at (put xs n v) m d) ≡ f (at xs m d)
   at_put_part f xs n m v d e = at_put_each (λ i x. f x ≡ f (at xs i d)) xs n v d (λ i. refl) e m
 
   -- an item that is not the default is there
-  get_d_there_lem : (xs : List A) (n : ℕ) (d : A) → (get_or xs n d ≡ d → ⊥) → n < length xs
-  get_d_there_lem [] n d h = absurd (h refl)
-  get_d_there_lem (x ∷ xs) zero d h = omega arith
-  get_d_there_lem (x ∷ xs) (suc n) d h = omega (arith, get_d_there_lem xs n d h)
+  get_d_there : (xs : List A) (n : ℕ) (d : A) → (get_or xs n d ≡ d → ⊥) → n < length xs
+  get_d_there [] n d h = absurd (h refl)
+  get_d_there (x ∷ xs) zero d h = omega arith
+  get_d_there (x ∷ xs) (suc n) d h = omega (arith, get_d_there xs n d h)
 
   pub at_there : (xs : List A) (n : ℕ) (d : A) → (at xs n d ≡ d → ⊥) → Numbered (length xs) n
   unfolding at
   at_there xs zero d h = absurd (h refl)
-  at_there xs (suc n) d h = record { from = omega arith; upto = get_d_there_lem xs n d h }
+  at_there xs (suc n) d h = record { from = omega arith; upto = get_d_there xs n d h }
 
   pub at_map : (f : A → A) (xs : List A) (n : ℕ) (d : A) → f d ≡ d → at (map f xs) n d ≡ f (at xs n d)
   unfolding at

@@ -32,11 +32,11 @@ module _ {A B : Type 0} (f : A → B) (p : A → Bool) (q : B → Bool) (same : 
   any_map [] = refl
   any_map (x ∷ xs) = rw (same x, any_map xs)
 
-pub insert_by_map_lem : {A B : Type 0} (f : A → B) (key : A → ℕ) (key' : B → ℕ) (x : A) → ((y : A) → ltb (key x) (key y) ≡ ltb (key' (f x)) (key' (f y)))
+pub insert_by_map : {A B : Type 0} (f : A → B) (key : A → ℕ) (key' : B → ℕ) (x : A) → ((y : A) → ltb (key x) (key y) ≡ ltb (key' (f x)) (key' (f y)))
     → (l : List A) → map f (insert_by key x l) ≡ insert_by key' (f x) (map f l)
 unfolding insert_by
-insert_by_map_lem {B = B} f key key' x same [] = refl
-insert_by_map_lem {A} {B} f key key' x same (y ∷ ys) = go (ltb (key x) (key y)) refl (insert_by_map_lem f key key' x same ys)
+insert_by_map {B = B} f key key' x same [] = refl
+insert_by_map {A} {B} f key key' x same (y ∷ ys) = go (ltb (key x) (key y)) refl (insert_by_map f key key' x same ys)
   where
     go : (b : Bool) → ltb (key x) (key y) ≡ b → map f (insert_by key x ys) ≡ insert_by key' (f x) (map f ys) → map f (insert_by key x (y ∷ ys)) ≡ insert_by key' (f x) (map f (y ∷ ys))
     go true e ih = rw (← same y, e)
@@ -93,19 +93,19 @@ module _ {A : Type 0} (p : A → Bool) where
 
   -- ---- inserting
 
-  pub keep_insert_by_other_lem : (key : A → ℕ) (x : A) → p x ≡ false → (ys : List A) → keep p (insert_by key x ys) ≡ keep p ys
+  pub keep_insert_by_other : (key : A → ℕ) (x : A) → p x ≡ false → (ys : List A) → keep p (insert_by key x ys) ≡ keep p ys
   unfolding keep insert_by
-  keep_insert_by_other_lem key x h [] = rw h
-  keep_insert_by_other_lem key x h (y ∷ ys) = go (ltb (key x) (key y)) (keep_insert_by_other_lem key x h ys)
+  keep_insert_by_other key x h [] = rw h
+  keep_insert_by_other key x h (y ∷ ys) = go (ltb (key x) (key y)) (keep_insert_by_other key x h ys)
     where
       go : (b : Bool) → keep p (insert_by key x ys) ≡ keep p ys → keep p (cond b (x ∷ y ∷ ys) (y ∷ insert_by key x ys)) ≡ keep p (y ∷ ys)
       go true ih = rw h
       go false ih = rw ih
 
-  pub keep_insert_by_only_lem : (key : A → ℕ) (x : A) (ys : List A) → p x ≡ true → keep p ys ≡ [] → keep p (insert_by key x ys) ≡ x ∷ []
+  pub keep_insert_by_only : (key : A → ℕ) (x : A) (ys : List A) → p x ≡ true → keep p ys ≡ [] → keep p (insert_by key x ys) ≡ x ∷ []
   unfolding keep insert_by
-  keep_insert_by_only_lem key x [] h e = rw h
-  keep_insert_by_only_lem key x (y ∷ ys) h e = go (ltb (key x) (key y)) (p y) refl e (λ k. keep_insert_by_only_lem key x ys h k)
+  keep_insert_by_only key x [] h e = rw h
+  keep_insert_by_only key x (y ∷ ys) h e = go (ltb (key x) (key y)) (p y) refl e (λ k. keep_insert_by_only key x ys h k)
     where
       go : (b d : Bool) → p y ≡ d → cond d (y ∷ keep p ys) (keep p ys) ≡ [] → (keep p ys ≡ [] → keep p (insert_by key x ys) ≡ x ∷ [])
           → keep p (cond b (x ∷ y ∷ ys) (y ∷ insert_by key x ys)) ≡ x ∷ []

@@ -67,11 +67,11 @@ module _ (c : Config) (X : TockValue → Type 0) (P : Ledger → Type 0) (change
           rw e (settle_kept (2 * c.T) (accept c f l) (named_through s (of_accept c f l) h.0, through P change s h.1))
       go false e = rw e h
 
-  run_from_kept_lem : (l : Ledger) {fs : List (List ℕ)} → Every (Values X) fs → Holds l → Holds (run_from c l fs).0
+  run_from_kept : (l : Ledger) {fs : List (List ℕ)} → Every (Values X) fs → Holds l → Holds (run_from c l fs).0
   unfolding run_from
-  run_from_kept_lem l nil h = h
-  run_from_kept_lem l (cons {x = f} x xs) h = run_from_kept_lem (step c f l).ledger xs (step_kept f l x h)
+  run_from_kept l nil h = h
+  run_from_kept l (cons {x = f} x xs) h = run_from_kept (step c f l).ledger xs (step_kept f l x h)
 
   pub kept : length c.states ≡ c.T → P (fresh c) → {fs : List (List ℕ)} → Every (Values X) fs → P (run c fs).0
   unfolding run
-  kept h p xs = (run_from_kept_lem (fresh c) xs (fresh_named c h, p)).1
+  kept h p xs = (run_from_kept (fresh c) xs (fresh_named c h, p)).1

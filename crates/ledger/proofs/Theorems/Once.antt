@@ -52,8 +52,8 @@ once_more {c} boxes t m g n h = record {
 abbrev boxes : Ledger → List (List Message)
 boxes l = l.mailboxes
 
-of_signal_all_lem : (bs : List ℕ) (l : Ledger) → boxes (signal_all bs l) ≡ boxes l
-of_signal_all_lem bs l = signals_keep (λ m. boxes m ≡ boxes l) (λ b m e. signal_boxes b m ∙ e) bs l refl
+of_signal_all : (bs : List ℕ) (l : Ledger) → boxes (signal_all bs l) ≡ boxes l
+of_signal_all bs l = signals_keep (λ m. boxes m ≡ boxes l) (λ b m e. signal_boxes b m ∙ e) bs l refl
 
 of_woken : (s : Semaphore) (b : ℕ) (l : Ledger) → boxes (woken s b l) ≡ boxes l
 unfolding woken
@@ -61,9 +61,9 @@ of_woken PENDING b l = refl
 of_woken DONE b l = refl
 of_woken (WAITING t) b l = signal_boxes b l
 
-of_wake_waiter_lem : (b : ℕ) (l : Ledger) → boxes (wake_waiter b l) ≡ boxes l
+of_wake_waiter : (b : ℕ) (l : Ledger) → boxes (wake_waiter b l) ≡ boxes l
 unfolding wake_waiter
-of_wake_waiter_lem b l = of_woken (semaphore_of l b) b l
+of_wake_waiter b l = of_woken (semaphore_of l b) b l
 
 of_waited : (s : Semaphore) (t b : ℕ) (l : Ledger) → boxes (waited s t b l) ≡ boxes l
 unfolding updates waited
@@ -74,12 +74,12 @@ of_waited (WAITING u) t b l = refl
 pub of_dequeued : (c : Config) (t q : ℕ) (es : List (List ℕ)) (l : Ledger) → boxes (dequeued c t q es l) ≡ boxes l
 unfolding updates set_request dequeued
 of_dequeued c t q [] l = refl
-of_dequeued c t q (e ∷ es) l = of_wake_waiter_lem (not_full c q) (take_entry c t q e l)
+of_dequeued c t q (e ∷ es) l = of_wake_waiter (not_full c q) (take_entry c t q e l)
 
 pub of_enqueued : (c : Config) (t q : ℕ) (e : List ℕ) (b : Bool) (l : Ledger) → boxes (enqueued c t q e b l) ≡ boxes l
 unfolding updates set_request enqueued
 of_enqueued c t q e true l = refl
-of_enqueued c t q e false l = of_wake_waiter_lem (not_empty c q) (put_entry q e l)
+of_enqueued c t q e false l = of_wake_waiter (not_empty c q) (put_entry q e l)
 
 of_again : (t : Timer) (l : Ledger) → boxes (insert_again t l) ≡ boxes l
 unfolding updates insert_again
@@ -89,14 +89,14 @@ of_expire : (t : Timer) (l : Ledger) → boxes (expire t l) ≡ boxes l
 unfolding expire
 of_expire t l = signal_boxes t.semaphore (insert_again t l) ∙ of_again t l
 
-of_expire_all_lem : (ts : List Timer) (l : Ledger) → boxes (expire_all ts l) ≡ boxes l
+of_expire_all : (ts : List Timer) (l : Ledger) → boxes (expire_all ts l) ≡ boxes l
 unfolding expire_all
-of_expire_all_lem [] l = refl
-of_expire_all_lem (t ∷ ts) l = of_expire_all_lem ts (expire t l) ∙ of_expire t l
+of_expire_all [] l = refl
+of_expire_all (t ∷ ts) l = of_expire_all ts (expire t l) ∙ of_expire t l
 
 of_tick : (c : Config) (l : Ledger) → boxes (tick c l) ≡ boxes l
 unfolding updates tick tock
-of_tick c l = cond_both (λ m. boxes m ≡ boxes l) (ltb (suc l.ticks) c.K) _ _ refl (of_expire_all_lem _ _)
+of_tick c l = cond_both (λ m. boxes m ≡ boxes l) (ltb (suc l.ticks) c.K) _ _ refl (of_expire_all _ _)
 
 -- ---- what changes them
 
@@ -136,7 +136,7 @@ module _ (c : Config) where
   once_effect ENQUEUE s a b x e l g h = once_issue s (enqueue a e) l h
   once_effect RESUME s a b x e l g h = h
   once_effect SUSPEND s a b x e l g h = h
-  once_effect TERMINATE s a b x e l g h = once_less _ a (part_nil _) (as_before (of_signal_all_lem _ _) h)
+  once_effect TERMINATE s a b x e l g h = once_less _ a (part_nil _) (as_before (of_signal_all _ _) h)
   once_effect EXECUTE s a b x e l g h = h
   once_effect DELAY s a b x e l g h = h
   once_effect TIMER s a b x e l g h = h

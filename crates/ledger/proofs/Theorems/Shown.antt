@@ -19,17 +19,17 @@ use Rattle.ledger.proofs.Theorems.Sizes.{sizes, sizes_of, sizes_kept}
 
 -- answer i + 1 is that of the step for frame i, counted from 0, in the ledger after the frames before it
 module _ (c : Config) where
-  run_from_answer_lem : (l : Ledger) (fs : List (List ℕ)) (i : ℕ) → i < length fs → get_or (run_from c l fs).1 i [] ≡ (step c (get_or fs i []) (run_from c l (take i fs)).0).answered
+  run_from_answer : (l : Ledger) (fs : List (List ℕ)) (i : ℕ) → i < length fs → get_or (run_from c l fs).1 i [] ≡ (step c (get_or fs i []) (run_from c l (take i fs)).0).answered
   unfolding run_from
-  run_from_answer_lem l [] i h = absurd (omega arith)
-  run_from_answer_lem l (f ∷ fs) zero h = refl
-  run_from_answer_lem l (f ∷ fs) (suc i) h = run_from_answer_lem (step c f l).ledger fs i (omega arith)
+  run_from_answer l [] i h = absurd (omega arith)
+  run_from_answer l (f ∷ fs) zero h = refl
+  run_from_answer l (f ∷ fs) (suc i) h = run_from_answer (step c f l).ledger fs i (omega arith)
 
-  run_from_ledger_lem : (l : Ledger) (fs : List (List ℕ)) (i : ℕ) → i < length fs → (run_from c l (take (suc i) fs)).0 ≡ (step c (get_or fs i []) (run_from c l (take i fs)).0).ledger
+  run_from_ledger : (l : Ledger) (fs : List (List ℕ)) (i : ℕ) → i < length fs → (run_from c l (take (suc i) fs)).0 ≡ (step c (get_or fs i []) (run_from c l (take i fs)).0).ledger
   unfolding run_from
-  run_from_ledger_lem l [] i h = absurd (omega arith)
-  run_from_ledger_lem l (f ∷ fs) zero h = refl
-  run_from_ledger_lem l (f ∷ fs) (suc i) h = run_from_ledger_lem (step c f l).ledger fs i (omega arith)
+  run_from_ledger l [] i h = absurd (omega arith)
+  run_from_ledger l (f ∷ fs) zero h = refl
+  run_from_ledger l (f ∷ fs) (suc i) h = run_from_ledger (step c f l).ledger fs i (omega arith)
 
 -- ---- the second and the third byte of an answer
 
@@ -48,7 +48,7 @@ step_counts c f l = cond_both (λ (s : Stepped). byte 2 s.answered ≤ 2 * c.T) 
 run_shows : (c : Config) (fs : List (List ℕ)) (i : ℕ) → i ≤ length fs → byte 1 (get_or (run c fs).1 i []) ≡ running (run c (take i fs)).0
 unfolding run run_from
 run_shows c fs zero h = answer_shows 0 0 (fresh c)
-run_shows c fs (suc i) h = rw (run_from_answer_lem c (fresh c) fs i h, run_from_ledger_lem c (fresh c) fs i h) (step_shows c (get_or fs i []) _)
+run_shows c fs (suc i) h = rw (run_from_answer c (fresh c) fs i h, run_from_ledger c (fresh c) fs i h) (step_shows c (get_or fs i []) _)
 
 -- answer 0 is that to the configuration, answer i that after i frames
 pub lowest_shown : (g : List ℕ) → config_refusal g ≡ 0 → (fs : List (List ℕ)) (i : ℕ) → i ≤ length fs
@@ -61,4 +61,4 @@ lowest_shown g k fs i h =
 pub reissues_shown : (c : Config) (fs : List (List ℕ)) (i : ℕ) → i ≤ length fs → byte 2 (get_or (run c fs).1 i []) ≤ 2 * c.T
 unfolding run answer
 reissues_shown c fs zero h = omega arith
-reissues_shown c fs (suc i) h = rw (run_from_answer_lem c (fresh c) fs i h) (step_counts c (get_or fs i []) _)
+reissues_shown c fs (suc i) h = rw (run_from_answer c (fresh c) fs i h) (step_counts c (get_or fs i []) _)

@@ -74,9 +74,9 @@ of_message : (n : ℕ) (b : Bool) (l : Ledger) → sizes (set_message_wait n b l
 unfolding set_message_wait set_blocks
 of_message n b l = simp items
 
-of_wait_for_lem : (t b : ℕ) (l : Ledger) → sizes (wait_for t b l) ≡ sizes l
+of_wait_for : (t b : ℕ) (l : Ledger) → sizes (wait_for t b l) ≡ sizes l
 unfolding wait_for
-of_wait_for_lem t b l = simp (of_event, items)
+of_wait_for t b l = simp (of_event, items)
 
 of_signalled : (s : Semaphore) (b : ℕ) (l : Ledger) → sizes (signalled s b l).ledger ≡ sizes l
 unfolding signalled
@@ -88,8 +88,8 @@ pub of_signal : (b : ℕ) (l : Ledger) → sizes (signal b l).ledger ≡ sizes l
 unfolding signal
 of_signal b l = of_signalled (semaphore_of l b) b l
 
-of_signal_all_lem : (bs : List ℕ) (l : Ledger) → sizes (signal_all bs l) ≡ sizes l
-of_signal_all_lem bs l = signals_keep (λ m. sizes m ≡ sizes l) (λ b m e. of_signal b m ∙ e) bs l refl
+of_signal_all : (bs : List ℕ) (l : Ledger) → sizes (signal_all bs l) ≡ sizes l
+of_signal_all bs l = signals_keep (λ m. sizes m ≡ sizes l) (λ b m e. of_signal b m ∙ e) bs l refl
 
 of_woken : (s : Semaphore) (b : ℕ) (l : Ledger) → sizes (woken s b l) ≡ sizes l
 unfolding woken
@@ -97,13 +97,13 @@ of_woken PENDING b l = refl
 of_woken DONE b l = refl
 of_woken (WAITING t) b l = of_signal b l
 
-of_wake_waiter_lem : (b : ℕ) (l : Ledger) → sizes (wake_waiter b l) ≡ sizes l
+of_wake_waiter : (b : ℕ) (l : Ledger) → sizes (wake_waiter b l) ≡ sizes l
 unfolding wake_waiter
-of_wake_waiter_lem b l = of_woken (semaphore_of l b) b l
+of_wake_waiter b l = of_woken (semaphore_of l b) b l
 
 of_waited : (s : Semaphore) (t b : ℕ) (l : Ledger) → sizes (waited s t b l) ≡ sizes l
 unfolding waited
-of_waited PENDING t b l = of_wait_for_lem t b l
+of_waited PENDING t b l = of_wait_for t b l
 of_waited DONE t b l = simp items
 of_waited (WAITING u) t b l = refl
 
@@ -118,13 +118,13 @@ of_received t a (some m) l = simp (of_outcome, items)
 
 of_dequeued : (c : Config) (t q : ℕ) (es : List (List ℕ)) (l : Ledger) → sizes (dequeued c t q es l) ≡ sizes l
 unfolding dequeued take_entry set_slot
-of_dequeued c t q [] l = simp (of_request, of_wait_for_lem)
-of_dequeued c t q (e ∷ es) l = simp (of_wake_waiter_lem, of_outcome, items)
+of_dequeued c t q [] l = simp (of_request, of_wait_for)
+of_dequeued c t q (e ∷ es) l = simp (of_wake_waiter, of_outcome, items)
 
 of_enqueued : (c : Config) (t q : ℕ) (e : List ℕ) (b : Bool) (l : Ledger) → sizes (enqueued c t q e b l) ≡ sizes l
 unfolding enqueued put_entry
-of_enqueued c t q e true l = simp (of_request, of_wait_for_lem)
-of_enqueued c t q e false l = simp (of_wake_waiter_lem, items)
+of_enqueued c t q e true l = simp (of_request, of_wait_for)
+of_enqueued c t q e false l = simp (of_wake_waiter, items)
 
 of_issue : (c : Config) (t : ℕ) (r : Request) (l : Ledger) → sizes (issue c t r l) ≡ sizes l
 unfolding issue
@@ -141,14 +141,14 @@ of_expire : (t : Timer) (l : Ledger) → sizes (expire t l) ≡ sizes l
 unfolding expire
 of_expire t l = simp (of_signal, of_again)
 
-of_expire_all_lem : (ts : List Timer) (l : Ledger) → sizes (expire_all ts l) ≡ sizes l
+of_expire_all : (ts : List Timer) (l : Ledger) → sizes (expire_all ts l) ≡ sizes l
 unfolding expire_all
-of_expire_all_lem [] l = refl
-of_expire_all_lem (t ∷ ts) l = of_expire_all_lem ts (expire t l) ∙ of_expire t l
+of_expire_all [] l = refl
+of_expire_all (t ∷ ts) l = of_expire_all ts (expire t l) ∙ of_expire t l
 
 of_tick : (c : Config) (l : Ledger) → sizes (tick c l) ≡ sizes l
 unfolding tick tock
-of_tick c l = cond_both (λ m. sizes m ≡ sizes l) (ltb (suc l.ticks) c.K) _ _ (of_clock _ _ l) (simp (of_expire_all_lem, items))
+of_tick c l = cond_both (λ m. sizes m ≡ sizes l) (ltb (suc l.ticks) c.K) _ _ (of_clock _ _ l) (simp (of_expire_all, items))
 
 of_effect : (k : Code) (c : Config) (s a b x : ℕ) (e : List ℕ) (l : Ledger) → sizes (effect k c s a b x e l) ≡ sizes l
 unfolding effect wait drop_messages terminate execute start_timer insert_timer purge
@@ -156,15 +156,15 @@ of_effect WAIT c s a b x e l = simp (of_outcome, of_waited)
 of_effect SIGNAL c s a b x e l = of_outcome s (woke (signal b l).woke) (signal b l).ledger ∙ of_signal b l
 of_effect PEND c s a b x e l = simp items
 of_effect SEND c s a b x e l = of_send s a b x l
-of_effect SENDW c s a b x e l = simp (of_wait_for_lem, of_send)
+of_effect SENDW c s a b x e l = simp (of_wait_for, of_send)
 of_effect RECEIVE c s a b x e l = of_issue c s _ l
 of_effect DEQUEUE c s a b x e l = of_issue c s _ l
 of_effect ENQUEUE c s a b x e l = of_issue c s _ l
 of_effect RESUME c s a b x e l = of_suspended a false l
 of_effect SUSPEND c s a b x e l = of_suspended a true l
-of_effect TERMINATE c s a b x e l = simp (of_signal_all_lem, of_withdraw, items)
+of_effect TERMINATE c s a b x e l = simp (of_signal_all, of_withdraw, items)
 of_effect EXECUTE c s a b x e l = simp (of_withdraw, items)
-of_effect DELAY c s a b x e l = simp (of_wait_for_lem, items)
+of_effect DELAY c s a b x e l = simp (of_wait_for, items)
 of_effect TIMER c s a b x e l = simp items
 of_effect PURGE c s a b x e l = simp items
 of_effect TICK c s a b x e l = of_tick c l
@@ -204,15 +204,15 @@ pub of_fresh : (c : Config) → length c.states ≡ c.T → sizes (fresh c) ≡ 
 unfolding sizes sizes_of fresh
 of_fresh c h = simp (length-map, length-replicate, h)
 
-of_run_from_lem : (c : Config) (l : Ledger) (fs : List (List ℕ)) → sizes (run_from c l fs).0 ≡ sizes l
+of_run_from : (c : Config) (l : Ledger) (fs : List (List ℕ)) → sizes (run_from c l fs).0 ≡ sizes l
 unfolding run_from
-of_run_from_lem c l [] = refl
-of_run_from_lem c l (f ∷ fs) = of_run_from_lem c (step c f l).ledger fs ∙ of_step c f l
+of_run_from c l [] = refl
+of_run_from c l (f ∷ fs) = of_run_from c (step c f l).ledger fs ∙ of_step c f l
 
 -- after the fresh start and after every frame
 pub sizes_kept : (c : Config) (fs : List (List ℕ)) → length c.states ≡ c.T → sizes (run c fs).0 ≡ sizes_of c
 unfolding run
-sizes_kept c fs h = of_run_from_lem c (fresh c) fs ∙ of_fresh c h
+sizes_kept c fs h = of_run_from c (fresh c) fs ∙ of_fresh c h
 
 -- in a ledger with T tasks, the settling of every accepted frame is the while loop
 pub step_settles : (c : Config) (f : List ℕ) (l : Ledger) → length l.tasks ≡ c.T

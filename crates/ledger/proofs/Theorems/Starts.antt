@@ -80,20 +80,20 @@ below_one zero h e = refl
 below_one (suc zero) h e = never (sym e)
 below_one (suc (suc s)) h e = absurd (omega arith)
 
-get_d_idle_lem : (ss : List ℕ) (i : ℕ) → (get_or (map fresh_task ss) i null_task).blocks.idle ≡ not (eqb (get_or ss i 0) 0)
+get_d_idle : (ss : List ℕ) (i : ℕ) → (get_or (map fresh_task ss) i null_task).blocks.idle ≡ not (eqb (get_or ss i 0) 0)
 unfolding fresh_task
-get_d_idle_lem [] i = refl
-get_d_idle_lem (s ∷ ss) zero = go (eqb s 0) refl
+get_d_idle [] i = refl
+get_d_idle (s ∷ ss) zero = go (eqb s 0) refl
   where
     go : (b : Bool) → eqb s 0 ≡ b → (fresh_task s).blocks.idle ≡ not (eqb s 0)
     go true e = rw e
     go false e = rw e
-get_d_idle_lem (s ∷ ss) (suc i) = get_d_idle_lem ss i
+get_d_idle (s ∷ ss) (suc i) = get_d_idle ss i
 
 at_idle : (ss : List ℕ) (t : ℕ) → (at (map fresh_task ss) t null_task).blocks.idle ≡ not (eqb (at ss t 0) 0)
 unfolding at
 at_idle ss zero = refl
-at_idle ss (suc i) = get_d_idle_lem ss i
+at_idle ss (suc i) = get_d_idle ss i
 
 pub begins_after : (g : List ℕ) → config_refusal g ≡ 0 → let c = config_in g in
     (i : ℕ) → Numbered (length c.pairs) i → (task (fresh c) (pair c i).then).blocks.idle ≡ false → (task (fresh c) (pair c i).first).blocks.idle ≡ false

@@ -49,9 +49,9 @@ signal_n : (b : ℕ) (l : Ledger) → (signal b l).ledger.N ≡ l.N
 unfolding signal
 signal_n b l = signalled_n (semaphore_of l b) b l
 
-insert_again_is_lem : (t : Timer) (l : Ledger) → insert_again t l ≡ set_timers (renew l.N t l.timers) l
+insert_again_is : (t : Timer) (l : Ledger) → insert_again t l ≡ set_timers (renew l.N t l.timers) l
 unfolding insert_again insert_timer renew set_timers
-insert_again_is_lem t l = go (eqb t.period 0) (insert_by (λ t. t.due) (again l.N t) l.timers)
+insert_again_is t l = go (eqb t.period 0) (insert_by (λ t. t.due) (again l.N t) l.timers)
   where
     go : (b : Bool) (v : List Timer) → cond b l (set_timers v l) ≡ set_timers (cond b l.timers v) l
     go true v = refl
@@ -59,20 +59,20 @@ insert_again_is_lem t l = go (eqb t.period 0) (insert_by (λ t. t.due) (again l.
 
 expire_is : (t : Timer) (l : Ledger) → expire t l ≡ set_timers (renew l.N t l.timers) (signal t.semaphore l).ledger
 unfolding expire
-expire_is t l = ap (λ m. (signal t.semaphore m).ledger) (insert_again_is_lem t l) ∙ signal_timers t.semaphore (renew l.N t l.timers) l
+expire_is t l = ap (λ m. (signal t.semaphore m).ledger) (insert_again_is t l) ∙ signal_timers t.semaphore (renew l.N t l.timers) l
 
-expire_all_is_lem : (ts : List Timer) (l : Ledger) → expire_all ts l ≡ signal_all (signalled_by ts) (set_timers (renew_all l.N ts l.timers) l)
+expire_all_is : (ts : List Timer) (l : Ledger) → expire_all ts l ≡ signal_all (signalled_by ts) (set_timers (renew_all l.N ts l.timers) l)
 unfolding expire_all signal_all renew_all set_timers
-expire_all_is_lem [] l = refl
-expire_all_is_lem (t ∷ ts) l =
+expire_all_is [] l = refl
+expire_all_is (t ∷ ts) l =
     let s = (signal t.semaphore l).ledger in
     let v = renew l.N t l.timers in
-    ap (expire_all ts) (expire_is t l) ∙ expire_all_is_lem ts (set_timers v s) ∙ ap (λ n. signal_all (signalled_by ts) (set_timers (renew_all n ts v) s)) (signal_n t.semaphore l)
+    ap (expire_all ts) (expire_is t l) ∙ expire_all_is ts (set_timers v s) ∙ ap (λ n. signal_all (signalled_by ts) (set_timers (renew_all n ts v) s)) (signal_n t.semaphore l)
     ∙ ap (signal_all (signalled_by ts)) (sym (signal_timers t.semaphore (renew_all l.N ts v) l))
 
 pub tock_is : (l : Ledger) → tock l ≡ signal_all (signalled_by (keep (due_at l.N) l.timers)) (set_timers (renewed l.N l.timers) l)
 unfolding tock renewed due due_at set_timers
-tock_is l = expire_all_is_lem (keep (due l) l.timers) (set_timers (keep (λ t. not (due l t)) l.timers) l)
+tock_is l = expire_all_is (keep (due l) l.timers) (set_timers (keep (λ t. not (due l t)) l.timers) l)
 
 -- ---- what holds of the timers left, and of each inserted again, holds of all
 
@@ -84,12 +84,12 @@ renew_cases Q n t ts h k = go (eqb t.period 0) refl
     go true e = h
     go false e = k (eqb-false t.period 0 e)
 
-renew_all_every_lem : (P : Timer → Type 0) (n : ℕ) (ds ts : List Timer) → Every (λ t. (t.period ≡ 0 → ⊥) → P (again n t)) ds → Every P ts → Every P (renew_all n ds ts)
+renew_all_every : (P : Timer → Type 0) (n : ℕ) (ds ts : List Timer) → Every (λ t. (t.period ≡ 0 → ⊥) → P (again n t)) ds → Every P ts → Every P (renew_all n ds ts)
 unfolding renew_all
-renew_all_every_lem P n [] ts nil h = h
-renew_all_every_lem P n (d ∷ ds) ts (cons a as') h = renew_all_every_lem P n ds (renew n d ts) as' (renew_cases (Every P) n d ts h (λ z. every_insert _ (again n d) ts (a z) h))
+renew_all_every P n [] ts nil h = h
+renew_all_every P n (d ∷ ds) ts (cons a as') h = renew_all_every P n ds (renew n d ts) as' (renew_cases (Every P) n d ts h (λ z. every_insert _ (again n d) ts (a z) h))
 
 pub renewed_every : (P : Timer → Type 0) (n : ℕ) (ts : List Timer)
     → Every (λ t. (t.period ≡ 0 → ⊥) → P (again n t)) (keep (due_at n) ts) → Every P (keep (λ t. not (due_at n t)) ts) → Every P (renewed n ts)
 unfolding renewed
-renewed_every P n ts a h = renew_all_every_lem P n (keep (due_at n) ts) (keep (λ t. not (due_at n t)) ts) a h
+renewed_every P n ts a h = renew_all_every P n (keep (due_at n) ts) (keep (λ t. not (due_at n t)) ts) a h

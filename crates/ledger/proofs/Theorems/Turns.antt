@@ -12,7 +12,7 @@ use Rattle.ledger.specs.Refusals.{is_of, have_timer, refusal}
 use Rattle.ledger.specs.Session.{step, run_from, run}
 use Rattle.ledger.specs.Turns.{Starts, ends, Moment, turns, spared, turns_in, has_turn, moments, MissesNoTurn}
 use Rattle.ledger.proofs.Theorems.Checks.{and_left, and_right}
-use Rattle.ledger.proofs.Theorems.Keeps.{keep_insert_by_only_lem}
+use Rattle.ledger.proofs.Theorems.Keeps.{keep_insert_by_only}
 pub mod Renewed
 pub mod Codes
 pub mod Clock
@@ -122,7 +122,7 @@ one_turn c a b d l (f ∷ fs) h e = go (after c l f a b d 0 h.alone) (λ t j. on
 begun_stands : {c : Config} {l m : Ledger} {f : List ℕ} {a b : ℕ} {v : TockValue} → 1 ≤ tocksOf v → Inserts c l f a b v m → Stands a b (m.N + tocksOf v) (periodOf v) m
 unfolding timer_for
 begun_stands {l} {a} {b} {v} one w = record {
-  alone = ap (keep (is_of a b)) w.timers ∙ keep_insert_by_only_lem (is_of a b) _ (timer_for a b v l.N) l.timers (is_own a b 0 0) (free a b l w.free) ∙ rw w.time.N;
+  alone = ap (keep (is_of a b)) w.timers ∙ keep_insert_by_only (is_of a b) _ (timer_for a b v l.N) l.timers (is_own a b 0 0) (free a b l w.free) ∙ rw w.time.N;
   later = omega arith;
 }
 

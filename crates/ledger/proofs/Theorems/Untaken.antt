@@ -79,9 +79,9 @@ of_put q e l = ap (λ (f : ℕ → List (List ℕ)). record { tasks = λ t. besi
 
 ruleset items = (of_suspended, of_event, of_message, of_semaphores, of_mailbox, of_timers, of_clock, of_put)
 
-pub of_wait_for_lem : (t b : ℕ) (l : Ledger) → view (wait_for t b l) ≡ view l
+pub of_wait_for : (t b : ℕ) (l : Ledger) → view (wait_for t b l) ≡ view l
 unfolding wait_for set_semaphore
-of_wait_for_lem t b l = simp items
+of_wait_for t b l = simp items
 
 of_signalled : (s : Semaphore) (b : ℕ) (l : Ledger) → view (signalled s b l).ledger ≡ view l
 unfolding signalled set_semaphore
@@ -93,12 +93,12 @@ of_signal : (b : ℕ) (l : Ledger) → view (signal b l).ledger ≡ view l
 unfolding signal
 of_signal b l = of_signalled (semaphore_of l b) b l
 
-of_signal_all_lem : (bs : List ℕ) (l : Ledger) → view (signal_all bs l) ≡ view l
-of_signal_all_lem bs l = signals_keep (λ m. view m ≡ view l) (λ b m e. of_signal b m ∙ e) bs l refl
+of_signal_all : (bs : List ℕ) (l : Ledger) → view (signal_all bs l) ≡ view l
+of_signal_all bs l = signals_keep (λ m. view m ≡ view l) (λ b m e. of_signal b m ∙ e) bs l refl
 
 pub of_drop : (t : ℕ) (l : Ledger) → view (drop_messages t l) ≡ view l
 unfolding drop_messages
-of_drop t l = of_mailbox t _ _ ∙ of_signal_all_lem _ l
+of_drop t l = of_mailbox t _ _ ∙ of_signal_all _ l
 
 of_woken : (s : Semaphore) (b : ℕ) (l : Ledger) → view (woken s b l) ≡ view l
 unfolding woken
@@ -106,13 +106,13 @@ of_woken PENDING b l = refl
 of_woken DONE b l = refl
 of_woken (WAITING t) b l = of_signal b l
 
-pub of_wake_waiter_lem : (b : ℕ) (l : Ledger) → view (wake_waiter b l) ≡ view l
+pub of_wake_waiter : (b : ℕ) (l : Ledger) → view (wake_waiter b l) ≡ view l
 unfolding wake_waiter
-of_wake_waiter_lem b l = of_woken (semaphore_of l b) b l
+of_wake_waiter b l = of_woken (semaphore_of l b) b l
 
 of_waited : (s : Semaphore) (t b : ℕ) (l : Ledger) → view (waited s t b l) ≡ view l
 unfolding waited set_semaphore
-of_waited PENDING t b l = of_wait_for_lem t b l
+of_waited PENDING t b l = of_wait_for t b l
 of_waited DONE t b l = simp items
 of_waited (WAITING u) t b l = refl
 
@@ -120,14 +120,14 @@ of_again : (t : Timer) (l : Ledger) → view (insert_again t l) ≡ view l
 unfolding insert_again insert_timer
 of_again t l = cond_both (λ m. view m ≡ view l) (eqb t.period 0) l _ refl (of_timers _ l)
 
-of_expire_all_lem : (ts : List Timer) (l : Ledger) → view (expire_all ts l) ≡ view l
+of_expire_all : (ts : List Timer) (l : Ledger) → view (expire_all ts l) ≡ view l
 unfolding expire_all expire
-of_expire_all_lem [] l = refl
-of_expire_all_lem (t ∷ ts) l = of_expire_all_lem ts (expire t l) ∙ of_signal t.semaphore (insert_again t l) ∙ of_again t l
+of_expire_all [] l = refl
+of_expire_all (t ∷ ts) l = of_expire_all ts (expire t l) ∙ of_signal t.semaphore (insert_again t l) ∙ of_again t l
 
 of_tick : (c : Config) (l : Ledger) → view (tick c l) ≡ view l
 unfolding tick tock
-of_tick c l = cond_both (λ m. view m ≡ view l) (ltb (suc l.ticks) c.K) _ _ (of_clock _ _ l) (simp (of_expire_all_lem, items))
+of_tick c l = cond_both (λ m. view m ≡ view l) (ltb (suc l.ticks) c.K) _ _ (of_clock _ _ l) (simp (of_expire_all, items))
 
 -- ---- outcomes and requests: the slots stay
 
@@ -144,7 +144,7 @@ unfolding set_request
 slots_request n r l = same_slot n _ l refl
 
 pub slots_waits : (t b : ℕ) (r : Request) (l : Ledger) → slots (set_request t r (wait_for t b l)) ≡ slots l
-slots_waits t b r l = slots_request t r (wait_for t b l) ∙ ap slots_of (of_wait_for_lem t b l)
+slots_waits t b r l = slots_request t r (wait_for t b l) ∙ ap slots_of (of_wait_for t b l)
 
 slots_send : (s a b x : ℕ) (l : Ledger) → slots (send s a b x l) ≡ slots l
 unfolding send
@@ -158,7 +158,7 @@ slots_received t a (some m) l = slots_outcome t _ _ ∙ ap slots_of (of_mailbox 
 pub slots_enqueued : (c : Config) (t q : ℕ) (e : List ℕ) (b : Bool) (l : Ledger) → slots (enqueued c t q e b l) ≡ slots l
 unfolding enqueued
 slots_enqueued c t q e true l = slots_waits t (not_full c q) _ l
-slots_enqueued c t q e false l = ap slots_of (of_wake_waiter_lem (not_empty c q) (put_entry q e l) ∙ of_put q e l)
+slots_enqueued c t q e false l = ap slots_of (of_wake_waiter (not_empty c q) (put_entry q e l) ∙ of_put q e l)
 
 -- ---- what a frame does before settling
 
@@ -172,7 +172,7 @@ slots_effect WAIT c s a b x e l = inr (slots_outcome s _ _ ∙ ap slots_of (of_w
 slots_effect SIGNAL c s a b x e l = inr (slots_outcome s _ _ ∙ ap slots_of (of_signal b l))
 slots_effect PEND c s a b x e l = inr (ap slots_of (of_semaphores _ l))
 slots_effect SEND c s a b x e l = inr (slots_send s a b x l)
-slots_effect SENDW c s a b x e l = inr (ap slots_of (of_wait_for_lem s b _) ∙ slots_send s a b x l)
+slots_effect SENDW c s a b x e l = inr (ap slots_of (of_wait_for s b _) ∙ slots_send s a b x l)
 slots_effect RECEIVE c s a b x e l = inr (slots_received s a _ l)
 slots_effect DEQUEUE c s a b x e l = inl refl
 slots_effect ENQUEUE c s a b x e l = inr (slots_enqueued c s a e _ l)
@@ -180,7 +180,7 @@ slots_effect RESUME c s a b x e l = inr (ap slots_of (of_suspended a false l))
 slots_effect SUSPEND c s a b x e l = inr (ap slots_of (of_suspended a true l))
 slots_effect TERMINATE c s a b x e l = inr (restarted a _ l _ (simp (of_drop, items)) refl)
 slots_effect EXECUTE c s a b x e l = inr (restarted a _ l _ (simp items) refl)
-slots_effect DELAY c s a b x e l = inr (ap slots_of (of_wait_for_lem a b _ ∙ of_timers _ l))
+slots_effect DELAY c s a b x e l = inr (ap slots_of (of_wait_for a b _ ∙ of_timers _ l))
 slots_effect TIMER c s a b x e l = inr (ap slots_of (of_timers _ l))
 slots_effect PURGE c s a b x e l = inr (ap slots_of (of_timers _ l))
 slots_effect TICK c s a b x e l = inr (ap slots_of (of_tick c l))

@@ -70,8 +70,8 @@ module _ (u : ℕ) (P : Task → Type 0) (bears : Bears P) where
   unfolding signal
   of_signal b l h = of_signalled (semaphore_of l b) b l h
 
-  of_signal_all_lem : (bs : List ℕ) (l : Ledger) → Of u P (signal_all bs l).tasks → Of u P l.tasks
-  of_signal_all_lem bs l = signals_keep (λ m. Of u P m.tasks → Of u P l.tasks) (λ b m k h. k (of_signal b m h)) bs l (λ h. h)
+  of_signal_all : (bs : List ℕ) (l : Ledger) → Of u P (signal_all bs l).tasks → Of u P l.tasks
+  of_signal_all bs l = signals_keep (λ m. Of u P m.tasks → Of u P l.tasks) (λ b m k h. k (of_signal b m h)) bs l (λ h. h)
 
   of_woken : (s : Semaphore) (b : ℕ) (l : Ledger) → Of u P (woken s b l).tasks → Of u P l.tasks
   unfolding woken
@@ -79,9 +79,9 @@ module _ (u : ℕ) (P : Task → Type 0) (bears : Bears P) where
   of_woken DONE b l h = h
   of_woken (WAITING w) b l h = of_signal b l h
 
-  of_wake_waiter_lem : (b : ℕ) (l : Ledger) → Of u P (wake_waiter b l).tasks → Of u P l.tasks
+  of_wake_waiter : (b : ℕ) (l : Ledger) → Of u P (wake_waiter b l).tasks → Of u P l.tasks
   unfolding wake_waiter
-  of_wake_waiter_lem b l h = of_woken (semaphore_of l b) b l h
+  of_wake_waiter b l h = of_woken (semaphore_of l b) b l h
 
   of_waited : (s : Semaphore) (n b : ℕ) (l : Ledger) → Of u P (waited s n b l).tasks → Of u P l.tasks
   unfolding updates waited
@@ -101,12 +101,12 @@ module _ (u : ℕ) (P : Task → Type 0) (bears : Bears P) where
   of_dequeued : (c : Config) (n q : ℕ) (es : List (List ℕ)) (l : Ledger) → Of u P (dequeued c n q es l).tasks → Of u P l.tasks
   unfolding updates set_request dequeued
   of_dequeued c n q [] l h = keeps n _ _ refl refl (keeps n _ _ refl refl h)
-  of_dequeued c n q (e ∷ es) l h = keeps n _ _ refl refl (sets n _ _ refl refl (of_wake_waiter_lem (not_full c q) (take_entry c n q e l) h))
+  of_dequeued c n q (e ∷ es) l h = keeps n _ _ refl refl (sets n _ _ refl refl (of_wake_waiter (not_full c q) (take_entry c n q e l) h))
 
   of_enqueued : (c : Config) (n q : ℕ) (e : List ℕ) (b : Bool) (l : Ledger) → Of u P (enqueued c n q e b l).tasks → Of u P l.tasks
   unfolding updates set_request enqueued
   of_enqueued c n q e true l h = keeps n _ _ refl refl (keeps n _ _ refl refl h)
-  of_enqueued c n q e false l h = of_wake_waiter_lem (not_empty c q) (put_entry q e l) h
+  of_enqueued c n q e false l h = of_wake_waiter (not_empty c q) (put_entry q e l) h
 
   of_issue : (c : Config) (n : ℕ) (r : Request) (l : Ledger) → Of u P (issue c n r l).tasks → Of u P l.tasks
   unfolding issue
@@ -121,14 +121,14 @@ module _ (u : ℕ) (P : Task → Type 0) (bears : Bears P) where
   unfolding updates insert_again
   of_again m l h = cond_both (λ m. Of u P m.tasks → Of u P l.tasks) (eqb m.period 0) l _ (λ h. h) (λ h. h) h
 
-  of_expire_all_lem : (ms : List Timer) (l : Ledger) → Of u P (expire_all ms l).tasks → Of u P l.tasks
+  of_expire_all : (ms : List Timer) (l : Ledger) → Of u P (expire_all ms l).tasks → Of u P l.tasks
   unfolding expire_all expire
-  of_expire_all_lem [] l h = h
-  of_expire_all_lem (m ∷ ms) l h = of_again m l (of_signal m.semaphore (insert_again m l) (of_expire_all_lem ms (expire m l) h))
+  of_expire_all [] l h = h
+  of_expire_all (m ∷ ms) l h = of_again m l (of_signal m.semaphore (insert_again m l) (of_expire_all ms (expire m l) h))
 
   of_tick : (c : Config) (l : Ledger) → Of u P (tick c l).tasks → Of u P l.tasks
   unfolding updates tick tock
-  of_tick c l h = cond_both (λ (m : Ledger). Of u P m.tasks → Of u P l.tasks) (ltb (suc l.ticks) c.K) _ _ (λ h. h) (of_expire_all_lem _ _) h
+  of_tick c l h = cond_both (λ (m : Ledger). Of u P m.tasks → Of u P l.tasks) (ltb (suc l.ticks) c.K) _ _ (λ h. h) (of_expire_all _ _) h
 
   -- ---- a frame
 
@@ -144,7 +144,7 @@ module _ (u : ℕ) (P : Task → Type 0) (bears : Bears P) where
   of_effect ENQUEUE c self a b x e l tells begins h = of_issue c self (enqueue a e) l h
   of_effect RESUME c self a b x e l tells begins h = keeps a _ _ refl refl h
   of_effect SUSPEND c self a b x e l tells begins h = keeps a _ _ refl refl h
-  of_effect TERMINATE c self a b x e l tells begins h = of_signal_all_lem _ _ (terminates a _ _ refl refl h)
+  of_effect TERMINATE c self a b x e l tells begins h = of_signal_all _ _ (terminates a _ _ refl refl h)
   of_effect EXECUTE c self a b x e l tells begins h = begins refl _ _ refl h
   of_effect DELAY c self a b x e l tells begins h = keeps a _ _ refl refl h
   of_effect TIMER c self a b x e l tells begins h = h

@@ -54,51 +54,51 @@ module _ {B : Type 0} where
       k (record { N = l.N; ticks = l.ticks; tasks = ts; semaphores = ss; mailboxes = ms; queues = qs; timers = tm })
 
   -- it is the ledger that is handed on
-  force_bool_is_lem : (b : Bool) (k : Bool → B) → force_bool b k ≡ k b
+  force_bool_is : (b : Bool) (k : Bool → B) → force_bool b k ≡ k b
   unfolding force_bool
-  force_bool_is_lem true k = refl
-  force_bool_is_lem false k = refl
+  force_bool_is true k = refl
+  force_bool_is false k = refl
 
-  force_list_is_lem : {A : Type 0} (f : A → (A → B) → B) → ((x : A) (k : A → B) → f x k ≡ k x) → (xs : List A) (k : List A → B) → force_list f xs k ≡ k xs
+  force_list_is : {A : Type 0} (f : A → (A → B) → B) → ((x : A) (k : A → B) → f x k ≡ k x) → (xs : List A) (k : List A → B) → force_list f xs k ≡ k xs
   unfolding force_list
-  force_list_is_lem f h [] k = refl
-  force_list_is_lem f h (x ∷ xs) k = h x (λ y. force_list f xs (λ ys. k (y ∷ ys))) ∙ force_list_is_lem f h xs (λ ys. k (x ∷ ys))
+  force_list_is f h [] k = refl
+  force_list_is f h (x ∷ xs) k = h x (λ y. force_list f xs (λ ys. k (y ∷ ys))) ∙ force_list_is f h xs (λ ys. k (x ∷ ys))
 
   same_is : {A : Type 0} (x : A) (k : A → B) → same x k ≡ k x
   unfolding same
   same_is x k = refl
 
-  force_sema_is_lem : (s : Semaphore) (k : Semaphore → B) → force_sema s k ≡ k s
+  force_sema_is : (s : Semaphore) (k : Semaphore → B) → force_sema s k ≡ k s
   unfolding force_sema
-  force_sema_is_lem PENDING k = refl
-  force_sema_is_lem DONE k = refl
-  force_sema_is_lem (WAITING t) k = refl
+  force_sema_is PENDING k = refl
+  force_sema_is DONE k = refl
+  force_sema_is (WAITING t) k = refl
 
-  force_outcome_is_lem : (o : Outcome) (k : Outcome → B) → force_outcome o k ≡ k o
+  force_outcome_is : (o : Outcome) (k : Outcome → B) → force_outcome o k ≡ k o
   unfolding force_outcome
-  force_outcome_is_lem plain k = refl
-  force_outcome_is_lem begin k = refl
-  force_outcome_is_lem (message a b c) k = refl
-  force_outcome_is_lem (entry e) k = refl
-  force_outcome_is_lem (refused n) k = refl
-  force_outcome_is_lem (semaphore n) k = refl
-  force_outcome_is_lem (woke n) k = refl
+  force_outcome_is plain k = refl
+  force_outcome_is begin k = refl
+  force_outcome_is (message a b c) k = refl
+  force_outcome_is (entry e) k = refl
+  force_outcome_is (refused n) k = refl
+  force_outcome_is (semaphore n) k = refl
+  force_outcome_is (woke n) k = refl
 
-  force_request_is_lem : (r : Request) (k : Request → B) → force_request r k ≡ k r
+  force_request_is : (r : Request) (k : Request → B) → force_request r k ≡ k r
   unfolding force_request
-  force_request_is_lem none k = refl
-  force_request_is_lem (receive a) k = refl
-  force_request_is_lem (dequeue a) k = refl
-  force_request_is_lem (enqueue a e) k = refl
+  force_request_is none k = refl
+  force_request_is (receive a) k = refl
+  force_request_is (dequeue a) k = refl
+  force_request_is (enqueue a e) k = refl
 
-  force_task_is_lem : (t : Task) (k : Task → B) → force_task t k ≡ k t
+  force_task_is : (t : Task) (k : Task → B) → force_task t k ≡ k t
   unfolding force_task
-  force_task_is_lem t k = simp (force_bool_is_lem, force_outcome_is_lem, force_request_is_lem, force_list_is_lem {A = ℕ} same same_is)
+  force_task_is t k = simp (force_bool_is, force_outcome_is, force_request_is, force_list_is {A = ℕ} same same_is)
 
-  force_queue_is_lem : (q : Queue) (k : Queue → B) → force_queue q k ≡ k q
+  force_queue_is : (q : Queue) (k : Queue → B) → force_queue q k ≡ k q
   unfolding force_queue
-  force_queue_is_lem q k = simp (force_list_is_lem {A = List ℕ} same same_is)
+  force_queue_is q k = simp (force_list_is {A = List ℕ} same same_is)
 
   pub force_is : (l : Ledger) (k : Ledger → B) → force l k ≡ k l
   unfolding force
-  force_is l k = simp (force_list_is_lem force_task force_task_is_lem, force_list_is_lem force_sema force_sema_is_lem, force_list_is_lem {A = List Message} (force_list same) (force_list_is_lem {A = Message} same same_is), force_list_is_lem force_queue force_queue_is_lem, force_list_is_lem {A = Timer} same same_is)
+  force_is l k = simp (force_list_is force_task force_task_is, force_list_is force_sema force_sema_is, force_list_is {A = List Message} (force_list same) (force_list_is {A = Message} same same_is), force_list_is force_queue force_queue_is, force_list_is {A = Timer} same same_is)

@@ -17,19 +17,19 @@ unfoldable pub quick_from : Config → Ledger → List (List ℕ) → Ledger × 
 quick_from c l [] = (l, [])
 quick_from c l (f ∷ fs) = let s = step c f l in force s.ledger λ l'. let r = quick_from c l' fs in (r.0, s.answered ∷ r.1)
 
-pub quick_from_is_lem : (c : Config) (l : Ledger) (fs : List (List ℕ)) → quick_from c l fs ≡ run_from c l fs
+pub quick_from_is : (c : Config) (l : Ledger) (fs : List (List ℕ)) → quick_from c l fs ≡ run_from c l fs
 unfolding quick_from run_from
-quick_from_is_lem c l [] = refl
-quick_from_is_lem c l (f ∷ fs) = force_is (step c f l).ledger (λ l'. let r = quick_from c l' fs in (r.0, (step c f l).answered ∷ r.1)) ∙ rw (quick_from_is_lem c (step c f l).ledger fs)
+quick_from_is c l [] = refl
+quick_from_is c l (f ∷ fs) = force_is (step c f l).ledger (λ l'. let r = quick_from c l' fs in (r.0, (step c f l).answered ∷ r.1)) ∙ rw (quick_from_is c (step c f l).ledger fs)
 
 unfoldable pub quick_session : List ℕ → List (List ℕ) → List (List ℕ)
 quick_session g fs =
     let n = config_refusal g in
     cond (eqb n 0) (answer 0 0 (fresh (config_in g)) ∷ (quick_from (config_in g) (fresh (config_in g)) fs).1) (refused_configuration n ∷ [])
 
-pub quick_session_is_lem : (g : List ℕ) (fs : List (List ℕ)) → quick_session g fs ≡ session g fs
+pub quick_session_is : (g : List ℕ) (fs : List (List ℕ)) → quick_session g fs ≡ session g fs
 unfolding quick_session session run
-quick_session_is_lem g fs = rw quick_from_is_lem
+quick_session_is g fs = rw quick_from_is
 
 -- a name for all definitions of the ledger: to unfold it is to unfold them
 unfoldable pub everything : List ℕ → List (List ℕ) → List (List ℕ)

@@ -40,8 +40,8 @@ of_signal : (d b : ℕ) (l : Ledger) → Unwaited l b → Unwaited (signal d l).
 unfolding signal
 of_signal d b l h = of_signalled (semaphore_of l d) d b l h
 
-of_signal_all_lem : (ds : List ℕ) (b : ℕ) (l : Ledger) → Unwaited l b → Unwaited (signal_all ds l) b
-of_signal_all_lem ds b l h = signals_keep (λ m. Unwaited m b) (λ d m k. of_signal d b m k) ds l h
+of_signal_all : (ds : List ℕ) (b : ℕ) (l : Ledger) → Unwaited l b → Unwaited (signal_all ds l) b
+of_signal_all ds b l h = signals_keep (λ m. Unwaited m b) (λ d m k. of_signal d b m k) ds l h
 
 here_signalled : (s : Semaphore) (b : ℕ) (l : Ledger) → Unwaited (signalled s b l).ledger b
 unfolding updates signalled is_waiting
@@ -57,7 +57,7 @@ here_signal b l = here_signalled (semaphore_of l b) b l
 pub all_unwaited : (bs : List ℕ) (l : Ledger) → Every (Unwaited (signal_all bs l)) bs
 unfolding signal_all
 all_unwaited [] l = nil
-all_unwaited (b ∷ bs) l = cons (of_signal_all_lem bs b (signal b l).ledger (here_signal b l)) (all_unwaited bs (signal b l).ledger)
+all_unwaited (b ∷ bs) l = cons (of_signal_all bs b (signal b l).ledger (here_signal b l)) (all_unwaited bs (signal b l).ledger)
 
 -- ---- settling
 
@@ -66,13 +66,13 @@ module _ (c : Config) (b : ℕ) (low : b ≤ c.S + c.T) where
   abbrev Stays : Ledger → Ledger → Type 0
   Stays l l' = semaphore_of l' b ≡ semaphore_of l b
 
-  not_not_empty_lem : (q : ℕ) → Numbered c.Q q → b ≡ not_empty c q → ⊥
+  not_not_empty : (q : ℕ) → Numbered c.Q q → b ≡ not_empty c q → ⊥
   unfolding not_empty
-  not_not_empty_lem q n e = omega (arith, n.from)
+  not_not_empty q n e = omega (arith, n.from)
 
-  not_not_full_lem : (q : ℕ) → Numbered c.Q q → b ≡ not_full c q → ⊥
+  not_not_full : (q : ℕ) → Numbered c.Q q → b ≡ not_full c q → ⊥
   unfolding not_full
-  not_not_full_lem q n e = omega (arith, n.from)
+  not_not_full q n e = omega (arith, n.from)
 
   of_woken : (s : Semaphore) (d : ℕ) (l : Ledger) → (b ≡ d → ⊥) → Stays l (woken s d l)
   unfolding woken
@@ -80,9 +80,9 @@ module _ (c : Config) (b : ℕ) (low : b ≤ c.S + c.T) where
   of_woken DONE d l n = refl
   of_woken (WAITING t) d l n = other_signal d b l n
 
-  of_wake_waiter_lem : (d : ℕ) (l : Ledger) → (b ≡ d → ⊥) → Stays l (wake_waiter d l)
+  of_wake_waiter : (d : ℕ) (l : Ledger) → (b ≡ d → ⊥) → Stays l (wake_waiter d l)
   unfolding wake_waiter
-  of_wake_waiter_lem d l n = of_woken (semaphore_of l d) d l n
+  of_wake_waiter d l n = of_woken (semaphore_of l d) d l n
 
   received_on : (t a : ℕ) (o : Option Message) (l : Ledger) → Stays l (received t a o l)
   unfolding updates set_request set_message_wait received
@@ -91,13 +91,13 @@ module _ (c : Config) (b : ℕ) (low : b ≤ c.S + c.T) where
 
   dequeued_on : (t q : ℕ) (es : List (List ℕ)) (l : Ledger) → Numbered c.Q q → Stays l (dequeued c t q es l)
   unfolding updates set_request dequeued
-  dequeued_on t q [] l n = at_put_other l.semaphores (not_empty c q) b (WAITING t) PENDING (not_not_empty_lem q n)
-  dequeued_on t q (e ∷ es) l n = of_wake_waiter_lem (not_full c q) (take_entry c t q e l) (not_not_full_lem q n)
+  dequeued_on t q [] l n = at_put_other l.semaphores (not_empty c q) b (WAITING t) PENDING (not_not_empty q n)
+  dequeued_on t q (e ∷ es) l n = of_wake_waiter (not_full c q) (take_entry c t q e l) (not_not_full q n)
 
   enqueued_on : (t q : ℕ) (e : List ℕ) (f : Bool) (l : Ledger) → Numbered c.Q q → Stays l (enqueued c t q e f l)
   unfolding updates set_request enqueued
-  enqueued_on t q e true l n = at_put_other l.semaphores (not_full c q) b (WAITING t) PENDING (not_not_full_lem q n)
-  enqueued_on t q e false l n = of_wake_waiter_lem (not_empty c q) (put_entry q e l) (not_not_empty_lem q n)
+  enqueued_on t q e true l n = at_put_other l.semaphores (not_full c q) b (WAITING t) PENDING (not_not_full q n)
+  enqueued_on t q e false l n = of_wake_waiter (not_empty c q) (put_entry q e l) (not_not_empty q n)
 
   issue_on : (t : ℕ) (r : Request) (l : Ledger) → Asks c r → Stays l (issue c t r l)
   unfolding issue

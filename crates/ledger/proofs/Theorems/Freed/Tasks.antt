@@ -31,8 +31,8 @@ module _ (t : ℕ) (P : Task → Type 0) (wake : (k : Task) → P k → P (witho
   unfolding signal
   of_signal b l p = of_signalled (semaphore_of l b) b l p
 
-  pub of_signal_all_lem : (bs : List ℕ) (l : Ledger) → P (task l t) → P (task (signal_all bs l) t)
-  of_signal_all_lem = signals_keep (λ m. P (task m t)) of_signal
+  pub of_signal_all : (bs : List ℕ) (l : Ledger) → P (task l t) → P (task (signal_all bs l) t)
+  of_signal_all = signals_keep (λ m. P (task m t)) of_signal
 
   of_woken : (s : Semaphore) (b : ℕ) (l : Ledger) → P (task l t) → P (task (woken s b l) t)
   unfolding woken
@@ -40,9 +40,9 @@ module _ (t : ℕ) (P : Task → Type 0) (wake : (k : Task) → P k → P (witho
   of_woken DONE b l p = p
   of_woken (WAITING u) b l p = of_signal b l p
 
-  of_wake_waiter_lem : (b : ℕ) (l : Ledger) → P (task l t) → P (task (wake_waiter b l) t)
+  of_wake_waiter : (b : ℕ) (l : Ledger) → P (task l t) → P (task (wake_waiter b l) t)
   unfolding wake_waiter
-  of_wake_waiter_lem b l p = of_woken (semaphore_of l b) b l p
+  of_wake_waiter b l p = of_woken (semaphore_of l b) b l p
 
   -- an issue for another task n
   module _ (n : ℕ) (other : t ≡ n → ⊥) where
@@ -57,12 +57,12 @@ module _ (t : ℕ) (P : Task → Type 0) (wake : (k : Task) → P k → P (witho
     of_dequeued : (c : Config) (q : ℕ) (es : List (List ℕ)) (l : Ledger) → P (task l t) → P (task (dequeued c n q es l) t)
     unfolding updates set_request dequeued
     of_dequeued c q [] l p = beside _ _ (beside _ _ p)
-    of_dequeued c q (e ∷ es) l p = of_wake_waiter_lem (not_full c q) (take_entry c n q e l) (beside _ _ (beside _ _ p))
+    of_dequeued c q (e ∷ es) l p = of_wake_waiter (not_full c q) (take_entry c n q e l) (beside _ _ (beside _ _ p))
 
     of_enqueued : (c : Config) (q : ℕ) (e : List ℕ) (b : Bool) (l : Ledger) → P (task l t) → P (task (enqueued c n q e b l) t)
     unfolding updates set_request enqueued
     of_enqueued c q e true l p = beside _ _ (beside _ _ p)
-    of_enqueued c q e false l p = of_wake_waiter_lem (not_empty c q) (put_entry q e l) p
+    of_enqueued c q e false l p = of_wake_waiter (not_empty c q) (put_entry q e l) p
 
     of_issue : (c : Config) (r : Request) (l : Ledger) → P (task l t) → P (task (issue c n r l) t)
     unfolding issue
@@ -113,7 +113,7 @@ all_woken [] l = nil
 all_woken (b ∷ bs) l = cons first (every_to rest (all_woken bs (signal b l).ledger))
   where
     first : Woken (b ∷ bs) l b
-    first t e = of_signal_all_lem t (λ k. k.blocks.event_wait ≡ false) (λ k p. refl) bs (signal b l).ledger (wakes b t l e)
+    first t e = of_signal_all t (λ k. k.blocks.event_wait ≡ false) (λ k p. refl) bs (signal b l).ledger (wakes b t l e)
 
     rest : (d : ℕ) → Woken bs (signal b l).ledger d → Woken (b ∷ bs) l d
     rest d h t e = go (eqb d b) refl

@@ -28,17 +28,17 @@ pub record SoundTimers (c : Config) (N : ℕ) (ts : List Timer) : Type 0 where
 
 -- ---- a tock
 
-renew_all_ordered_lem : (n : ℕ) (ds ts : List Timer) → Ordered (λ t. t.due) ts → Ordered (λ t. t.due) (renew_all n ds ts)
+renew_all_ordered : (n : ℕ) (ds ts : List Timer) → Ordered (λ t. t.due) ts → Ordered (λ t. t.due) (renew_all n ds ts)
 unfolding renew_all
-renew_all_ordered_lem n [] ts h = h
-renew_all_ordered_lem n (d ∷ ds) ts h = renew_all_ordered_lem n ds (renew n d ts) (renew_cases (Ordered (λ t. t.due)) n d ts h (λ z. ordered_insert (λ t. t.due) (again n d) ts h))
+renew_all_ordered n [] ts h = h
+renew_all_ordered n (d ∷ ds) ts h = renew_all_ordered n ds (renew n d ts) (renew_cases (Ordered (λ t. t.due)) n d ts h (λ z. ordered_insert (λ t. t.due) (again n d) ts h))
 
-renew_all_length_lem : (n : ℕ) (ds ts : List Timer) → length (renew_all n ds ts) ≤ length ds + length ts
+renew_all_length : (n : ℕ) (ds ts : List Timer) → length (renew_all n ds ts) ≤ length ds + length ts
 unfolding renew_all
-renew_all_length_lem n [] ts = omega arith
-renew_all_length_lem n (d ∷ ds) ts =
+renew_all_length n [] ts = omega arith
+renew_all_length n (d ∷ ds) ts =
     let h : length (renew n d ts) ≤ suc (length ts) = renew_cases (λ us. length us ≤ suc (length ts)) n d ts (omega arith) (λ z. omega (arith, insert_length (λ t. t.due) (again n d) ts)) in
-    omega (arith, renew_all_length_lem n ds (renew n d ts))
+    omega (arith, renew_all_length n ds (renew n d ts))
 
 again_sound : (N : ℕ) (t : Timer) → SoundTimer N t → (t.period ≡ 0 → ⊥) → SoundTimer (suc N) (again (suc N) t)
 again_sound N t h z = record { later = omega (arith, z); soon = omega (arith, h.period); period = h.period }
@@ -53,8 +53,8 @@ tock_timers c N ts h =
     let n = suc N in
     record {
       each = renewed_every (SoundTimer n) n ts (every_to (again_sound N) (every_part (part_keep _ ts) h.each)) (every_both (left_sound N) (every_part (part_keep _ ts) h.each) (keep_passes _ ts));
-      ordered = renew_all_ordered_lem n (keep (due_at n) ts) (keep (λ t. not (due_at n t)) ts) (ordered_part (part_keep _ ts) h.ordered);
-      room = omega (arith, renew_all_length_lem n (keep (due_at n) ts) (keep (λ t. not (due_at n t)) ts), keep_lengths (due_at n) ts);
+      ordered = renew_all_ordered n (keep (due_at n) ts) (keep (λ t. not (due_at n t)) ts) (ordered_part (part_keep _ ts) h.ordered);
+      room = omega (arith, renew_all_length n (keep (due_at n) ts) (keep (λ t. not (due_at n t)) ts), keep_lengths (due_at n) ts);
     }
 
 -- ---- every change

@@ -34,8 +34,8 @@ of_signal : (b : ℕ) (l : Ledger) → clock (signal b l).ledger ≡ clock l
 unfolding signal
 of_signal b l = of_signalled (semaphore_of l b) b l
 
-of_signal_all_lem : (bs : List ℕ) (l : Ledger) → clock (signal_all bs l) ≡ clock l
-of_signal_all_lem bs l = signals_keep (λ m. clock m ≡ clock l) (λ b m e. of_signal b m ∙ e) bs l refl
+of_signal_all : (bs : List ℕ) (l : Ledger) → clock (signal_all bs l) ≡ clock l
+of_signal_all bs l = signals_keep (λ m. clock m ≡ clock l) (λ b m e. of_signal b m ∙ e) bs l refl
 
 of_woken : (s : Semaphore) (b : ℕ) (l : Ledger) → clock (woken s b l) ≡ clock l
 unfolding woken
@@ -43,9 +43,9 @@ of_woken PENDING b l = refl
 of_woken DONE b l = refl
 of_woken (WAITING t) b l = of_signal b l
 
-of_wake_waiter_lem : (b : ℕ) (l : Ledger) → clock (wake_waiter b l) ≡ clock l
+of_wake_waiter : (b : ℕ) (l : Ledger) → clock (wake_waiter b l) ≡ clock l
 unfolding wake_waiter
-of_wake_waiter_lem b l = of_woken (semaphore_of l b) b l
+of_wake_waiter b l = of_woken (semaphore_of l b) b l
 
 of_waited : (s : Semaphore) (t b : ℕ) (l : Ledger) → clock (waited s t b l) ≡ clock l
 unfolding updates waited
@@ -61,12 +61,12 @@ of_received t a (some m) l = refl
 of_dequeued : (c : Config) (t q : ℕ) (es : List (List ℕ)) (l : Ledger) → clock (dequeued c t q es l) ≡ clock l
 unfolding updates set_request dequeued
 of_dequeued c t q [] l = refl
-of_dequeued c t q (e ∷ es) l = of_wake_waiter_lem _ (take_entry c t q e l)
+of_dequeued c t q (e ∷ es) l = of_wake_waiter _ (take_entry c t q e l)
 
 of_enqueued : (c : Config) (t q : ℕ) (e : List ℕ) (b : Bool) (l : Ledger) → clock (enqueued c t q e b l) ≡ clock l
 unfolding updates set_request enqueued
 of_enqueued c t q e true l = refl
-of_enqueued c t q e false l = of_wake_waiter_lem _ (put_entry q e l)
+of_enqueued c t q e false l = of_wake_waiter _ (put_entry q e l)
 
 of_issue : (c : Config) (t : ℕ) (r : Request) (l : Ledger) → clock (issue c t r l) ≡ clock l
 unfolding issue
@@ -126,7 +126,7 @@ clock_after SEASON_TIMER c a b x k = started a b (long_tock_value x) k
 
 of_tock : (l : Ledger) → clock (tock l) ≡ record { N = l.N; ticks = l.ticks; timers = renewed l.N l.timers }
 unfolding set_timers
-of_tock l = ap clock (tock_is l) ∙ of_signal_all_lem _ (set_timers (renewed l.N l.timers) l)
+of_tock l = ap clock (tock_is l) ∙ of_signal_all _ (set_timers (renewed l.N l.timers) l)
 
 of_tick : (c : Config) (l : Ledger) → clock (tick c l) ≡ ticked c (clock l)
 unfolding tick ticked set_clock
@@ -149,7 +149,7 @@ of_effect DEQUEUE c s a b x e l = of_issue c s _ l
 of_effect ENQUEUE c s a b x e l = of_issue c s _ l
 of_effect RESUME c s a b x e l = refl
 of_effect SUSPEND c s a b x e l = refl
-of_effect TERMINATE c s a b x e l = of_signal_all_lem _ _
+of_effect TERMINATE c s a b x e l = of_signal_all _ _
 of_effect EXECUTE c s a b x e l = refl
 of_effect DELAY c s a b x e l = refl
 of_effect TIMER c s a b x e l = refl

@@ -16,8 +16,8 @@ use Rattle.ledger.specs.Turns.{Starts, ends, removed, has_turn}
 use Rattle.ledger.proofs.Theorems.Checks.{and_left, and_right, cond_both}
 use Rattle.ledger.proofs.Theorems.Parts.{Every, every_first, keep_passes}
 use Rattle.ledger.proofs.Theorems.Tocks.{due_at, renewed}
-use Rattle.ledger.proofs.Theorems.Keeps.{any_none, any_some, none_any, keep_keep, keep_insert_by_other_lem, keep_insert_by_only_lem}
-use Rattle.ledger.proofs.Theorems.Turns.Renewed.{renew_all_others_lem, renew_all_only_lem}
+use Rattle.ledger.proofs.Theorems.Keeps.{any_none, any_some, none_any, keep_keep, keep_insert_by_other, keep_insert_by_only}
+use Rattle.ledger.proofs.Theorems.Turns.Renewed.{renew_all_others, renew_all_only}
 use Rattle.ledger.proofs.Theorems.Turns.Clock.{timer_for}
 use Rattle.ledger.proofs.Theorems.Turns.Frames.{Timeless, Leaves, Inserts, Stops, Counts, Passes, Way, leaves, inserts, stops, counts, passes, none_removed, a_start, way}
 
@@ -83,7 +83,7 @@ module _ (c : Config) (l : Ledger) (f : List ℕ) (a b d q : ℕ) where
   after_inserts : {m : Ledger} {x y : ℕ} {v : TockValue} → Alone → Inserts c l f x y v m → After m
   after_inserts {x} {y} {v} h w =
       still (none_due_lem w.time) w.time.N (w.spares a b)
-      (ap (keep (is_of a b)) w.timers ∙ keep_insert_by_other_lem (is_of a b) _ (timer_for x y v l.N) (other x y v h w.free) l.timers ∙ h)
+      (ap (keep (is_of a b)) w.timers ∙ keep_insert_by_other (is_of a b) _ (timer_for x y v l.N) (other x y v h w.free) l.timers ∙ h)
 
   after_stops : {m : Ledger} → Alone → Stops c l f m → After m
   unfolding keep
@@ -112,11 +112,11 @@ module _ (c : Config) (l : Ledger) (f : List ℕ) (a b d q : ℕ) where
       go : (z : Bool) → leb d (suc l.N) ≡ z → After m
       go true e =
           turned (ap (any (is_of a b)) w.removes ∙ any_some (is_of a b) _ (due_now_lem h true e)) (w.spares a b) w.N (omega (arith, leb-true d (suc l.N) e, w.N))
-          (ap (keep (is_of a b)) w.timers ∙ renew_all_only_lem (is_of a b) (suc l.N) (λ t. refl) _ _ _ (due_now_lem h true e) (left_now h true e)
+          (ap (keep (is_of a b)) w.timers ∙ renew_all_only (is_of a b) (suc l.N) (λ t. refl) _ _ _ (due_now_lem h true e) (left_now h true e)
           ∙ ap (λ i. cond (eqb q 0) [] (timer a b (i + q) q ∷ [])) (sym w.N))
       go false e =
           stays (ap (any (is_of a b)) w.removes ∙ any_none (is_of a b) _ (due_now_lem h false e)) (w.spares a b) (omega (arith, w.N)) (λ k. omega (arith, leb-false d (suc l.N) e, w.N))
-          (ap (keep (is_of a b)) w.timers ∙ renew_all_others_lem (is_of a b) (suc l.N) (λ t. refl) _ _ (due_now_lem h false e) ∙ left_now h false e)
+          (ap (keep (is_of a b)) w.timers ∙ renew_all_others (is_of a b) (suc l.N) (λ t. refl) _ _ (due_now_lem h false e) ∙ left_now h false e)
 
   pub after : Alone → After (step c f l).ledger
   after h = go (way c l f)
@@ -162,15 +162,15 @@ module _ (c : Config) (a b : ℕ) where
       left p = keep_keep (is_of a b) p l.timers ∙ ap (keep p) h
 
       put : (x : Timer) (z : Bool) → is_of a b x ≡ z → m.timers ≡ insert_by (λ t. t.due) x l.timers → AtMostOne m
-      put x true e k = most m (ap (keep (is_of a b)) k ∙ keep_insert_by_only_lem (is_of a b) _ x l.timers e h) (omega arith)
-      put x false e k = most m (ap (keep (is_of a b)) k ∙ keep_insert_by_other_lem (is_of a b) _ x e l.timers ∙ h) (omega arith)
+      put x true e k = most m (ap (keep (is_of a b)) k ∙ keep_insert_by_only (is_of a b) _ x l.timers e h) (omega arith)
+      put x false e k = most m (ap (keep (is_of a b)) k ∙ keep_insert_by_other (is_of a b) _ x e l.timers ∙ h) (omega arith)
 
       go : Way c l f m → AtMostOne m
       go (leaves w) = most m (ap (keep (is_of a b)) w.timers ∙ h) (omega arith)
       go (inserts x y v i w) = put _ _ refl w.timers
       go (stops w) = most m (ap (keep (is_of a b)) w.timers ∙ left _) (omega arith)
       go (counts w) = most m (ap (keep (is_of a b)) w.timers ∙ h) (omega arith)
-      go (passes w) = most m (ap (keep (is_of a b)) w.timers ∙ renew_all_others_lem (is_of a b) (suc l.N) (λ t. refl) _ _ (left _) ∙ left _) (omega arith)
+      go (passes w) = most m (ap (keep (is_of a b)) w.timers ∙ renew_all_others (is_of a b) (suc l.N) (λ t. refl) _ _ (left _) ∙ left _) (omega arith)
 
   -- a timer of the pair names it
   own_form : (l : Ledger) (t : Timer) (ts : List Timer) → keep (is_of a b) l.timers ≡ t ∷ ts → t ≡ timer a b t.due t.period

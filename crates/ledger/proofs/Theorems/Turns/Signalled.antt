@@ -27,7 +27,7 @@ use Rattle.ledger.proofs.Theorems.Named.{Timed, Named}
 use Rattle.ledger.proofs.Theorems.Kept.{accept_named}
 use Rattle.ledger.proofs.Theorems.HandedOver.{ready_run}
 use Rattle.ledger.proofs.Theorems.Told.{waits}
-use Rattle.ledger.proofs.Theorems.Freed.Tasks.{of_signal_all_lem, rests_on, Woken, all_woken}
+use Rattle.ledger.proofs.Theorems.Freed.Tasks.{of_signal_all, rests_on, Woken, all_woken}
 use Rattle.ledger.proofs.Theorems.Freed.Semaphores.{Unwaited, all_unwaited, semaphore_on, unwaited_on}
 use Rattle.ledger.proofs.Theorems.Turns.Frames.{signals_last, turn_passes, turn_accepted}
 
@@ -118,7 +118,7 @@ module _ (c : Config) (f : List ℕ) (l : Ledger) (named : Named c l) (sized : s
         unwaited = unwaited_on c b low.upto settled still_named (subst (λ k. Unwaited k b) (sym is) (among (Unwaited (signal_all due passed)) (all_unwaited due passed)));
         freed = woken;
         stays = λ t e o. (rests_on settled t (record {
-          closed = ap (λ k. is_open (task k t).request) is ∙ of_signal_all_lem t (λ k. is_open k.request ≡ false) (λ k p. p) due passed o;
+          closed = ap (λ k. is_open (task k t).request) is ∙ of_signal_all t (λ k. is_open k.request ≡ false) (λ k p. p) due passed o;
           unblocked = woken t e;
         })).unblocked;
       }

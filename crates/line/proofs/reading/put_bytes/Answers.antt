@@ -6,7 +6,7 @@ use native.Mathlib.Omega.{arith}
 use lib.ListN.{length, length-set}
 use Rattle.line.specs.Digits.{pairs}
 use Rattle.line.proofs.Front.{front_turn, front_end}
-use Rattle.line.proofs.Pairs.{length_pairs, get_d_pairs_lem}
+use Rattle.line.proofs.Pairs.{length_pairs, get_d_pairs}
 use Rattle.line.proofs.reading.put_bytes.Goals as goal
 
 pub loop-i-init : goal.loop-i-init
@@ -41,7 +41,7 @@ loop-i-preserved c =
     let a = c.args in
     let l = c.loop-i in
     let n = length_pairs a.line.now in
-    let v = c.byte_of.ensures ∙ sym (get_d_pairs_lem a.line.now l.i (omega arith)) in
+    let v = c.byte_of.ensures ∙ sym (get_d_pairs a.line.now l.i (omega arith)) in
     (omega arith, simp length-set (omega arith), front_turn a.frame.now (pairs a.line.now) l.frame l.i c.byte_of.result l.invariant.2 v (omega arith) (omega arith))
 
 pub shape_of-frame : goal.shape_of-frame

@@ -4,7 +4,7 @@ use mathlib.Core.Path.{refl, sym, ap, ◌∙◌, subst}
 use Rattle.configuration.specs.Limits.{limits_of, Made, controller_made}
 use Rattle.configuration.specs.Block.{counts_rule}
 use Rattle.mcx11.specs.Framed.{frame_is}
-use Rattle.mcx11.specs.Inside.{counts_here, kept_inside, sized_here, frame_met, frame_unmet, frames_by}
+use Rattle.mcx11.proofs.Inside.{counts_here, kept_inside, sized_here, frame_met, frame_unmet, frames_by}
 use Rattle.mcx11.proofs.entries.mcx11_frame_blocks.Goals as goal
 
 pub meets_limits-requires : goal.meets_limits-requires
