@@ -1,7 +1,7 @@
 -- The ride controller and the brake module on the machine, by name.
---     controller-runs, module-runs                a configuration that it accepts and a list of frames have runs
---     controller-every-run, module-every-run      and every such runs are as demand 3 says
---     runs-alike                                  a configuration that both accept: every runs of the one give the answers and the numbers
+--     controller_runs, module_runs                a configuration that it accepts and a list of frames have runs
+--     controller_every_run, module_every_run      and every such runs are as demand 3 says
+--     runs_alike                                  a configuration that both accept: every runs of the one give the answers and the numbers
 --                                                 of every runs of the other, each from a memory of its own
 --     both_run                                    and there are such: two tasks, and any frames of at most 326 bytes
 use Prim.Native.Nat.{ℕ, zero, suc, ◌<◌, ◌^◌}
@@ -21,8 +21,8 @@ use Rattle.mcx11.specs.Contract.{Memory, memory, sizes_of, full_size}
 use Rattle.mcx11.specs.Sizes.{sizes_full}
 use Rattle.theorems.proofs.OneCall.{Executive, the_controller, the_module}
 use Rattle.theorems.proofs.Runs.{lengths_of, SessionRuns, FitsBuffer}
-use Rattle.theorems.proofs.SessionStart.{Lendable, SessionStarts, session_start, places_of}
-use Rattle.theorems.proofs.EveryRun.{AsTheLedger, SessionRan, Asks, runs, every_run, every_answer, every_number}
+use Rattle.theorems.proofs.SessionStart.{AsTheLedger, Lendable, SessionStarts, session_start, places_of}
+use Rattle.theorems.proofs.EveryRun.{SessionRan, Asks, runs, every_run, every_answer, every_number}
 
 pub controller_runs : {g : List ℕ} {fs : List (List ℕ)} {m : Memory} {buffer others : List ℕ} → Asks the_controller m buffer others g fs → ∥ SessionRan the_controller m buffer others g fs ∥₁
 controller_runs = runs the_controller

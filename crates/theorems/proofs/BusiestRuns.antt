@@ -31,7 +31,7 @@ use Rattle.running.specs.Machine.{𝓡₀, 𝓡_in, asks_nothing}
 use Rattle.running.specs.Rows.{StoresRow, LoadsRow}
 use Rattle.running.specs.Loans.{AllAre}
 use Rattle.running.specs.Lent.{Param, value, lent, number, list, Fits, LastValues, lifetimes_of, shares_of, values_of, passed_of, Enters}
-use Rattle.running.specs.Hosts.{Hosts, Call, Done, hosts, runs, every_run}
+use Rattle.running.specs.Hosts.{Hosts, Call, hosts, runs, every_run}
 use Rattle.stretch.specs.Busiest.{busiest_of, Gives, Leaves}
 use Rattle.stretch.proofs.Theorems.{gives_leaves}
 use Rattle.stretch.specs.declared.Record.{Record}
@@ -145,24 +145,17 @@ module _ {rs : List Record} {s p : ℕ} {o : List ℕ} (h : Holdable rs s p o) (
   hosted : {σ : machine.Memory} → HostMemory rs s p o σ → Hosts (params rs w s p) o σ
   hosted {σ} m = (m.filled, m.records, (m.summed, m.sum, (σ, m.place, refl)))
 
-  done : {v : Val} {last : machine.Memory} → Done (params rs w s p) o u8 (Says rs w s p) v last → BusiestDone rs w s p o v last
-  done d =
+  pub busiest_runs : (σ : machine.Memory) → HostMemory rs s p o σ → ∥ ((v : Val) × (last : machine.Memory) × BusiestRuns w rs σ v last × BusiestDone rs w s p o v last) ∥₁
+  busiest_runs σ host =
+      ∥∥₁_map (runs (call rs w s p) o (fits h w hw) h.others σ (hosted host)) (λ k.
+      let d = k.3 in
       let sum' : ℕ = d.values.1.1.0 in
       let place' : ℕ = d.values.1.1.1.0 in
-      record {
-        r = d.result;
-        sum' = sum';
-        place' = place';
-        value = ap only d.is.0;
-        sum = d.loads.1.0;
-        place = d.loads.1.1.0;
-        leaves = gives_leaves rs w s p sum' place' d.result d.says;
-        records = d.loads.0;
-        others = d.others;
-      }
-
-  pub busiest_runs : (σ : machine.Memory) → HostMemory rs s p o σ → ∥ ((v : Val) × (last : machine.Memory) × BusiestRuns w rs σ v last × BusiestDone rs w s p o v last) ∥₁
-  busiest_runs σ host = ∥∥₁_map (runs (call rs w s p) o (fits h w hw) h.others σ (hosted host)) (λ k. (k.0, k.1, k.2, done k.3))
+      (k.0, k.1, k.2, record { r = d.result; sum' = sum'; place' = place'; value = ap only d.is.0; sum = d.loads.1.0; place = d.loads.1.1.0; leaves = gives_leaves rs w s p sum' place' d.result d.says; records = d.loads.0; others = d.others }))
 
   pub every_busiest : (σ : machine.Memory) → HostMemory rs s p o σ → {v : Val} {last : machine.Memory} → BusiestRuns w rs σ v last → ∥ BusiestDone rs w s p o v last ∥₁
-  every_busiest σ host r = ∥∥₁_map (every_run (call rs w s p) o (fits h w hw) h.others σ (hosted host) r) done
+  every_busiest σ host r =
+      ∥∥₁_map (every_run (call rs w s p) o (fits h w hw) h.others σ (hosted host) r) (λ d.
+      let sum' : ℕ = d.values.1.1.0 in
+      let place' : ℕ = d.values.1.1.1.0 in
+      record { r = d.result; sum' = sum'; place' = place'; value = ap only d.is.0; sum = d.loads.1.0; place = d.loads.1.1.0; leaves = gives_leaves rs w s p sum' place' d.result d.says; records = d.loads.0; others = d.others })

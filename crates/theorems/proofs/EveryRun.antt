@@ -1,10 +1,10 @@
 -- DEMAND 3 ON THE MACHINE, of an executive x, the ride controller's or the brake module's. A run begins with a memory that holds the five
 -- blocks, the host's buffer and any other bytes, side by side, whatever they are.
 --     runs           from there a configuration and a list of frames have runs, one after the other, as demand 3 says
---     every-run      and every such runs are as demand 3 says: the machine has one run from one memory
---     every-answer, every-number           its first two parts, as plain equations
---     run-every-turn                       nor does a timer miss a turn in what a host sees of them
---     every-frame, every-configuration     one call, whatever the blocks hold and however large they are: it is as its contract
+--     every_run      and every such runs are as demand 3 says: the machine has one run from one memory
+--     every_answer, every_number           its first two parts, as plain equations
+--     run_every_turn                       nor does a timer miss a turn in what a host sees of them
+--     every_frame, every_configuration     one call, whatever the blocks hold and however large they are: it is as its contract
 --                                          says
 use Prim.Native.Nat.{ℕ}
 use mathlib.Core.Path.{◌≡◌, refl, subst}
@@ -19,27 +19,23 @@ use prog.Memory as machine
 use ghost.Model as closed
 use Rattle.running.specs.Memories.{Loads}
 use Rattle.running.specs.Machine.{Cells, ◌∗◌}
-use Rattle.ledger.specs.Config.{Config, Limits, config_in, config_refusal_by}
+use Rattle.ledger.specs.Config.{Config, config_in, config_refusal_by}
 use Rattle.ledger.specs.Session as ledger
 use Rattle.ledger.proofs.Theorems.Parts.{Every}
 use Rattle.mcx11.specs.Contract.{Memory, full_size, Configures, Frames}
 use Rattle.mcx11.specs.Answer.{answer_of}
 use Rattle.theorems.specs.Numbers as refused
 use Rattle.theorems.specs.Calls.{FrameCalls, seen}
-use Rattle.theorems.specs.Same.{Same, every_list}
-use Rattle.theorems.specs.TurnsKept.{TurnsKept, turns_kept}
+use Rattle.theorems.specs.Same.{every_list}
+use Rattle.theorems.specs.TurnsKept.{TurnsKept}
+use Rattle.theorems.proofs.TurnsKept.{turns_kept}
 use Rattle.theorems.proofs.OneCall.{Executive}
 use Rattle.theorems.proofs.Runs.{lengths_of, ConfigureRuns, FrameRuns, SessionRuns, session, seen_session, FitsBuffer, feeds}
-use Rattle.theorems.proofs.SessionStart.{SessionStarts, session_start, places_of, others_at, others, rooms, frame_runs_from, configure_runs_from}
+use Rattle.theorems.proofs.SessionStart.{SessionStarts, AsTheLedger, session_start, places_of, others_at, others, rooms, frame_runs_from, configure_runs_from}
 use Rattle.theorems.proofs.CallOneRun.{known}
 use Rattle.theorems.proofs.RunCalls.{run_calls}
 
 -- ---- there are runs
-
--- what demand 3 says of runs that left the memory `last`, in which the five blocks hold m' and all else is as it was
-pub record AsTheLedger (k : Limits) (m : Memory) (d o g : List ℕ) (fs answers : List (List ℕ)) (numbers : List ℕ) (last : machine.Memory) (m' : Memory) : Type 0 where
-  pub same : Same k g m fs answers numbers m'
-  pub others : Loads last 0 (others_at m d) o
 
 pub record SessionRan (x : Executive) (m : Memory) (buffer others g : List ℕ) (fs : List (List ℕ)) : Type 0 where
   pub answers : List (List ℕ)

@@ -30,7 +30,7 @@ use Rattle.running.specs.Machine.{𝓡₀, 𝓡_in, asks_nothing}
 use Rattle.running.specs.Rows.{StoresRow, LoadsRow}
 use Rattle.running.specs.Loans.{AllAre}
 use Rattle.running.specs.Lent.{Param, value, lent, number, list, Fits, LastValues, lifetimes_of, shares_of, values_of, passed_of, Enters}
-use Rattle.running.specs.Hosts.{Hosts, Call, Done, hosts, runs, every_run}
+use Rattle.running.specs.Hosts.{Hosts, Call, hosts, runs, every_run}
 use Rattle.starts.specs.Starts.{Leaves}
 use Rattle.starts.specs.declared.Cycle.{Cycle}
 use Rattle.starts.specs.contracts.Cycle as C
@@ -138,20 +138,13 @@ module _ {ts : List Cycle} {s : ℕ} {o : List ℕ} (h : Holdable ts s o) (p : �
   hosted : {σ : machine.Memory} → HostMemory ts s o σ → Hosts (params ts p s) o σ
   hosted {σ} m = (m.filled, m.timers, (σ, m.start, refl))
 
-  done : {v : Val} {last : machine.Memory} → Done (params ts p s) o u8 (Says ts p s) v last → FreeStartDone ts p s o v last
-  done d =
-      record {
-        r = d.result;
-        start' = d.values.1.1.0;
-        value = ap only d.is.0;
-        start = d.loads.1.0;
-        leaves = d.says;
-        timers = d.loads.0;
-        others = d.others;
-      }
-
   pub free_start_runs : (σ : machine.Memory) → HostMemory ts s o σ → ∥ ((v : Val) × (last : machine.Memory) × FreeStartRuns p ts σ v last × FreeStartDone ts p s o v last) ∥₁
-  free_start_runs σ host = ∥∥₁_map (runs (call ts p s) o (fits h p hp) h.others σ (hosted host)) (λ k. (k.0, k.1, k.2, done k.3))
+  free_start_runs σ host =
+      ∥∥₁_map (runs (call ts p s) o (fits h p hp) h.others σ (hosted host)) (λ k.
+      let d = k.3 in
+      (k.0, k.1, k.2, record { r = d.result; start' = d.values.1.1.0; value = ap only d.is.0; start = d.loads.1.0; leaves = d.says; timers = d.loads.0; others = d.others }))
 
   pub every_free_start : (σ : machine.Memory) → HostMemory ts s o σ → {v : Val} {last : machine.Memory} → FreeStartRuns p ts σ v last → ∥ FreeStartDone ts p s o v last ∥₁
-  every_free_start σ host r = ∥∥₁_map (every_run (call ts p s) o (fits h p hp) h.others σ (hosted host) r) done
+  every_free_start σ host r =
+      ∥∥₁_map (every_run (call ts p s) o (fits h p hp) h.others σ (hosted host) r) (λ d.
+      record { r = d.result; start' = d.values.1.1.0; value = ap only d.is.0; start = d.loads.1.0; leaves = d.says; timers = d.loads.0; others = d.others })

@@ -12,7 +12,6 @@ use prog.Routine.{step}
 use Rattle.theorems.proofs.World.{environment}
 use Rattle.running.specs.Memories.{Loads}
 use Rattle.running.specs.One.{number_one, loads_one, stores_one, run_one}
-use Rattle.mcx11.specs.Contract.{memory}
 use Rattle.feeding.specs.declared.Stage.{Stage}
 use Rattle.feeding.specs.declared.Stage.TheVariants.{First, Running, Ended}
 use Rattle.feeding.specs.declared.Reached.{Reached}

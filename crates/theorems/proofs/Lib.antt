@@ -1,3 +1,6 @@
+pub mod TurnsKept
+-- a call, as the checker says it
+pub mod Learnt
 pub mod Demand3
 -- the environment in which the functions are run
 pub mod World

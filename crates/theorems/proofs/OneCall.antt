@@ -1,7 +1,7 @@
 -- One call on the machine: from every memory that holds the lent bytes, each of the four entries runs, ends, returns a byte, and leaves
 -- bytes of which its contract holds.
 --     Executive                     two such routines, with the limits by which their contracts speak
---     theController, theModule      `mcx11_configure_blocks` and `mcx11_frame_blocks`; `mcx11_module_configure_blocks` and
+--     the_controller, the_module    `mcx11_configure_blocks` and `mcx11_frame_blocks`; `mcx11_module_configure_blocks` and
 --                                   `mcx11_module_frame_blocks`
 use mathlib.Core.Path.{refl}
 use Prim.Native.Nat.{ℕ}
@@ -81,7 +81,7 @@ pub record Executive : Type 2 where
   pub configures : (q : Places) (f : List ℕ) (m : Memory) → ConfigureRan q f m limits configure
   pub frames : (q : Places) (f : List ℕ) (m : Memory) → FrameRan q f m limits frame
 
--- ---- theController: its two contracts at the closed model, and their runs
+-- ---- the_controller: its two contracts at the closed model, and their runs
 abbrev configure_contract : Contract closed.𝓤
 configure_contract = triple_of logic₀ configure.signature (configure.spec logic₀ model⁺.mem 𝓡₀.returns)
 
@@ -92,25 +92,27 @@ module _ (q : Places) (x : List ℕ) (m : Memory) where
   abbrev configure_bound : Ids (configure_slices q x m) → configure_contract.Ghost
   configure_bound i = let L = configure_slices q x m in ((lifetimes_of L i, shares_of L, tt, references_of L i, passed_of L), tt)
 
-  pub configure_runs : ConfigureRan q x m controller (environment configure-symbol.name)
-  configure_runs =
-      let L = configure_slices q x m in
-      runs (environment configure-symbol.name) configure_contract (configure-met.met closed.𝓤 logic₀ model⁺ (𝓡_in environment) configure_wired) L u8 configure_bound (vals_of L) (λ i. refl)
-      (λ i. asks_nothing (Enters L u8 i)) (ConfigureSays q x m controller) (λ i v. id⊢ closed.𝓤 (configure_contract.post (configure_bound i) v))
-
   abbrev frame_bound : Ids (frame_slices q x m) → frame_contract.Ghost
   frame_bound i = let L = frame_slices q x m in ((lifetimes_of L i, shares_of L, tt, references_of L i, passed_of L), tt)
 
-  pub frame_runs : FrameRan q x m controller (environment frame-symbol.name)
-  frame_runs =
-      let L = frame_slices q x m in
-      runs (environment frame-symbol.name) frame_contract (frame-met.met closed.𝓤 logic₀ model⁺ (𝓡_in environment) frame_wired) L u8 frame_bound (vals_of L) (λ i. refl)
-      (λ i. asks_nothing (Enters L u8 i)) (FrameSays q x m controller) (λ i v. id⊢ closed.𝓤 (frame_contract.post (frame_bound i) v))
-
 abbrev pub the_controller : Executive
-the_controller = record { limits = controller; made = controller_made; configure = (environment configure-symbol.name); frame = (environment frame-symbol.name); configures = configure_runs; frames = frame_runs }
+the_controller =
+    record {
+      limits = controller;
+      made = controller_made;
+      configure = (environment configure-symbol.name);
+      frame = (environment frame-symbol.name);
+      configures = λ q x m.
+          let L = configure_slices q x m in
+          runs (environment configure-symbol.name) configure_contract (configure-met.met closed.𝓤 logic₀ model⁺ (𝓡_in environment) configure_wired) L u8 (configure_bound q x m) (vals_of L) (λ i. refl)
+          (λ i. asks_nothing (Enters L u8 i)) (ConfigureSays q x m controller) (λ i v. id⊢ closed.𝓤 (configure_contract.post (configure_bound q x m i) v));
+      frames = λ q x m.
+          let L = frame_slices q x m in
+          runs (environment frame-symbol.name) frame_contract (frame-met.met closed.𝓤 logic₀ model⁺ (𝓡_in environment) frame_wired) L u8 (frame_bound q x m) (vals_of L) (λ i. refl)
+          (λ i. asks_nothing (Enters L u8 i)) (FrameSays q x m controller) (λ i v. id⊢ closed.𝓤 (frame_contract.post (frame_bound q x m i) v));
+    }
 
--- ---- theModule: its two contracts at the closed model, and their runs
+-- ---- the_module: its two contracts at the closed model, and their runs
 abbrev module_configure_contract : Contract closed.𝓤
 module_configure_contract = triple_of logic₀ module-configure.signature (module-configure.spec logic₀ model⁺.mem 𝓡₀.returns)
 
@@ -121,20 +123,22 @@ module _ (q : Places) (x : List ℕ) (m : Memory) where
   abbrev module_configure_bound : Ids (configure_slices q x m) → module_configure_contract.Ghost
   module_configure_bound i = let L = configure_slices q x m in ((lifetimes_of L i, shares_of L, tt, references_of L i, passed_of L), tt)
 
-  pub module_configure_runs : ConfigureRan q x m brake_module (environment module-configure-symbol.name)
-  module_configure_runs =
-      let L = configure_slices q x m in
-      runs (environment module-configure-symbol.name) module_configure_contract (module-configure-met.met closed.𝓤 logic₀ model⁺ (𝓡_in environment) module_configure_wired) L u8 module_configure_bound (vals_of L) (λ i. refl)
-      (λ i. asks_nothing (Enters L u8 i)) (ConfigureSays q x m brake_module) (λ i v. id⊢ closed.𝓤 (module_configure_contract.post (module_configure_bound i) v))
-
   abbrev module_frame_bound : Ids (frame_slices q x m) → module_frame_contract.Ghost
   module_frame_bound i = let L = frame_slices q x m in ((lifetimes_of L i, shares_of L, tt, references_of L i, passed_of L), tt)
 
-  pub module_frame_runs : FrameRan q x m brake_module (environment module-frame-symbol.name)
-  module_frame_runs =
-      let L = frame_slices q x m in
-      runs (environment module-frame-symbol.name) module_frame_contract (module-frame-met.met closed.𝓤 logic₀ model⁺ (𝓡_in environment) module_frame_wired) L u8 module_frame_bound (vals_of L) (λ i. refl)
-      (λ i. asks_nothing (Enters L u8 i)) (FrameSays q x m brake_module) (λ i v. id⊢ closed.𝓤 (module_frame_contract.post (module_frame_bound i) v))
-
 abbrev pub the_module : Executive
-the_module = record { limits = brake_module; made = brake_module_made; configure = (environment module-configure-symbol.name); frame = (environment module-frame-symbol.name); configures = module_configure_runs; frames = module_frame_runs }
+the_module =
+    record {
+      limits = brake_module;
+      made = brake_module_made;
+      configure = (environment module-configure-symbol.name);
+      frame = (environment module-frame-symbol.name);
+      configures = λ q x m.
+          let L = configure_slices q x m in
+          runs (environment module-configure-symbol.name) module_configure_contract (module-configure-met.met closed.𝓤 logic₀ model⁺ (𝓡_in environment) module_configure_wired) L u8 (module_configure_bound q x m) (vals_of L) (λ i. refl)
+          (λ i. asks_nothing (Enters L u8 i)) (ConfigureSays q x m brake_module) (λ i v. id⊢ closed.𝓤 (module_configure_contract.post (module_configure_bound q x m i) v));
+      frames = λ q x m.
+          let L = frame_slices q x m in
+          runs (environment module-frame-symbol.name) module_frame_contract (module-frame-met.met closed.𝓤 logic₀ model⁺ (𝓡_in environment) module_frame_wired) L u8 (module_frame_bound q x m) (vals_of L) (λ i. refl)
+          (λ i. asks_nothing (Enters L u8 i)) (FrameSays q x m brake_module) (λ i v. id⊢ closed.𝓤 (module_frame_contract.post (module_frame_bound q x m i) v));
+    }

@@ -25,7 +25,7 @@ use Rattle.theorems.proofs.World.{environment, feed_wired, finish_wired}
 use Rattle.running.specs.Slices.{shr, mut, Slice, Ids, LastValues, vals_of, val_of, ref_of, lifetimes_of, shares_of, references_of, passed_of, Rooms, own_as, owns_of, lefts_of, toks_of}
 use Rattle.running.specs.Machine.{Pr, A₀, 𝓡₀, 𝓡_in, Cells, ◌∗◌, ◌⊨◌, Enters, Leaves, asks, leaves_by, Ran, bytes_at}
 use Rattle.running.proofs.Runs.{runs}
-use Rattle.mcx11.specs.Contract.{Memory, memory}
+use Rattle.mcx11.specs.Contract.{memory}
 use Rattle.ledger.specs.Config.{controller}
 use Rattle.mcx11.specs.Sizes.{Full}
 use Rattle.feeding.specs.declared.Stage.{Stage}

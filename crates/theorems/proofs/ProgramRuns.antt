@@ -1,7 +1,7 @@
 -- The session program's functions on the machine, from the memory with which a run begins: all that is lent, and the input's buffer,
 -- side by side.
 --     prints          there are runs of `feed`, a block of the input each, and of `finish` behind them
---     every-print     and what every such runs print is the ledger's `output` of the input
+--     every_print     and what every such runs print is the ledger's `output` of the input
 use Prim.Native.Nat.{ℕ, ◌+◌, ◌*◌, ◌≤◌}
 use mathlib.Core.Path.{◌≡◌, refl, sym, ap, ◌∙◌, subst}
 use mathlib.Core.Logic.{∥∥₁_elim}

@@ -14,9 +14,11 @@ use ghost.Model as closed
 use denote.Builtin.{u8}
 use denote.Slice.{Room}
 use Rattle.running.specs.Slices.{Kind, shr, mut, Slice}
-use Rattle.running.specs.Memories.{inarow}
+use Rattle.running.specs.Memories.{Loads, inarow}
 use Rattle.running.specs.Machine.{Pr, Cell, Cells, ◌∗◌, ◌⊨◌, weaken, begins, cells_append, bytes_at}
+use Rattle.ledger.specs.Config.{Limits}
 use Rattle.mcx11.specs.Contract.{Memory, Configures, Frames}
+use Rattle.theorems.specs.Same.{Same}
 use Rattle.theorems.proofs.OneCall.{Places, Executive}
 use Rattle.theorems.proofs.Runs.{lengths_of, blocks_of, FitsBuffer, RoomsAt, Called, configure_called, frame_called}
 
@@ -54,6 +56,11 @@ places_of m = record {
 -- the others lie behind the buffer
 abbrev pub others_at : Memory → List ℕ → ℕ
 others_at m d = (places_of m).buffer.1 + length d
+
+-- what demand 3 says of runs that left the memory `last`, in which the five blocks hold m' and all else is as it was
+pub record AsTheLedger (k : Limits) (m : Memory) (d o g : List ℕ) (fs answers : List (List ℕ)) (numbers : List ℕ) (last : machine.Memory) (m' : Memory) : Type 0 where
+  pub same : Same k g m fs answers numbers m'
+  pub others : Loads last 0 (others_at m d) o
 
 pub room : {d : List ℕ} → Lendable d → Room u8 (length d)
 room {d} h = (omega (arith, h.size), omega (arith, h.size))

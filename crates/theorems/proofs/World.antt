@@ -2,7 +2,7 @@
 -- the code of the functions that it calls, of whatever crate. It is the kit's world of a build (prog.Linked), of the crates below with their own tables.
 --     environment      what a name means there: `environment F.name` is the routine of the function F
 --     F_wired          it has the code of F, and of all that F calls
-use Rattle.std.specs.Prelude.{refl, List, [], ◌∷◌}
+use Rattle.std.specs.Prelude.{refl, [], ◌∷◌}
 use mathlib.Core.Bool.{true}
 use lib.Chars.{codes}
 use prog.Routine.{Env}
@@ -31,19 +31,38 @@ use Rattle.mcx11.proofs.Linked as mcx11
 use Rattle.feeding.proofs.Linked as feeding
 use Rattle.mcx11.proofs.entries.mcx11_configure_blocks.Symbol as configure-symbol
 use Rattle.mcx11.proofs.entries.mcx11_frame_blocks.Symbol as frame-symbol
-use Rattle.mcx11.proofs.entries.mcx11_module_configure_blocks.Symbol as module_configure-symbol
-use Rattle.mcx11.proofs.entries.mcx11_module_frame_blocks.Symbol as module_frame-symbol
+use Rattle.mcx11.proofs.entries.mcx11_module_configure_blocks.Symbol as module-configure-symbol
+use Rattle.mcx11.proofs.entries.mcx11_module_frame_blocks.Symbol as module-frame-symbol
 use Rattle.mcx11.proofs.mcx11_read_line.Symbol as read-symbol
 use Rattle.mcx11.proofs.mcx11_write_line.Symbol as write-symbol
 use Rattle.mcx11.proofs.mcx11_milliseconds.Symbol as milliseconds-symbol
 use Rattle.mcx11.proofs.mcx11_busiest.Symbol as busiest-symbol
-use Rattle.mcx11.proofs.mcx11_free_start.Symbol as free_start-symbol
+use Rattle.mcx11.proofs.mcx11_free_start.Symbol as free-start-symbol
 use Rattle.feeding.proofs.feed.Symbol as feed-symbol
 use Rattle.feeding.proofs.finish.Symbol as finish-symbol
 
 abbrev world : World
 world =
-    (codes "rows", rows.the_table) ∷ (codes "rings", rings.the_table) ∷ (codes "messages", messages.the_table) ∷ (codes "timers", timers.the_table) ∷ (codes "parts", parts.the_table) ∷ (codes "tables", tables.the_table) ∷ (codes "queues", queues.the_table) ∷ (codes "mailboxes", mailboxes.the_table) ∷ (codes "clock", clock.the_table) ∷ (codes "services", services.the_table) ∷ (codes "answer", answer.the_table) ∷ (codes "configuration", configuration.the_table) ∷ (codes "command", command.the_table) ∷ (codes "executive", executive.the_table) ∷ (codes "line", line.the_table) ∷ (codes "tocks", tocks.the_table) ∷ (codes "stretch", stretch.the_table) ∷ (codes "starts", starts.the_table) ∷ (codes "mcx11", mcx11.the_table) ∷ (codes "feeding", feeding.the_table) ∷ []
+    (codes "rows", rows.the_table) ∷
+    (codes "rings", rings.the_table) ∷
+    (codes "messages", messages.the_table) ∷
+    (codes "timers", timers.the_table) ∷
+    (codes "parts", parts.the_table) ∷
+    (codes "tables", tables.the_table) ∷
+    (codes "queues", queues.the_table) ∷
+    (codes "mailboxes", mailboxes.the_table) ∷
+    (codes "clock", clock.the_table) ∷
+    (codes "services", services.the_table) ∷
+    (codes "answer", answer.the_table) ∷
+    (codes "configuration", configuration.the_table) ∷
+    (codes "command", command.the_table) ∷
+    (codes "executive", executive.the_table) ∷
+    (codes "line", line.the_table) ∷
+    (codes "tocks", tocks.the_table) ∷
+    (codes "stretch", stretch.the_table) ∷
+    (codes "starts", starts.the_table) ∷
+    (codes "mcx11", mcx11.the_table) ∷
+    (codes "feeding", feeding.the_table) ∷ []
 
 pub environment : Env
 environment = tie_t (in_world world)
@@ -105,11 +124,11 @@ configure_wired = wired configure-symbol.code (mcx11.entries_mcx11_configure_blo
 pub frame_wired : Wired environment frame-symbol.code
 frame_wired = wired frame-symbol.code (mcx11.entries_mcx11_frame_blocks_linked world refl mcx11_below)
 
-pub module_configure_wired : Wired environment module_configure-symbol.code
-module_configure_wired = wired module_configure-symbol.code (mcx11.entries_mcx11_module_configure_blocks_linked world refl mcx11_below)
+pub module_configure_wired : Wired environment module-configure-symbol.code
+module_configure_wired = wired module-configure-symbol.code (mcx11.entries_mcx11_module_configure_blocks_linked world refl mcx11_below)
 
-pub module_frame_wired : Wired environment module_frame-symbol.code
-module_frame_wired = wired module_frame-symbol.code (mcx11.entries_mcx11_module_frame_blocks_linked world refl mcx11_below)
+pub module_frame_wired : Wired environment module-frame-symbol.code
+module_frame_wired = wired module-frame-symbol.code (mcx11.entries_mcx11_module_frame_blocks_linked world refl mcx11_below)
 
 pub read_wired : Wired environment read-symbol.code
 read_wired = wired read-symbol.code (mcx11.mcx11_read_line_linked world refl mcx11_below)
@@ -123,8 +142,8 @@ milliseconds_wired = wired milliseconds-symbol.code (mcx11.mcx11_milliseconds_li
 pub busiest_wired : Wired environment busiest-symbol.code
 busiest_wired = wired busiest-symbol.code (mcx11.mcx11_busiest_linked world refl mcx11_below)
 
-pub free_start_wired : Wired environment free_start-symbol.code
-free_start_wired = wired free_start-symbol.code (mcx11.mcx11_free_start_linked world refl mcx11_below)
+pub free_start_wired : Wired environment free-start-symbol.code
+free_start_wired = wired free-start-symbol.code (mcx11.mcx11_free_start_linked world refl mcx11_below)
 
 pub feed_wired : Wired environment feed-symbol.code
 feed_wired = wired feed-symbol.code (feeding.feed_linked world refl feeding_below)

@@ -8,7 +8,7 @@ use Rattle.std.proofs.Math.Decide.{ℕ_discrete}
 use Rattle.rows.specs.Splice.{cut}
 use Rattle.ledger.specs.Config.{Config, Limits, config_in, config_refusal_by}
 use Rattle.ledger.specs.Ledger.{Ledger, fresh}
-use Rattle.ledger.specs.Session.{Items, items, step}
+use Rattle.ledger.specs.Session.{Items, step}
 use Rattle.tables.specs.Shows.{no_tidy}
 use Rattle.mailboxes.specs.Room.{sound_in}
 use Rattle.mailboxes.specs.Whole.{sound_same}

@@ -38,6 +38,6 @@ alike a b =
       bytes = both_same a b;
     }
 
--- what the module accepts, so does the controller: its number is configRefusal (controller-gives, ledger/specs/Theorems/Within)
+-- what the module accepts, so does the controller: its number is config_refusal (controller_gives, ledger/proofs/Theorems/Within)
 pub module_accepts : (g : List ℕ) → config_refusal_by brake_module g ≡ 0 → config_refusal g ≡ 0
 module_accepts g h = (by_accepted brake_module g h).0
