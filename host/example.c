@@ -40,6 +40,7 @@ static const char *advice(uint8_t number)
     case MCX11_NUMBER_BEFORE_FIRST: return "execute its first tasks before it";
     case MCX11_NUMBER_ABOVE_MODULE: return "give the module a smaller part of the ride: host/both.c";
     case MCX11_NUMBER_STRETCH: return "give at most 4,096 records, and ask for a stretch of 1 up to all of them";
+    case MCX11_NUMBER_CYCLES: return "give at most eight timers, and periods of 1 to 32,768 tocks";
     default: return "this number is new: see docs/HOST.md";
     }
 }
