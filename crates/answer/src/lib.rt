@@ -101,6 +101,8 @@ fn put_outcome(answer: &mut [u8], head: Head, o: Outcome, slots: &[u8], t: u8)
 }
 
 // The answer with the number that a frame was refused with, 0 if it was accepted.
+// It is compiled into its callers, since each call would take a copy of the shape on the stack.
+#[inline(always)]
 pub fn write(
     tables: &[u8],
     slots: &[u8],

@@ -59,6 +59,8 @@ fn byte(n: usize) -> u8
 }
 
 // Starts a timer, where a record is left for it.
+// It is compiled into its callers, since each call would take a copy of the shape on the stack.
+#[inline(always)]
 pub fn start(timers: &mut [u8], shape: Shape, task: u8, semaphore: u8, left: u32, period: u32)
     requires { Holds shape (length timers.old) }
     ensures { Starts shape timers.old timers.new task semaphore left period }

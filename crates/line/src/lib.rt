@@ -1,5 +1,5 @@
 // Lines of digits and frames, both ways, on slices that the caller lends.
-// Promises: the ledger's own readLine and writeLine (Lines), for every line, frame and buffer; with a number nothing is written.
+// Promises: the ledger's own read_line and write_line (Lines), for every line, frame and buffer; with a number nothing is written.
 // Rests on the ledger's definitions alone.
 #![tactic(auto)]
 

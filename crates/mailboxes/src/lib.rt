@@ -66,6 +66,8 @@ pub fn insert(tables: &mut [u8], shape: Shape, to: u8, number: u8, sender: u8, s
 }
 
 // Takes the first message for task t that is from `from`, or from any if that is 0.
+// It is compiled into its callers, since each call would take a copy of the shape on the stack.
+#[inline(always)]
 pub fn take(tables: &mut [u8], shape: Shape, t: u8, from: u8) -> Received
     requires { Fits shape (length tables.old) × OneOf shape.tasks t }
     ensures tells { Tells shape tables.old (λ c L. find (wanted from) (mailbox L t)) (view_received result) }

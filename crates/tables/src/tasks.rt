@@ -177,6 +177,8 @@ fn request_in(row: &[u8], queues: usize) -> Request
     request_of(queues, row[4], row[5])
 }
 
+// It is compiled into its callers, since each call would take a copy of the shape on the stack.
+#[inline(always)]
 pub fn load(tables: &[u8], shape: Shape, t: u8) -> Task
     requires { Fits shape (length tables.now) × OneOf shape.tasks t }
     ensures { (result ≡ record_in shape tables.now t) × AsksFor shape.queues result.request }
