@@ -7,8 +7,8 @@ use Prim.Native.Nat.{ℕ, suc, ◌+◌, ◌-◌, ◌*◌, ◌≤◌}
 use native.Mathlib.Omega.{arith}
 use Rattle.std.proofs.Math.ListN.{length, take}
 use Rattle.rows.specs.Splice.{cut, splice}
-use Rattle.rows.specs.Laws.{length_cut}
 use Rattle.rows.specs.Rows.{row_at}
+use Rattle.tables.specs.Decode.{count_of}
 use Rattle.ledger.specs.Ledger.{Outcome, entry}
 use Rattle.ledger.specs.Session.{shown}
 use Rattle.answer.specs.declared.Head.{Head}
@@ -29,7 +29,7 @@ line h o = h.number ∷ h.running ∷ h.reissues ∷ shown o
 
 -- as many bytes of a slot of 16 as a width asks for
 abbrev pub narrow : ℕ → ℕ
-narrow w = cond (leb w 16) w 16
+narrow w = count_of 16 w
 
 -- a block's front, and then what follows it
 followed : (old h v : List ℕ) (n : ℕ) → length h ≡ n → n + length v ≤ length old → splice (splice old 0 h) n v ≡ splice old 0 (h ++ v)
@@ -62,14 +62,12 @@ narrow_front w s = go (leb w 16) refl
     go true e = take-take w 16 s (leb-true w 16 e)
     go false e = take_all w (take 16 s) (simp length-take (omega (arith, leb-false w 16 e)))
 
--- the first five bytes, and then an entry out of the slot of task t
-module _ (old mid z : List ℕ) (h : Head) (width w t : ℕ) (full : 21 ≤ length old) (lo : 1 ≤ t) (room : 16 * t ≤ length z) (e : w ≡ narrow width) (few : w ≤ 16) where
-  pub entered : mid ≡ splice old 0 ((w + 4) ∷ parts h 3 []) → splice mid 5 (cut z ((t - 1) * 16) ((t - 1) * 16 + w)) ≡ written (line h (entry (take width (row_at 16 (t - 1) z)))) old
-  unfolding line shown
-  entered m =
-      let a : ℕ = (t - 1) * 16 in
-      let v : List ℕ = cut z a (a + w) in
-      let i : a + w - a ≡ w = omega arith in
-      let n : length v ≡ w = length_cut z a (a + w) (omega arith) ∙ i in
-      let x : v ≡ take width (row_at 16 (t - 1) z) = ap (λ (j : ℕ). take j (drop a z)) (i ∙ e) ∙ sym (narrow_front width (drop a z)) in
-      valued old mid h (w + 4) 3 v m (omega arith) (omega arith) ∙ ap (λ (y : List ℕ). written (parts h 3 y) old) x
+-- an entry out of the slot of task t
+pub entered : (old z : List ℕ) (h : Head) (width w t : ℕ) → w ≡ narrow width
+    → written (parts h 3 (cut z ((t - 1) * 16) ((t - 1) * 16 + w))) old ≡ written (line h (entry (take width (row_at 16 (t - 1) z)))) old
+unfolding line shown
+entered old z h width w t e =
+    let a : ℕ = (t - 1) * 16 in
+    let i : a + w - a ≡ w = omega arith in
+    let x : cut z a (a + w) ≡ take width (row_at 16 (t - 1) z) = ap (λ (j : ℕ). take j (drop a z)) (i ∙ e) ∙ sym (narrow_front width (drop a z)) in
+    ap (λ (y : List ℕ). written (parts h 3 y) old) x

@@ -3,16 +3,16 @@
 // Rests on tables for the running task's outcome, and on rows for the copy of an entry.
 #![tactic(auto)]
 
-ghost use Rattle.std.specs.Prelude.{◌≡◌, [], ◌∷◌, ◌-◌, ◌*◌, ◌≤◌, length, take};
-ghost use Rattle.rows.specs.Splice.{splice};
+ghost use Rattle.std.specs.Prelude.{◌≡◌, ◌-◌, ◌*◌, ◌≤◌, length, take};
 ghost use Rattle.rows.specs.Rows.{row_at};
 ghost use Rattle.tables.specs.Decode.{view_outcome};
 ghost use Rattle.tables.specs.Layout.{Fits};
 ghost use Rattle.ledger.specs.Ledger as ledger;
 ghost use Rattle.ledger.specs.Session as session;
-ghost use Rattle.answer.specs.Written.{answer_bytes, written, parts, line, narrow};
+ghost use Rattle.answer.specs.Written.{answer_bytes, written, parts, line};
 ghost use Rattle.answer.specs.Answered.{Answers};
 
+use tables::counts::count_of;
 use tables::shape::Shape;
 use tables::tasks::Outcome;
 
@@ -24,64 +24,27 @@ struct Head {
     reissues: u8,
 }
 
-fn put_head(answer: &mut [u8], n: u8, head: Head, kind: u8)
-    requires { answer_bytes ≤ length answer.old }
-    ensures { answer.new ≡ splice answer.old 0 (n ∷ parts head kind []) }
+// A kind and the bytes of its value.
+fn put(answer: &mut [u8], head: Head, kind: u8, value: &[u8])
+    requires { (answer_bytes ≤ length answer.old) × (length value.now ≤ 16) }
+    ensures { answer.new ≡ written (parts head kind value.now) answer.old }
 {
-    answer[0] = n;
+    answer[0] = (value.len() + 4) as u8;
     answer[1] = head.number;
     answer[2] = head.running;
     answer[3] = head.reissues;
     answer[4] = kind;
+    rows::copy_in(value, answer, 5);
 }
 
-// A kind without a value.
-fn put_kind(answer: &mut [u8], head: Head, kind: u8)
-    requires { answer_bytes ≤ length answer.old }
-    ensures { answer.new ≡ written (parts head kind []) answer.old }
-{
-    put_head(answer, 4, head, kind);
-}
-
-fn put_message(answer: &mut [u8], head: Head, message: u8, sender: u8, semaphore: u8)
-    requires { answer_bytes ≤ length answer.old }
-    ensures { answer.new ≡ written (line head (ledger.message message sender semaphore)) answer.old }
-{
-    put_head(answer, 7, head, 2);
-    answer[5] = message;
-    answer[6] = sender;
-    answer[7] = semaphore;
-}
-
-// The bytes of an entry, 16 at most.
-fn narrowed(width: u8) -> u8
-    ensures { (result ≡ narrow width) × (result ≤ 16) }
-{
-    if width <= 16 {
-        return width;
-    }
-    16
-}
-
-// The entry in the slot of task t.
+// The entry in the slot of task t: 16 bytes at most.
 fn put_entry(answer: &mut [u8], head: Head, width: u8, slots: &[u8], t: u8)
     requires { (answer_bytes ≤ length answer.old) × (1 ≤ t) × (16 * t ≤ length slots.now) }
     ensures { answer.new ≡ written (line head (ledger.entry (take width (row_at 16 (t - 1) slots.now)))) answer.old }
 {
-    let w = narrowed(width);
-    put_head(answer, w + 4, head, 3);
     let at = (t as usize - 1) * 16;
-    let end = at + w as usize;
-    rows::copy_in(&slots[at..end], answer, 5);
-}
-
-// A kind with one number: refused, semaphore, woke.
-fn put_number(answer: &mut [u8], head: Head, kind: u8, number: u8)
-    requires { answer_bytes ≤ length answer.old }
-    ensures { answer.new ≡ written (parts head kind (number ∷ [])) answer.old }
-{
-    put_head(answer, 5, head, kind);
-    answer[5] = number;
+    let end = at + count_of(16, width);
+    put(answer, head, 3, &slots[at..end]);
 }
 
 // An outcome of task t.
@@ -90,13 +53,13 @@ fn put_outcome(answer: &mut [u8], head: Head, o: Outcome, slots: &[u8], t: u8)
     ensures { answer.new ≡ written (line head (view_outcome o (row_at 16 (t - 1) slots.now))) answer.old }
 {
     match o {
-        Outcome::Plain => put_kind(answer, head, 0),
-        Outcome::Begin => put_kind(answer, head, 1),
-        Outcome::Message(m, s, b) => put_message(answer, head, m, s, b),
+        Outcome::Plain => put(answer, head, 0, &[]),
+        Outcome::Begin => put(answer, head, 1, &[]),
+        Outcome::Message(m, s, b) => put(answer, head, 2, &[m, s, b]),
         Outcome::Entry(w) => put_entry(answer, head, w, slots, t),
-        Outcome::Refused(n) => put_number(answer, head, 4, n),
-        Outcome::Semaphore(b) => put_number(answer, head, 5, b),
-        Outcome::Woke(w) => put_number(answer, head, 6, w),
+        Outcome::Refused(n) => put(answer, head, 4, &[n]),
+        Outcome::Semaphore(b) => put(answer, head, 5, &[b]),
+        Outcome::Woke(w) => put(answer, head, 6, &[w]),
     }
 }
 
@@ -116,17 +79,16 @@ pub fn write(
     ensures { Answers shape tables.now slots.now running number reissues answer.old answer.new }
 {
     let head = Head {
-        number: number,
-        running: running,
-        reissues: reissues,
+        number,
+        running,
+        reissues,
     };
     if running == 0 {
-        put_kind(answer, head, 0);
+        put(answer, head, 0, &[]);
         return;
     }
     let k = tables::tasks::load(tables, shape, running);
-    let o = k.outcome;
-    put_outcome(answer, head, o, slots, running);
+    put_outcome(answer, head, k.outcome, slots, running);
 }
 
 // The answer to a refused configuration.
@@ -135,9 +97,9 @@ pub fn refuse_configuration(number: u8, answer: &mut [u8])
     ensures { answer.new ≡ written (session.refused_configuration number) answer.old }
 {
     let head = Head {
-        number: number,
+        number,
         running: 0,
         reissues: 0,
     };
-    put_kind(answer, head, 0);
+    put(answer, head, 0, &[]);
 }

@@ -1,5 +1,5 @@
 -- What it is for a function over the timers' block to do what the ledger does, and how a change of the block is lifted.
-use Rattle.std.specs.Prelude.{◌≡◌, refl, Bool, true, false, not, ◌&&◌, ◌||◌, List, map, ℕ, ◌%◌, ◌<◌, ◌≤◌, eqb, length, get_or, drop}
+use Rattle.std.specs.Prelude.{◌≡◌, refl, Bool, true, false, not, cond, ◌&&◌, ◌||◌, List, map, ℕ, ◌%◌, ◌<◌, ◌≤◌, eqb, length, get_or, drop, Option, Some, None, is_none, unwrap_or}
 use Rattle.std.proofs.Common.{sym, ap, ◌∙◌, arith}
 use Rattle.ledger.specs.Lists.{keep}
 use Rattle.ledger.specs.Config.{Config}
@@ -45,6 +45,12 @@ unfolding purged
 removed_is a b L =
     let and : (x : Bool) → not x ≡ not (x && true) = λ x. elim x as (λ y. not y ≡ not (y && true)) [ true ↦ refl | false ↦ refl ] in
     λ i. set_timers (keep (λ (t : Timer). and (eqb t.task a) i) L.timers) L
+
+-- of a purge that names semaphore b unless it takes all
+pub purged_unless : (a b : ℕ) (all : Bool) (L : Ledger) → let s = cond all None (Some b) in purged a (is_none s) (unwrap_or s 0) L ≡ purged a all b L
+unfolding purged
+purged_unless a b true L = refl
+purged_unless a b false L = refl
 
 -- ---- the timers that are shown
 pub held_of : {c : Config} {s : Shape} → Of c s → (w : List ℕ) → held_in s w ≡ timers_of c w

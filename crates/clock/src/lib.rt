@@ -1,9 +1,9 @@
 // The clock: ticks, tocks and timers, in place in the lent memory.
 // Promises: each operation is the ledger's own change, for every ledger that the memory shows.
 // Rests on tables (what the memory shows) and timers (rows of ten bytes in a slice), and on the ledger's definitions.
-#![tactic(auto)]
+#![tactic(auto, using(crate::specs::Held::some_byte, crate::specs::Held::records_in_lem, crate::specs::Ticks::clock_in, crate::specs::Ticks::most_ticks))]
 
-ghost use Rattle.std.specs.Prelude.{◌≡◌, cond, not, suc, ◌+◌, ◌-◌, ◌<◌, ◌≤◌, ltb, length, get_or};
+ghost use Rattle.std.specs.Prelude.{◌≡◌, cond, not, suc, ◌+◌, ◌-◌, ◌<◌, ◌≤◌, ltb, length, get_or, is_none, unwrap_or};
 ghost use Rattle.ledger.specs.Ledger.{set_clock};
 ghost use Rattle.ledger.specs.Refusals.{have_timer};
 ghost use Rattle.timers.specs.Timers.{due_in};
@@ -16,6 +16,7 @@ ghost use Rattle.clock.specs.Does.{DoesTimers, TellsTimers, Starts, purged};
 ghost use Rattle.clock.specs.Ticks.{AfterTick};
 ghost use Rattle.clock.specs.Tocks.{Advanced};
 
+use tables::counts::count_of;
 use tables::shape::{Shape, TICKS_AT};
 
 // The block `timers`: the number of timers, and behind it their rows with their clock.
@@ -23,22 +24,12 @@ const NUMBER_AT: usize = 0;
 
 const ROWS_AT: usize = 1;
 
-// A count, the most that there can be where the byte says more.
-fn counted(most: usize, x: u8) -> usize
-    ensures { (result ≤ most) × (result ≡ count_of most x) }
-{
-    if x as usize <= most {
-        return x as usize;
-    }
-    most
-}
-
 // The number of timers.
 pub fn count(timers: &[u8], shape: Shape) -> usize
     requires { Holds shape (length timers.now) }
     ensures { (result ≤ shape.timers) × (result ≡ count_of shape.timers (get_or timers.now 0 0)) × TellsTimers shape timers.now (λ c L. length L.timers) result }
 {
-    counted(shape.timers, timers[NUMBER_AT])
+    count_of(shape.timers, timers[NUMBER_AT])
 }
 
 // Whether a task has a timer on a semaphore.
@@ -48,14 +39,6 @@ pub fn has(timers: &[u8], shape: Shape, task: u8, semaphore: u8) -> bool
 {
     let n = count(timers, shape);
     timers::has(&timers[ROWS_AT..], n, task, semaphore)
-}
-
-// A small number as a byte.
-fn byte(n: usize) -> u8
-    requires { n ≤ 255 }
-    ensures { result ≡ n }
-{
-    n as u8
 }
 
 // Starts a timer, where a record is left for it.
@@ -70,17 +53,17 @@ pub fn start(timers: &mut [u8], shape: Shape, task: u8, semaphore: u8, left: u32
         return;
     }
     timers::insert(&mut timers[ROWS_AT..], n, task, semaphore, left, period);
-    timers[NUMBER_AT] = byte(n + 1);
+    timers[NUMBER_AT] = (n + 1) as u8;
 }
 
-// Takes out all timers of a task, or only those on a semaphore.
-pub fn purge(timers: &mut [u8], shape: Shape, task: u8, all: bool, semaphore: u8)
+// Takes out a task's timers on a semaphore, or all of the task's where none is named.
+pub fn purge(timers: &mut [u8], shape: Shape, task: u8, semaphore: Option<u8>)
     requires { Holds shape (length timers.old) }
-    ensures { DoesTimers shape timers.old timers.new (λ c L. purged task all semaphore L) }
+    ensures { DoesTimers shape timers.old timers.new (λ c L. purged task (is_none semaphore) (unwrap_or semaphore 0) L) }
 {
     let n = count(timers, shape);
-    let left = timers::purge(&mut timers[ROWS_AT..], n, task, all, semaphore);
-    timers[NUMBER_AT] = byte(left);
+    let left = timers::purge(&mut timers[ROWS_AT..], n, task, semaphore);
+    timers[NUMBER_AT] = left as u8;
 }
 
 // Takes the first due timer out, and puts it in again if it is cyclic. Gives the semaphore that it signals.
@@ -92,7 +75,7 @@ pub fn take_due(timers: &mut [u8], shape: Shape) -> u8
 {
     let n = count(timers, shape);
     let due = timers::take_due(&mut timers[ROWS_AT..], n);
-    timers[NUMBER_AT] = byte(due.count);
+    timers[NUMBER_AT] = due.count as u8;
     due.semaphore
 }
 
@@ -112,51 +95,17 @@ pub struct Ticks {
     pub pertock: usize,
 }
 
-// What a tick leaves: the ticks left, and whether a tock passed.
-#[derive(Clone, Copy)]
-pub struct Ticked {
-    pub left: usize,
-    pub tock: bool,
-}
-
-// One tick in numbers.
-fn one_tick(left: usize, pertock: usize) -> Ticked
-    requires { (1 ≤ left) × (left ≤ pertock) }
-    ensures { AfterTick pertock left result.left result.tock }
-{
-    if left > 1 {
-        return Ticked {
-            left: left - 1,
-            tock: false,
-        };
-    }
-    Ticked {
-        left: pertock,
-        tock: true,
-    }
-}
-
 // One tick in the record. Gives whether a tock passed.
 fn count_tick(ticks: &mut Ticks) -> bool
     requires { (1 ≤ ticks.old.left) × (ticks.old.left ≤ ticks.old.pertock) }
     ensures { AfterTick ticks.old.pertock ticks.old.left ticks.new.left result × (ticks.new.pertock ≡ ticks.old.pertock) }
 {
-    let after = one_tick(ticks.left, ticks.pertock);
-    ticks.left = after.left;
-    after.tock
-}
-
-// Makes the record and lends it for one tick.
-fn lent_tick(left: usize, pertock: usize) -> Ticked
-    requires { (1 ≤ left) × (left ≤ pertock) }
-    ensures { AfterTick pertock left result.left result.tock }
-{
-    let mut ticks = Ticks { left, pertock };
-    let tock = count_tick(&mut ticks);
-    Ticked {
-        left: ticks.left,
-        tock,
+    if ticks.left > 1 {
+        ticks.left -= 1;
+        return false;
     }
+    ticks.left = ticks.pertock;
+    true
 }
 
 // Ticks left, all of a tock where the byte says none or more.
@@ -164,13 +113,12 @@ fn left_of(ticks: usize, x: u8) -> usize
     requires { 1 ≤ ticks }
     ensures { (1 ≤ result) × (result ≤ ticks) × (result ≡ left_of ticks x) }
 {
-    if x == 0 {
-        return ticks;
+    let left = x as usize;
+    if left == 0 || left > ticks {
+        ticks
+    } else {
+        left
     }
-    if x as usize <= ticks {
-        return x as usize;
-    }
-    ticks
 }
 
 // The ticks left in the tock.
@@ -188,9 +136,13 @@ fn tick(tables: &mut [u8], shape: Shape) -> bool
     ensures does { Does shape tables.old tables.new (λ c L. set_clock L.N (cond result 0 (suc L.ticks)) L) }
 {
     let left = ticks_left(tables, shape);
-    let after = lent_tick(left, shape.ticks);
-    tables[TICKS_AT] = byte(after.left);
-    after.tock
+    let mut ticks = Ticks {
+        left,
+        pertock: shape.ticks,
+    };
+    let tock = count_tick(&mut ticks);
+    tables[TICKS_AT] = ticks.left as u8;
+    tock
 }
 
 // One tick. Gives how often a caller has to take a due timer and signal its semaphore.

@@ -12,10 +12,10 @@ use Rattle.ledger.proofs.Theorems.Checks.{Numbers, joined_fails, joined_passes}
 use Rattle.ledger.specs.Good.{GoodNumber, Good}
 use Rattle.ledger.proofs.Theorems.WithoutSeason.{value_word}
 use Rattle.tables.specs.declared.shape.Shape.{Shape}
-use Rattle.tables.specs.Layout.{OneOf}
 use Rattle.tables.specs.Shows.{Of, Shows}
+use Rattle.command.specs.declared.codes.Code.{Code}
 use Rattle.command.specs.declared.codes.Fields.{Fields}
-use Rattle.command.specs.Codes.{view_a, view_b, view_waits, view_fields}
+use Rattle.command.specs.Codes.{IsCode, view_code, view_a, view_b, view_waits, view_fields}
 use Rattle.command.specs.Table.{Owner, owner_in, WaitsIn, waits_in, message_short, low_byte}
 use Rattle.command.specs.Numbers.{here, next}
 use Rattle.command.specs.Input.{Row}
@@ -68,8 +68,8 @@ module _ {c : Config} {s : Shape} {self : ℕ} {d w : List ℕ} (f : List ℕ) w
       }
 
 -- ---- the row of the code, and the fields that it means
-pub row_is : (f : List ℕ) (code : ℕ) (u : Fields) → 5 ≤ length f → byte 0 f ≡ code → OneOf 18 code → view_fields u ≡ fields (code_at code) → Row f u
-row_is f code u long e one r = record { long = long; code = subst (OneOf 18) (sym e) one; row = r ∙ ap (λ (n : ℕ). fields (code_at n)) (sym e) }
+pub row_is : (f : List ℕ) (k : Code) (u : Fields) → 5 ≤ length f → IsCode (byte 0 f) k → view_fields u ≡ fields (view_code k) → Row f u
+row_is f k u long n r = record { long = long; code = n.0; row = r ∙ ap fields n.1 }
 
 module _ (c : Config) (self : ℕ) {f : List ℕ} {u : Fields} (r : Row f u) where
   pub task_is : {a : ℕ} → a ≡ meant_task (view_a u.a) self (byte 1 f) → a ≡ (call c self f).a

@@ -10,7 +10,7 @@ ghost use Rattle.command.specs.Configured.{Framed};
 ghost use Rattle.command.specs.State.{TellsOf};
 
 use crate::codes::FieldA;
-use crate::fields::{outside, wide};
+use crate::fields::outside;
 use tables::shape::Shape;
 
 // Whether a pair keeps task a from its start. A first that is no task is not idle.
@@ -18,14 +18,9 @@ fn holds_back(tables: &[u8], shape: Shape, a: u8, first: u8, then: u8) -> bool
     requires { Fits shape (length tables.now) }
     ensures { Tells shape tables.now (λ c L. holds_back L a (pair_of first then)) result }
 {
-    if then != a {
-        return false;
-    }
-    if outside(shape.tasks, wide(first)) {
-        return false;
-    }
-    let blocks = tables::blocks::load(tables, shape, first);
-    blocks.idle
+    then == a
+        && !outside(shape.tasks, first as usize)
+        && tables::blocks::load(tables, shape, first).idle
 }
 
 // Whether one of these pairs does.
@@ -33,31 +28,23 @@ fn some_holds_back(pairs: &[u8], tables: &[u8], shape: Shape, a: u8) -> bool
     requires { Fits shape (length tables.now) }
     ensures { Tells shape tables.now (λ c L. any (holds_back L a) (pairs_in pairs.now)) result }
 {
-    let n = pairs.len() / 2;
-    let mut k = 0;
-    while k < n {
+    for k in 0..pairs.len() / 2 {
         if holds_back(tables, shape, a, pairs[2 * k], pairs[2 * k + 1]) {
             return true;
         }
-        k += 1;
     }
     false
 }
 
 // The pairs lie behind the queues.
+#[tactic(auto, unfolding(ledger::specs::Refusals::meets26))]
 pub fn before_first(kind: FieldA, config: &[u8], tables: &[u8], shape: Shape, a: u8) -> bool
     requires { Framed config.now shape × Fits shape (length tables.now) }
     ensures { TellsOf (config_in config.now) shape tables.now (λ c L. meets26 c L (view_a kind) a) result }
 {
-    match kind {
-        FieldA::Unused => false,
-        FieldA::Task => false,
-        FieldA::ToStart => {
-            let from = 8 + shape.tasks + 2 * shape.queues;
-            some_holds_back(&config[from..], tables, shape, a)
-        }
-        FieldA::SelfOrTask => false,
-        FieldA::AnyOrTask => false,
-        FieldA::Queue => false,
+    if let FieldA::ToStart = kind {
+        let from = 8 + shape.tasks + 2 * shape.queues;
+        return some_holds_back(&config[from..], tables, shape, a);
     }
+    false
 }

@@ -1,4 +1,4 @@
-// Whether a frame is accepted, or the number that it is refused with; the lent memory is only read.
+// Whether a frame is accepted, or what it is refused for; the lent memory is only read.
 // Promises: the number is the ledger's refusal, for every ledger shown.
 // Rests on the crates that read the memory: tables, mailboxes, clock and queues, and on configuration for a queue's ring.
 #![tactic(auto)]
@@ -11,41 +11,46 @@ pub mod state;
 
 ghost use Rattle.std.specs.Prelude.{◌≡◌, ◌≤◌, length};
 ghost use Rattle.ledger.specs.Lists.{byte};
-ghost use Rattle.tables.specs.Layout.{Fits, OneOf};
+ghost use Rattle.tables.specs.Layout.{Fits};
+ghost use Rattle.refusals.specs.Numbers.{number_in};
 ghost use Rattle.clock.specs.Held.{Holds};
 ghost use Rattle.ledger.specs.Config.{config_in};
 ghost use Rattle.command.specs.Configured.{Framed};
 ghost use Rattle.command.specs.Refused.{Refuses};
 
+use codes::Code;
+use refusals::Refusal;
 use tables::shape::Shape;
 
-// All checks of a frame of this code.
+// All checks of a frame whose code has this number. A number and no `Code`, which would be handed over through memory: the compiler then
+// makes one function of all codes, and a frame takes 100 to 200 instructions more.
 fn checked(
-    code: u8,
+    number: u8,
     frame: &[u8],
     config: &[u8],
     tables: &[u8],
     timers: &[u8],
     shape: Shape,
     me: u8,
-) -> u8
-    requires { (5 ≤ length frame.now) × (byte 0 frame.now ≡ code) × OneOf 18 code × Framed config.now shape
+) -> Result<(), Refusal>
+    requires { (5 ≤ length frame.now) × (byte 0 frame.now ≡ number) × Framed config.now shape
         × Fits shape (length tables.now) × Holds shape (length timers.now) × (me ≤ shape.tasks) }
-    ensures { Refuses (config_in config.now) shape frame.now me tables.now timers.now result }
+    ensures { Refuses (config_in config.now) shape frame.now me tables.now timers.now (number_in result) }
 {
+    let Ok(code) = Code::try_from(number) else {
+        return Err(Refusal::Code);
+    };
     let u = codes::row(code);
-    let n = input::input(u, frame, config, shape, me);
-    if n != 0 {
-        return n;
+    // No `?`: it calls functions of std, whose code the theorems about runs (crates/theorems, World) cannot have.
+    if let Err(refusal) = input::input(u, frame, config, shape, me) {
+        return Err(refusal);
     }
-    let kind = u.a;
-    let a = fields::meant_task(kind, me, frame[1]);
-    let kind = u.b;
-    let b = fields::meant_semaphore(kind, shape, me, a, frame[2]);
+    let a = fields::meant_task(u.a, me, frame[1]);
+    let b = fields::meant_semaphore(u.b, shape, me, a, frame[2]);
     state::state(u, config, tables, timers, shape, a, b, frame[4])
 }
 
-// The number that a frame is refused with while task `me` runs, 0 if none.
+// What a frame is refused for while task `me` runs.
 // One call for each code, so that each is compiled with its own row of the table.
 pub fn refusal(
     frame: &[u8],
@@ -54,15 +59,14 @@ pub fn refusal(
     timers: &[u8],
     shape: Shape,
     me: u8,
-) -> u8
+) -> Result<(), Refusal>
     requires { Framed config.now shape × Fits shape (length tables.now) × Holds shape (length timers.now) × (me ≤ shape.tasks) }
-    ensures { Refuses (config_in config.now) shape frame.now me tables.now timers.now result }
+    ensures { Refuses (config_in config.now) shape frame.now me tables.now timers.now (number_in result) }
 {
     if frame.len() < 5 {
-        return 2;
+        return Err(Refusal::Length);
     }
-    let code = frame[0];
-    match code {
+    match frame[0] {
         0x01 => checked(0x01, frame, config, tables, timers, shape, me),
         0x02 => checked(0x02, frame, config, tables, timers, shape, me),
         0x03 => checked(0x03, frame, config, tables, timers, shape, me),
@@ -81,6 +85,6 @@ pub fn refusal(
         0x10 => checked(0x10, frame, config, tables, timers, shape, me),
         0x11 => checked(0x11, frame, config, tables, timers, shape, me),
         0x12 => checked(0x12, frame, config, tables, timers, shape, me),
-        _ => 4,
+        _ => Err(Refusal::Code),
     }
 }

@@ -9,7 +9,6 @@ use Rattle.configuration.proofs.block.lent.Symbol as block_lent
 use Rattle.configuration.proofs.block.ring_of.Symbol as block_ring_of
 use Rattle.configuration.proofs.block.shape_of.Symbol as block_shape_of
 use Rattle.configuration.proofs.frame.refusal_by.Symbol as frame_refusal_by
-use Rattle.configuration.proofs.frame.wide.Symbol as frame_wide
 use Rattle.configuration.proofs.fresh.start.Symbol as fresh_start
 use Rattle.configuration.proofs.limits.brake_module.Symbol as limits_brake_module
 use Rattle.configuration.proofs.limits.controller.Symbol as limits_controller
@@ -40,10 +39,6 @@ block_shape_of_linked = link.linked-configuration::block::shape_of
 pub frame_refusal_by_linked : (W : World) → Holds W "configuration" the_table → Below W → HasT (in_world W) true frame_refusal_by.code
 unfolding the_table
 frame_refusal_by_linked = link.linked-configuration::frame::refusal_by
-
-pub frame_wide_linked : (W : World) → Holds W "configuration" the_table → Below W → HasT (in_world W) true frame_wide.code
-unfolding the_table
-frame_wide_linked = link.linked-configuration::frame::wide
 
 pub fresh_start_linked : (W : World) → Holds W "configuration" the_table → Below W → HasT (in_world W) true fresh_start.code
 unfolding the_table

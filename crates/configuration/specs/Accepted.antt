@@ -1,6 +1,6 @@
 -- What an accepted frame says.
 use Rattle.std.specs.Prelude.{◌≡◌, true, ◌&&◌, ℕ, ◌+◌, ◌*◌, ◌≤◌, leb, length}
-use Rattle.std.proofs.Common.{sym, ◌∙◌, arith}
+use Rattle.std.proofs.Common.{refl, sym, ◌∙◌, arith}
 use Rattle.std.proofs.Math.Path.{ap, subst}
 use mathlib.Core.List.{List, map}
 use Rattle.rows.specs.Splice.{cut}
@@ -46,11 +46,11 @@ module _ (f : List ℕ) (a : Accepted f) where
   pub accepted_of : Of (config_in f) (shape_of (config_in f))
   accepted_of = of_shape controller controller_made (config_in f) a.rule (shapes_many f front_in)
 
-  -- as it is laid out, with the bytes of the queues behind the t states
-  module _ (t q n : ℕ) (et : t ≡ byte 0 f) (eq : q ≡ byte 2 f) (en : n ≡ bytes_in (cut f (8 + t) (8 + t + 2 * q))) where
+  -- as it is laid out, with the bytes of the queues
+  module _ (n : ℕ) (en : n ≡ bytes_in (cut f (8 + byte 0 f) (8 + byte 0 f + 2 * byte 2 f))) where
     bytes_are : n ≡ sum (map product (config_in f).shapes)
     unfolding bytes_in
-    bytes_are = en ∙ ap (λ (x : List QueueShape). sum (map product x)) (sym (shapes_in_lem f t q et eq))
+    bytes_are = en ∙ ap (λ (x : List QueueShape). sum (map product x)) (sym (shapes_in_lem f (byte 0 f) (byte 2 f) refl refl))
 
     pub accepted_room : n ≤ 4096
     accepted_room = omega (arith, bytes_are, rule_room controller controller_made (config_in f) a.rule)

@@ -1,5 +1,5 @@
 -- The shape of the tables that a configuration asks for.
-use Rattle.std.specs.Prelude.{◌≡◌, refl, true, false, List, map, ℕ, ◌+◌, ◌*◌, ◌≤◌, length}
+use Rattle.std.specs.Prelude.{◌≡◌, refl, true, false, List, map, ℕ, ◌+◌, ◌*◌, ◌≤◌, length, Option, None, Some}
 use native.Mathlib.Omega.{arith}
 use borrow.Author.Tests.{leb-true}
 use Rattle.ledger.specs.Lists.{sum, all}
@@ -9,8 +9,6 @@ use Rattle.ledger.proofs.Theorems.Checks.{and_left, and_right, at_all}
 use Rattle.tables.specs.declared.shape.Shape.{Shape}
 use Rattle.tables.specs.Layout.{records_at, Laid}
 use Rattle.tables.specs.Shows.{bytes_of, Of}
-use Rattle.configuration.specs.declared.Lent.{Lent}
-use Rattle.configuration.specs.declared.Lent.TheVariants.{Bad, Good}
 use Rattle.configuration.specs.Block.{shaped, product, good_shapes, good_queues, rule, frame_rule}
 use Rattle.configuration.specs.Limits.{Made}
 use Rattle.configuration.specs.Head.{Head, head_says}
@@ -63,9 +61,9 @@ unfoldable pub shape_of : Config → Shape
 shape_of c = laid_out c.T c.S c.Q c.R c.G c.K (sum (map product c.shapes))
 
 -- what a frame in the block is
-abbrev pub Lends : Limits → List ℕ → Lent → Type 0
-Lends m f Bad = frame_rule m f ≡ false
-Lends m f (Good s) = (frame_rule m f ≡ true) × Of (config_in f) s
+abbrev pub Lends : Limits → List ℕ → Option Shape → Type 0
+Lends m f None = frame_rule m f ≡ false
+Lends m f (Some s) = (frame_rule m f ≡ true) × Of (config_in f) s
 
 -- ---- the shape of a configuration that keeps the rule
 module _ (m : Limits) (made : Made m) (c : Config) (h : rule m c ≡ true) where

@@ -1,6 +1,6 @@
 -- The ways out of the check of the frame in a block, once its length and how much there is of each are tested.
-use Rattle.std.specs.Prelude.{◌≡◌, Bool, ◌&&◌, length}
-use Rattle.std.proofs.Common.{sym, ◌∙◌, arith}
+use Rattle.std.specs.Prelude.{◌≡◌, Bool, ◌&&◌, length, Some}
+use Rattle.std.proofs.Common.{refl, sym, ◌∙◌, arith}
 use Rattle.std.proofs.Math.Path.{ap, subst}
 use Rattle.std.proofs.Math.Bool.{true, false}
 use mathlib.Core.List.{List, map}
@@ -14,7 +14,6 @@ use Rattle.ledger.proofs.Theorems.Checks.{and_left, and_right}
 use Rattle.ledger.proofs.Theorems.Configured.{shapes_many}
 use Rattle.tables.specs.declared.shape.Shape.{Shape}
 use Rattle.tables.specs.Shows.{Of}
-use Rattle.configuration.specs.declared.Lent.TheVariants.{Good}
 use Rattle.configuration.specs.Block.{product, good_shapes, good_queues, frame_rule, counts_rule, counts_first, frame_rule_lem, front_is, shapes_in_lem}
 use Rattle.configuration.specs.Limits.{Made}
 use Rattle.configuration.specs.Room.{room_in, room_good, room_bad}
@@ -31,12 +30,12 @@ module _ (m : Limits) (f : List ℕ) (counted : counts_rule m f ≡ true) where
   pub lent_values : good_values (config_in f) ≡ false → frame_rule m f ≡ false
   lent_values e = by_rest false (rw e)
 
-  module _ (made : Made m) (values : good_values (config_in f) ≡ true) (t q : ℕ) (et : t ≡ byte 0 f) (eq : q ≡ byte 2 f) where
+  module _ (made : Made m) (values : good_values (config_in f) ≡ true) where
     abbrev part : List ℕ
-    part = cut f (8 + t) (8 + t + 2 * q)
+    part = cut f (8 + byte 0 f) (8 + byte 0 f + 2 * byte 2 f)
 
     shapes_are : (config_in f).shapes ≡ shapes_in part
-    shapes_are = shapes_in_lem f t q et eq
+    shapes_are = shapes_in_lem f (byte 0 f) (byte 2 f) refl refl
 
     pub lent_room : m.bytes < room_in part → frame_rule m f ≡ false
     unfolding good_queues
@@ -50,7 +49,7 @@ module _ (m : Limits) (f : List ℕ) (counted : counts_rule m f ≡ true) where
       many : length (config_in f).shapes ≡ (config_in f).Q
       many = shapes_many f (omega (arith, front_is f, lent_front))
 
-      pub lent_good : (s : Shape) → s ≡ laid_out (byte 0 f) (byte 1 f) (byte 2 f) (byte 3 f) (byte 4 f) (byte 5 f) n → Lends m f (Good s)
+      pub lent_good : (s : Shape) → s ≡ laid_out (byte 0 f) (byte 1 f) (byte 2 f) (byte 3 f) (byte 4 f) (byte 5 f) n → Lends m f (Some s)
       unfolding shape_of config_in
       lent_good s es =
           let r : List config.QueueShape → ℕ = λ l. sum (map product l) in

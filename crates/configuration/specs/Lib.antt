@@ -2,7 +2,6 @@ pub mod Limits
 pub mod Block
 pub mod Head
 pub mod States
-pub mod Pairs
 pub mod Room
 pub mod Refusal
 pub mod Layout

@@ -1,7 +1,7 @@
 -- The bytes of all queues, added up queue by queue; a queue that there is not counts 4,097, more than all may have.
-use Rattle.std.specs.Prelude.{◌≡◌, refl, Bool, true, false, cond, ◌&&◌, ℕ, zero, suc, ◌+◌, ◌*◌, ◌/◌, ◌%◌, ◌<◌, ◌≤◌, length, drop}
+use Rattle.std.specs.Prelude.{◌≡◌, refl, Bool, true, false, cond, ◌&&◌, ℕ, ◌+◌, ◌*◌, ◌/◌, ◌%◌, ◌<◌, ◌≤◌, length, drop}
 use Rattle.std.proofs.Math.Path.{sym, ap}
-use Rattle.std.proofs.Common.{◌∙◌, mul-le-mul, mul-zero, zero-mul, drop_of_length-le}
+use Rattle.std.proofs.Common.{◌∙◌, mul-le-mul, length-drop}
 use mathlib.Core.List.{List, [], ◌∷◌, map}
 use native.Mathlib.Omega.{arith}
 use Rattle.std.proofs.Math.ListN.{get_or}
@@ -29,33 +29,15 @@ pub record Sized (w d : ℕ) : Type 0 where
   pub shallow : d ≤ 255
 
 module _ (w d : ℕ) where
-  sized_is : Sized w d → (within 1 16 w && within 1 255 d) ≡ true
-  sized_is h = rw (le-leb 1 w h.wide, le-leb w 16 h.narrow, le-leb 1 d h.deep, le-leb d 255 h.shallow)
-
   pub sized : (within 1 16 w && within 1 255 d) ≡ true → Sized w d
   sized e =
       let a = within_numbered 16 w (and_left (within 1 16 w) (within 1 255 d) e) in
       let b = within_numbered 255 d (and_right (within 1 16 w) (within 1 255 d) e) in
       record { wide = a.from; narrow = a.upto; deep = b.from; shallow = b.upto }
 
-  -- no product of such numbers is 0, and one that is not 0 has no factor 0
+  -- no product of such numbers is 0
   some : Sized w d → w * d ≡ 0 → ⊥
   some h e = omega (arith, mul-le-mul h.wide h.deep)
-
-  small : w ≤ 16 → d ≤ 255 → (w * d ≡ 0 → ⊥) → Sized w d
-  small a b n = record { wide = go w n; narrow = a; deep = deep d n; shallow = b }
-    where
-      go : (x : ℕ) → (x * d ≡ 0 → ⊥) → 1 ≤ x
-      go zero k = absurd (k (zero-mul d))
-      go (suc x) k = omega arith
-
-      deep : (y : ℕ) → (w * y ≡ 0 → ⊥) → 1 ≤ y
-      deep zero k = absurd (k (mul-zero w))
-      deep (suc y) k = omega arith
-
-  pub bytes_some : Sized w d → bytes_or_none w d ≡ w * d
-  unfolding bytes_or_none
-  bytes_some h = rw (sized_is h)
 
   pub bytes_none : (Sized w d → ⊥) → bytes_or_none w d ≡ 4097
   unfolding bytes_or_none
@@ -68,9 +50,6 @@ module _ (w d : ℕ) where
 
   pub no_bytes : w * d ≡ 0 → 4097 ≡ bytes_or_none w d
   no_bytes e = sym (bytes_none w d (λ k. some w d k e))
-
-  pub some_bytes : w ≤ 16 → d ≤ 255 → (w * d ≡ 0 → ⊥) → (w * d ≡ bytes_or_none w d) × (w * d ≤ 4097)
-  some_bytes a b n = let k = small w d a b n in (sym (bytes_some w d k), omega (arith, mul-le-mul a b))
 
 -- ---- all queues
 
@@ -107,27 +86,28 @@ module _ (m : Limits) (made : m.bytes ≤ 4096) (l : List ℕ) where
   unfolding good_shapes bytes_in
   room_bad h = case (all shaped (shapes_in l)) (λ e. rw (e, lt-leb (bytes_in l) m.bytes (omega (arith, room_sum l e)))) (λ e. rw e)
 
--- ---- the loops' turns and their end
+none_left : (f : ℕ → ℕ → ℕ) (l : List ℕ) → length l < 2 → sum (twos f l) ≡ 0
+unfolding twos sum
+none_left f [] h = refl
+none_left f (x ∷ []) h = refl
+none_left f (x ∷ y ∷ r) h = absurd (omega arith)
 
-module _ (a k : ℕ) (l : List ℕ) where
+-- ---- the loop's turn and its end, for any number of a width and a depth
+
+module _ (f : ℕ → ℕ → ℕ) (a k : ℕ) (l : List ℕ) where
   -- x is the queue's two bytes in one number
-  module _ (h : 2 * k + 1 < length l) (x : ℕ) (width : x % 256 ≡ get_or l (2 * k) 0) (depth : x / 256 ≡ get_or l (2 * k + 1) 0) where
-    pub room_on : (y : ℕ) → y ≡ bytes_or_none (x % 256) (x / 256) → a + room_in (drop (2 * k) l) ≡ a + y + room_in (drop (2 * (k + 1)) l)
-    unfolding room_in twos sum
-    room_on y ey =
-        let e : bytes_or_none (get_or l (2 * k) 0) (get_or l (2 * k + 1) 0) ≡ y = sym (ey ∙ rw (width, depth)) in
-        ap (λ (r : List ℕ). a + room_in r) (two_next k l h) ∙ rw e (omega arith)
+  pub sum_on : 2 * k + 1 < length l → (x : ℕ) → x % 256 ≡ get_or l (2 * k) 0 → x / 256 ≡ get_or l (2 * k + 1) 0
+      → (y : ℕ) → y ≡ f (x % 256) (x / 256) → a + sum (twos f (drop (2 * k) l)) ≡ a + y + sum (twos f (drop (2 * (k + 1)) l))
+  unfolding twos sum
+  sum_on h x width depth y ey =
+      let e : f (get_or l (2 * k) 0) (get_or l (2 * k + 1) 0) ≡ y = sym (ey ∙ rw (width, depth)) in
+      ap (λ (r : List ℕ). a + sum (twos f r)) (two_next k l h) ∙ rw e (omega arith)
 
-    pub bytes_on : (y : ℕ) → y ≡ x % 256 * (x / 256) → a + bytes_in (drop (2 * k) l) ≡ a + y + bytes_in (drop (2 * (k + 1)) l)
-    unfolding bytes_in twos sum
-    bytes_on y ey =
-        let e : get_or l (2 * k) 0 * get_or l (2 * k + 1) 0 ≡ y = sym (ey ∙ rw (width, depth)) in
-        ap (λ (r : List ℕ). a + bytes_in r) (two_next k l h) ∙ rw e (omega arith)
+  pub sum_end : length l < 2 * k + 2 → a + sum (twos f (drop (2 * k) l)) ≡ a
+  sum_end h = omega (arith, none_left f (drop (2 * k) l) (simp length-drop (omega arith)))
 
-  pub room_end : length l ≤ 2 * k → a + room_in (drop (2 * k) l) ≡ a
-  unfolding room_in twos sum
-  room_end h = ap (λ (r : List ℕ). a + room_in r) (drop_of_length-le l {i = 2 * k} h) ∙ omega arith
-
-  pub bytes_end : length l ≤ 2 * k → a + bytes_in (drop (2 * k) l) ≡ a
-  unfolding bytes_in twos sum
-  bytes_end h = ap (λ (r : List ℕ). a + bytes_in r) (drop_of_length-le l {i = 2 * k} h) ∙ omega arith
+pub product_sum : (l : List ℕ) → sum (twos (λ w d. w * d) l) ≡ bytes_in l
+unfolding bytes_in twos sum
+product_sum [] = refl
+product_sum (w ∷ []) = refl
+product_sum (w ∷ d ∷ r) = ap (λ (n : ℕ). w * d + n) (product_sum r)

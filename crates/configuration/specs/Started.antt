@@ -1,9 +1,8 @@
 -- The memory after a start shows the fresh ledger.
-use Rattle.std.specs.Prelude.{◌≡◌, Bool, ℕ, ◌+◌, ◌-◌, ◌*◌, ◌≤◌, length, drop, replicate}
-use Rattle.std.proofs.Math.Path.{sym, ap, subst}
+use Rattle.std.specs.Prelude.{◌≡◌, Bool, ℕ, ◌+◌, ◌-◌, ◌*◌, ◌≤◌, length, replicate}
+use Rattle.std.proofs.Math.Path.{refl, sym, ap, subst}
 use Rattle.std.proofs.Common.{◌∙◌, arith}
 use mathlib.Core.List.{List}
-use Rattle.std.proofs.Math.ListN.{take}
 use borrow.Rule.Slice.PartMut.{put_mid}
 use Rattle.rows.specs.Splice.{cut}
 use Rattle.ledger.specs.Lists.{byte}
@@ -12,6 +11,7 @@ use Rattle.ledger.specs.Ledger.{fresh}
 use Rattle.tables.specs.declared.shape.Shape.{Shape}
 use Rattle.tables.specs.Layout.{Fits, fitting}
 use Rattle.tables.specs.Shows.{Of, ShowsAs}
+use Rattle.configuration.specs.Block.{states_in}
 use Rattle.configuration.specs.Layout.{of_one}
 use Rattle.configuration.specs.Accepted.{Accepted, accepted, accepted_length, accepted_states}
 use Rattle.configuration.specs.Fresh.{FreshTables, fresh_shows}
@@ -29,6 +29,9 @@ module _ (f : List ℕ) (zero : config_refusal f ≡ 0) where
   abbrev ok : Accepted f
   ok = accepted f zero
 
+  pub states_in_front : 8 + byte 0 f ≤ length f
+  states_in_front = omega (arith, ok.whole.front)
+
   pub frame_length : 8 ≤ length f
   frame_length = accepted_length f ok
 
@@ -37,18 +40,15 @@ module _ (f : List ℕ) (zero : config_refusal f ≡ 0) where
     unfolding config_in
     t_is = o.tasks
 
-    pub tasks_in_lem : (s.tasks ≤ 126) × (8 + s.tasks ≤ length f)
-    tasks_in_lem = (o.laid.few, omega (arith, t_is, ok.whole.front))
+    pub tasks_in_lem : (s.tasks ≤ 126) × (s.tasks ≡ byte 0 f)
+    tasks_in_lem = (o.laid.few, t_is)
 
     pub start_fits : (n : ℕ) → s.end ≤ n → Fits s n
     start_fits n h = fitting o.laid h
 
-    module _ (d : List ℕ) (b : FreshTables s (byte 5 f) (cut f 8 (8 + s.tasks)) d) where
-      states_are : cut f 8 (8 + s.tasks) ≡ (config_in f).states
-      unfolding config_in
-      states_are =
-          let e : 8 + s.tasks - 8 ≡ byte 0 f = omega (arith, t_is) in
-          ap (λ (n : ℕ). take n (drop 8 f)) e
+    module _ (d states : List ℕ) (es : states ≡ cut f 8 (8 + byte 0 f)) (b : FreshTables s (byte 5 f) states d) where
+      states_are : states ≡ (config_in f).states
+      states_are = es ∙ sym (states_in f (byte 0 f) (byte 2 f) refl refl)
 
       fresh_here : (u : Shape) → Of (config_in f) u → FreshTables u (config_in f).K (config_in f).states d
       unfolding config_in

@@ -1,6 +1,6 @@
 -- An accepted frame within the limits: it keeps the rule of the block by them, and how it is tested.
-use Rattle.std.specs.Prelude.{◌≡◌, Bool, false, ℕ, ◌+◌, ◌*◌, ◌≤◌}
-use Rattle.std.proofs.Math.Path.{sym, ap}
+use Rattle.std.specs.Prelude.{◌≡◌, false, ℕ, ◌+◌, ◌*◌, ◌≤◌}
+use Rattle.std.proofs.Math.Path.{refl, sym, ap}
 use Rattle.std.proofs.Common.{◌∙◌, arith}
 use Rattle.std.proofs.Math.Bool.{true}
 use mathlib.Core.List.{List, map}
@@ -52,9 +52,8 @@ module _ (m : Limits) (f : List ℕ) where
   unfolding is_within
   above e = sym (rw e)
 
-  -- the bytes of the queues lie behind the t states
-  pub by_bytes : few_enough m (config_in f) ≡ true → (t q : ℕ) → t ≡ byte 0 f → q ≡ byte 2 f → (n : ℕ) → n ≡ bytes_in (cut f (8 + t) (8 + t + 2 * q)) → (r : Bool) → r ≡ leb n m.bytes → r ≡ is_within m (config_in f)
+  pub by_bytes : few_enough m (config_in f) ≡ true → (n : ℕ) → n ≡ bytes_in (cut f (8 + byte 0 f) (8 + byte 0 f + 2 * byte 2 f)) → leb n m.bytes ≡ is_within m (config_in f)
   unfolding is_within bytes_in
-  by_bytes few t q et eq n en r er =
-      let e : n ≡ sum (map product (config_in f).shapes) = en ∙ ap (λ (x : List QueueShape). sum (map product x)) (sym (shapes_in_lem f t q et eq)) in
-      er ∙ ap (λ (x : ℕ). leb x m.bytes) e ∙ sym (rw few)
+  by_bytes few n en =
+      let e : n ≡ sum (map product (config_in f).shapes) = en ∙ ap (λ (x : List QueueShape). sum (map product x)) (sym (shapes_in_lem f (byte 0 f) (byte 2 f) refl refl)) in
+      ap (λ (x : ℕ). leb x m.bytes) e ∙ sym (rw few)

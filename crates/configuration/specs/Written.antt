@@ -1,5 +1,5 @@
 -- The fresh tables, written: every byte after the fill, the ticks, the copied states and the outcomes.
-use Rattle.std.specs.Prelude.{◌≡◌, refl, Bool, false, List, ℕ, ◌+◌, ◌-◌, ◌*◌, ◌/◌, ◌%◌, ◌<◌, ◌≤◌, length, get_or, set, replicate}
+use Rattle.std.specs.Prelude.{◌≡◌, Bool, false, List, ℕ, ◌+◌, ◌-◌, ◌*◌, ◌/◌, ◌%◌, ◌<◌, ◌≤◌, length, get_or, set, replicate}
 use Rattle.std.proofs.Common.{sym, ap, ◌∙◌, subst, arith, length-set, ext_get_or, get_or-set_same, get_or-set_other, below_more}
 use Rattle.std.proofs.lemmas.List.{length-replicate, get_or-replicate}
 use borrow.Rule.Slice.PartMut.{put_mid}
@@ -34,37 +34,17 @@ module _ (d ys : List ℕ) (n : ℕ) (filled : ys ≡ replicate (length (cut d 0
       ∙ byte_in d ys 0 (omega (arith, front_length)) i (omega (arith, front_length)) ∙ ap (λ (x : List ℕ). get_or x i 0) filled
       ∙ get_or-replicate (length (cut d 0 n)) i 0 0 (omega (arith, length_cut d 0 n (omega arith)))
 
--- ---- the loops' turns and ends
-
-pub fill_turn : (d : List ℕ) (i v : ℕ) → i < length d → ((k : ℕ) → k < i → get_or d k 0 ≡ v) → (k : ℕ) → k < i + 1 → get_or (set d i v) k 0 ≡ v
-fill_turn d i v h old = below_more (λ k. get_or (set d i v) k 0 ≡ v) i (λ k l. get_or-set_other d i k v 0 (λ e. omega arith) ∙ old k l) (get_or-set_same d i v 0 h)
-
-pub fill_end : (d : List ℕ) (n i v : ℕ) → length d ≡ n → n ≤ i → ((k : ℕ) → k < i → get_or d k 0 ≡ v) → d ≡ replicate n v
-fill_end d n i v e h old =
-    ext_get_or 0 d (replicate n v) (e ∙ sym (length-replicate n v)) (λ k l. let m : k < n = omega arith in old k (omega arith) ∙ sym (get_or-replicate n k v 0 m))
+-- ---- the loops: what they have done so far, and a turn
 
 -- the first n rows of six bytes tell how their tasks begin; the other bytes of the rows are as they were
 pub record Begun (states r r' : List ℕ) (n : ℕ) : Type 0 where
   pub kinds : (i : ℕ) → i < n → get_or r' (i * 6) 0 ≡ kind_of (get_or states i 0)
   pub others : (i j : ℕ) → 1 ≤ j → j < 6 → get_or r' (i * 6 + j) 0 ≡ get_or r (i * 6 + j) 0
 
-pub begun_none : (states r : List ℕ) → Begun states r r 0
-begun_none states r = record { kinds = λ i h. absurd (omega arith); others = λ i j a b. refl }
-
-pub begun_turn : (states r d : List ℕ) (n v : ℕ) → n * 6 < length d → v ≡ kind_of (get_or states n 0) → Begun states r d n → Begun states r (set d (n * 6) v) (n + 1)
-begun_turn states r d n v h e b =
-    record {
-      kinds = below_more (λ i. get_or (set d (n * 6) v) (i * 6) 0 ≡ kind_of (get_or states i 0)) n (λ i l. get_or-set_other d (n * 6) (i * 6) v 0 (λ q. omega arith) ∙ b.kinds i l) (get_or-set_same d (n * 6) v 0 h ∙ e);
-      others = λ i j x y. get_or-set_other d (n * 6) (i * 6 + j) v 0 (λ q. omega arith) ∙ b.others i j x y;
-    }
-
 -- the first n tasks are idle or not; every other bit is as it was
 pub record Marked (states d d' : List ℕ) (n : ℕ) : Type 0 where
   pub idle : (i : ℕ) → i < n → has Idle d' i ≡ idle_of (get_or states i 0)
   pub others : (k : Block) (i : ℕ) → i < 128 → (plane_of k ≡ plane_of Idle → i < n → ⊥) → has k d' i ≡ has k d i
-
-pub marked_none : (states d : List ℕ) → Marked states d d 0
-marked_none states d = record { idle = λ i h. absurd (omega arith); others = λ k i h n. refl }
 
 pub marked_turn : (states r d : List ℕ) (n : ℕ) (v : Bool) (y : ℕ) → length d ≡ 64 → n < 126 → v ≡ idle_of (get_or states n 0) → NewBit (n % 8) v (get_or d (n / 8) 0) y
     → Marked states r d n → Marked states r (set d (n / 8) y) (n + 1)

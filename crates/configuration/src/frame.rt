@@ -1,89 +1,105 @@
 // A configuration frame, accepted or refused; its tests serve the lent block too.
-ghost use Rattle.std.specs.Prelude.{◌≡◌, ◌+◌, ◌*◌, ◌/◌, ◌%◌, ◌≤◌, leb, length, get_or};
-ghost use Rattle.ledger.specs.Lists.{byte, all};
-ghost use Rattle.ledger.specs.Config.{config_in, few_enough, good_values, good_head, good_rest, config_refusal, is_within, config_refusal_by};
+ghost use Rattle.std.specs.Prelude.{◌≡◌, ℕ, ◌+◌, ◌*◌, ◌/◌, ◌%◌, ◌≤◌, leb, length, get_or};
+ghost use Rattle.rows.specs.Splice.{cut};
+ghost use Rattle.ledger.specs.Lists.{byte, all, sum};
+ghost use Rattle.ledger.specs.Config.{twos, config_in, few_enough, good_values, good_head, good_rest, config_refusal, is_within, config_refusal_by};
+ghost use Rattle.refusals.specs.Numbers.{number_in};
 ghost use Rattle.configuration.specs.Limits.{limits_of, Made};
 ghost use Rattle.configuration.specs.Room.{bytes_or_none, room_in, bytes_in};
 
 use crate::limits::{Limits, controller};
 use crate::pairs::{good_length, good_pairs};
-
-pub fn wide(x: u8) -> usize
-    ensures { result ≡ x }
-{
-    x as usize
-}
-
-fn word(high: u8, low: u8) -> u16
-    ensures { result ≡ 256 * high + low }
-{
-    256 * (high as u16) + low as u16
-}
+use refusals::Refusal;
 
 // Whether there is no more of each than the limits say.
+#[tactic(auto, unfolding(ledger::specs::Config::few_enough, ledger::specs::Config::config_in))]
 pub fn few_enough(limits: Limits, bytes: &[u8]) -> bool
     requires { 8 ≤ length bytes.now }
     ensures { result ≡ few_enough (limits_of limits) (config_in bytes.now) }
 {
-    if bytes[0] > limits.tasks {
-        return false;
-    }
-    if bytes[2] > limits.queues {
-        return false;
-    }
-    if bytes[3] > limits.timers {
-        return false;
-    }
-    bytes[4] <= limits.messages
+    bytes[0] <= limits.tasks
+        && bytes[2] <= limits.queues
+        && bytes[3] <= limits.timers
+        && bytes[4] <= limits.messages
 }
 
 // What no limit is about: at least one task, the ticks and the milliseconds per tock, the semaphore sum.
+#[tactic(auto, unfolding(ledger::specs::Config::good_values, ledger::specs::Config::config_in))]
 pub fn good_values(bytes: &[u8]) -> bool
     requires { 8 ≤ length bytes.now }
     ensures { result ≡ good_values (config_in bytes.now) }
 {
-    if bytes[0] == 0 {
-        return false;
-    }
-    if bytes[5] == 0 {
-        return false;
-    }
-    if word(bytes[6], bytes[7]) == 0 {
-        return false;
-    }
-    wide(bytes[1]) + wide(bytes[0]) + 2 * wide(bytes[2]) <= 255
+    bytes[0] != 0
+        && bytes[5] != 0
+        && (bytes[6] != 0 || bytes[7] != 0)
+        && bytes[1] as usize + bytes[0] as usize + 2 * (bytes[2] as usize) <= 255
 }
 
+#[tactic(auto, unfolding(ledger::specs::Config::good_head))]
 fn good_head(limits: Limits, bytes: &[u8]) -> bool
     requires { 8 ≤ length bytes.now }
     ensures { result ≡ good_head (limits_of limits) (config_in bytes.now) }
 {
-    if !few_enough(limits, bytes) {
-        return false;
-    }
-    good_values(bytes)
+    few_enough(limits, bytes) && good_values(bytes)
 }
 
 // Initial states 0 or 1.
+#[tactic(auto, using(crate::specs::States::all_on, crate::specs::States::all_stop, crate::specs::States::all_end))]
 fn good_states(states: &[u8]) -> bool
     ensures { result ≡ all (λ s. leb s 1) states.now }
 {
-    let mut i = 0;
-    while i < states.len() {
-        if states[i] > 1 {
+    for state in states {
+        if *state > 1 {
             return false;
         }
-        i += 1;
     }
     true
 }
 
-// Width and depth of a queue in one number, the depth high: two bytes that are loaded at once, so that the loops below go in vectors.
+// The bytes in front of the pairs.
+pub fn front(frame: &[u8]) -> usize
+    requires { 8 ≤ length frame.now }
+    ensures { result ≡ 8 + byte 0 frame.now + 2 * byte 2 frame.now }
+{
+    8 + frame[0] as usize + 2 * (frame[2] as usize)
+}
+
+// The initial states of the tasks.
+pub fn states(frame: &[u8]) -> &[u8]
+    requires { 8 + byte 0 frame.now ≤ length frame.now }
+    ensures part { result.now ≡ cut frame.now 8 (8 + byte 0 frame.now) }
+    ensures whole { length result.now ≡ byte 0 frame.now }
+{
+    let end = 8 + frame[0] as usize;
+    &frame[8..end]
+}
+
+// The queues behind them, width and depth of each.
+pub fn shapes(frame: &[u8]) -> &[u8]
+    requires { 8 + byte 0 frame.now + 2 * byte 2 frame.now ≤ length frame.now }
+    ensures part { result.now ≡ cut frame.now (8 + byte 0 frame.now) (8 + byte 0 frame.now + 2 * byte 2 frame.now) }
+    ensures whole { length result.now ≡ 2 * byte 2 frame.now }
+{
+    let at = 8 + frame[0] as usize;
+    let end = at + 2 * (frame[2] as usize);
+    &frame[at..end]
+}
+
+// The pairs behind the queues.
+fn pairs(frame: &[u8]) -> &[u8]
+    requires { 8 + byte 0 frame.now + 2 * byte 2 frame.now ≤ length frame.now }
+    ensures { result.now ≡ cut frame.now (8 + byte 0 frame.now + 2 * byte 2 frame.now) (length frame.now) }
+{
+    let at = 8 + frame[0] as usize + 2 * (frame[2] as usize);
+    &frame[at..]
+}
+
+// Width and depth of a queue in one number, the depth high: two bytes that are loaded at once, so that the loop below goes in vectors.
 fn size(shapes: &[u8], i: usize) -> u16
     requires { i + 2 ≤ length shapes.now }
     ensures { (result % 256 ≡ get_or shapes.now i 0) × (result / 256 ≡ get_or shapes.now (i + 1) 0) }
 {
-    word(shapes[i + 1], shapes[i])
+    256 * (shapes[i + 1] as u16) + shapes[i] as u16
 }
 
 // The bytes of one queue.
@@ -94,53 +110,45 @@ fn bytes_of(size: u16) -> u32
 }
 
 // The bytes of one queue, or 4,097 if there is no such queue.
+#[tactic(auto, unfolding(crate::specs::Room::bytes_or_none))]
 fn bytes_or_none(size: u16) -> u32
     ensures { (result ≡ bytes_or_none (size % 256) (size / 256)) × (result ≤ 4097) }
 {
     let bytes = bytes_of(size);
-    if bytes == 0 {
-        return 4097;
-    }
-    if size % 256 > 16 {
+    if bytes == 0 || size % 256 > 16 {
         return 4097;
     }
     bytes
 }
 
-// The bytes of all queues, above 4,096 if there is no such queue as one of them. No test ends the sum early.
-pub fn room(shapes: &[u8], queues: usize) -> u32
-    requires { (length shapes.now ≡ 2 * queues) × (queues ≤ 255) }
-    ensures { result ≡ room_in shapes.now }
+// The bytes of all queues, each by `bytes`. No test ends the sum early.
+fn total<F: Fn(u16) -> u32>(shapes: &[u8], bytes: F) -> u32
+    requires callable { F.IsAlwaysCallable bytes }
+    requires few { length shapes.now ≤ 510 }
+    requires small { (size n : ℕ) → F.post bytes size n → n ≤ 65025 }
+    ensures { (f : ℕ → ℕ → ℕ) → ((size n : ℕ) → F.post bytes size n → n ≡ f (size % 256) (size / 256)) → result ≡ sum (twos f shapes.now) }
 {
-    let mut sum: u32 = 0;
-    let mut k: usize = 0;
-    while k < queues {
-        sum += bytes_or_none(size(shapes, 2 * k));
-        k += 1;
+    let mut sum = 0;
+    for k in 0..shapes.len() / 2 {
+        sum += bytes(size(shapes, 2 * k));
     }
     sum
+}
+
+// The bytes of all queues, above 4,096 if there is no such queue as one of them.
+pub fn room(shapes: &[u8]) -> u32
+    requires { length shapes.now ≤ 510 }
+    ensures { result ≡ room_in shapes.now }
+{
+    total(shapes, |size| bytes_or_none(size))
 }
 
 // The bytes of all queues, where the rule for them has been tested.
-pub fn taken(shapes: &[u8], queues: usize) -> u32
-    requires { (length shapes.now ≡ 2 * queues) × (queues ≤ 255) }
+pub fn taken(shapes: &[u8]) -> u32
+    requires { length shapes.now ≤ 510 }
     ensures { result ≡ bytes_in shapes.now }
 {
-    let mut sum: u32 = 0;
-    let mut k: usize = 0;
-    while k < queues {
-        sum += bytes_of(size(shapes, 2 * k));
-        k += 1;
-    }
-    sum
-}
-
-// The bytes in front of the pairs.
-pub fn front(frame: &[u8]) -> usize
-    requires { 8 ≤ length frame.now }
-    ensures { result ≡ 8 + byte 0 frame.now + 2 * byte 2 frame.now }
-{
-    8 + wide(frame[0]) + 2 * wide(frame[2])
+    total(shapes, |size| bytes_of(size))
 }
 
 // The initial states, the queues and the pairs.
@@ -148,36 +156,29 @@ fn good_rest(limits: Limits, frame: &[u8]) -> bool
     requires { Made (limits_of limits) × (8 + byte 0 frame.now + 2 * byte 2 frame.now ≤ length frame.now) }
     ensures { result ≡ good_rest (limits_of limits) (config_in frame.now) }
 {
-    let queues = wide(frame[2]);
-    let at = 8 + wide(frame[0]);
-    let end = at + 2 * queues;
-    if !good_states(&frame[8..at]) {
-        return false;
-    }
-    if room(&frame[at..end], queues) > limits.bytes {
-        return false;
-    }
-    good_pairs(&frame[8..at], &frame[end..])
+    let states = states(frame);
+    good_states(states) && room(shapes(frame)) <= limits.bytes && good_pairs(states, pairs(frame))
 }
 
-// By the controller's limits; 0 accepts.
-pub fn refusal(frame: &[u8]) -> u8
-    ensures { result ≡ config_refusal frame.now }
+// By the controller's limits.
+#[tactic(auto, unfolding(ledger::specs::Config::config_refusal, ledger::specs::Config::config_in, ledger::specs::Lists::first))]
+pub fn refusal(frame: &[u8]) -> Result<(), Refusal>
+    ensures { number_in result ≡ config_refusal frame.now }
 {
     if frame.len() < 8 {
-        return 2;
+        return Err(Refusal::Length);
     }
     let limits = controller();
     if !good_head(limits, frame) {
-        return 3;
+        return Err(Refusal::Configuration);
     }
     if !good_length(front(frame), frame.len()) {
-        return 2;
+        return Err(Refusal::Length);
     }
     if !good_rest(limits, frame) {
-        return 3;
+        return Err(Refusal::Configuration);
     }
-    0
+    Ok(())
 }
 
 // Whether an accepted frame is within the limits.
@@ -185,25 +186,19 @@ fn is_within(limits: Limits, frame: &[u8]) -> bool
     requires { config_refusal frame.now ≡ 0 }
     ensures { result ≡ is_within (limits_of limits) (config_in frame.now) }
 {
-    if !few_enough(limits, frame) {
-        return false;
-    }
-    let queues = wide(frame[2]);
-    let at = 8 + wide(frame[0]);
-    let end = at + 2 * queues;
-    taken(&frame[at..end], queues) <= limits.bytes
+    few_enough(limits, frame) && taken(shapes(frame)) <= limits.bytes
 }
 
-// By an executive with its own limits: 27 after every other check.
-pub fn refusal_by(limits: Limits, frame: &[u8]) -> u8
-    ensures { result ≡ config_refusal_by (limits_of limits) frame.now }
+// By an executive with its own limits: what is above them is refused after every other check.
+pub fn refusal_by(limits: Limits, frame: &[u8]) -> Result<(), Refusal>
+    ensures { number_in result ≡ config_refusal_by (limits_of limits) frame.now }
 {
-    let number = refusal(frame);
-    if number != 0 {
-        return number;
+    // No `?`: it calls functions of std, whose code the theorems about runs (crates/theorems, World) cannot have.
+    if let Err(refusal) = refusal(frame) {
+        return Err(refusal);
     }
     if !is_within(limits, frame) {
-        return 27;
+        return Err(Refusal::AboveModule);
     }
-    0
+    Ok(())
 }

@@ -7,19 +7,19 @@ ghost use Rattle.configuration.specs.Fresh.{kind_of, idle_of, FreshTables};
 ghost use Rattle.configuration.specs.Written.{Begun, Marked};
 ghost use Rattle.configuration.specs.Started.{timers_bytes, Started};
 
+use crate::frame::states;
 use tables::planes::put_bit;
 use tables::shape::{PLANES_AT, RECORDS_AT, Shape, TICKS_AT};
 
 // The front of the block `timers`: their number and their clock.
 const TIMERS_FRONT: usize = 11;
 
+// Not by a slice's `fill`, a function of std, whose code the theorems about runs (crates/theorems, World) cannot have.
 fn fill(part: &mut [u8], v: u8)
     ensures { part.new ≡ replicate (length part.old) v }
 {
-    let mut i = 0;
-    while i < part.len() {
-        part[i] = v;
-        i += 1;
+    for byte in part.iter_mut() {
+        *byte = v;
     }
 }
 
@@ -27,10 +27,7 @@ fn fill(part: &mut [u8], v: u8)
 fn kind_of(state: u8) -> u8
     ensures { result ≡ kind_of state }
 {
-    if state == 0 {
-        return 1;
-    }
-    0
+    if state == 0 { 1 } else { 0 }
 }
 
 // The outcomes of the tasks' records.
@@ -38,21 +35,9 @@ fn begin(states: &[u8], records: &mut [u8])
     requires { length records.old ≡ 6 * length states.now }
     ensures { Begun states.now records.old records.new (length states.now) }
 {
-    let mut i = 0;
-    while i < states.len() {
-        records[i * 6] = kind_of(states[i]);
-        i += 1;
+    for (i, state) in states.iter().enumerate() {
+        records[i * 6] = kind_of(*state);
     }
-}
-
-// Whether a task begins idle.
-fn is_idle(state: u8) -> bool
-    ensures { result ≡ idle_of state }
-{
-    if state == 0 {
-        return false;
-    }
-    true
 }
 
 // The idle tasks, a bit each. Their plane is the first.
@@ -60,11 +45,8 @@ fn mark_idle(states: &[u8], planes: &mut [u8])
     requires { (length planes.old ≡ 64) × (length states.now ≤ 126) }
     ensures { Marked states.now planes.old planes.new (length states.now) }
 {
-    let mut i = 0;
-    while i < states.len() {
-        let at = i / 8;
-        planes[at] = put_bit(planes[at], i % 8, is_idle(states[i]));
-        i += 1;
+    for (i, state) in states.iter().enumerate() {
+        planes[i / 8] = put_bit(planes[i / 8], i % 8, *state != 0);
     }
 }
 
@@ -88,8 +70,7 @@ pub fn start(frame: &[u8], tables: &mut [u8], slots: &mut [u8], timers: &mut [u8
         × (16 * shape.tasks ≤ length slots.old) × (timers_bytes shape ≤ length timers.old) }
     ensures { Started frame.now tables.new slots.new timers.new }
 {
-    let at = 8 + shape.tasks;
-    fresh_tables(&frame[8..at], frame[5], tables, shape);
+    fresh_tables(states(frame), frame[5], tables, shape);
     let end = 16 * shape.tasks;
     fill(&mut slots[0..end], 0);
     fill(&mut timers[0..TIMERS_FRONT], 0);

@@ -3,17 +3,8 @@
 // Rests on the ledger's definitions, on tables for the memory, on queues for the rings and on rows for copies.
 #![tactic(auto)]
 
-use tables::shape::Shape;
-
 pub mod block;
 pub mod frame;
 pub mod fresh;
 pub mod limits;
 pub mod pairs;
-
-// What the lent configuration block is: bad if it breaks the structure rule.
-#[derive(Clone, Copy)]
-pub enum Lent {
-    Bad,
-    Good(Shape),
-}

@@ -44,5 +44,5 @@ pub fn brake_module() -> Limits
 pub fn longest(limits: Limits) -> usize
     ensures { (result ≡ config.longest (limits_of limits)) × (result ≤ 901) }
 {
-    8 + crate::frame::wide(limits.tasks) + 2 * crate::frame::wide(limits.queues) + 2 * MOST_PAIRS
+    8 + limits.tasks as usize + 2 * (limits.queues as usize) + 2 * MOST_PAIRS
 }

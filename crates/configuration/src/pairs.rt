@@ -7,50 +7,34 @@ ghost use Rattle.ledger.specs.Config.{pairs_in, good_length, good_pair};
 pub const MOST_PAIRS: usize = 64;
 
 // Whether a frame of this length has what is in front of the pairs, and behind it whole pairs, no more than there may be.
+#[tactic(auto, unfolding(ledger::specs::Config::good_length))]
 pub fn good_length(front: usize, length: usize) -> bool
     ensures { result ≡ good_length front length }
 {
-    if length < front {
-        return false;
-    }
-    let rest = length - front;
-    if rest > 2 * MOST_PAIRS {
-        return false;
-    }
-    rest % 2 == 0
+    front <= length && (length - front) % 2 == 0 && length - front <= 2 * MOST_PAIRS
 }
 
 // Both are tasks, the first the lower; and not the first configured idle, the other runnable.
+#[tactic(auto, unfolding(ledger::specs::Config::good_pair, ledger::specs::Lists::at))]
 fn good_pair(states: &[u8], first: u8, then: u8) -> bool
     ensures { result ≡ good_pair (length states.now) states.now (record { first = first; then = then }) }
 {
     let a = first as usize;
     let b = then as usize;
-    if a == 0 {
+    if a == 0 || a >= b || b > states.len() {
         return false;
     }
-    if a >= b {
-        return false;
-    }
-    if b > states.len() {
-        return false;
-    }
-    if states[a - 1] != 1 {
-        return true;
-    }
-    states[b - 1] != 0
+    states[a - 1] != 1 || states[b - 1] != 0
 }
 
+#[tactic(auto, using(ledger::proofs::Theorems::Twos::all_next, ledger::proofs::Theorems::Twos::all_not, ledger::proofs::Theorems::Twos::all_over))]
 pub fn good_pairs(states: &[u8], pairs: &[u8]) -> bool
     ensures { result ≡ all (good_pair (length states.now) states.now) (pairs_in pairs.now) }
 {
-    let n = pairs.len() / 2;
-    let mut k = 0;
-    while k < n {
+    for k in 0..pairs.len() / 2 {
         if !good_pair(states, pairs[2 * k], pairs[2 * k + 1]) {
             return false;
         }
-        k += 1;
     }
     true
 }

@@ -2,7 +2,6 @@
 pub mod Suits
 -- the effect of a frame
 pub mod Meant
-pub mod Codes
 pub mod Carried
 -- settling
 pub mod Rounds

@@ -1,7 +1,8 @@
 -- What the meant fields of an accepted frame are, by the row of its code, and the room in the tables for what it sends: the plain facts that the services require.
 use Rattle.std.specs.Prelude.{ℕ, ◌≡◌, true, List, length}
 use Rattle.ledger.specs.Config.{Config}
-use Rattle.ledger.specs.Refusals.{FieldA, no_a, a_task, to_start, self_or_task, any_or_task, a_queue, FieldB, no_b, of_self, of_task, or_none, FieldX, no_x, a_message, a_tock_value, a_switch, fields, code_at, value_x, behind_x, is_message}
+use Rattle.ledger.specs.Services.{Code, SEASON_TIMER}
+use Rattle.ledger.specs.Refusals.{FieldA, no_a, a_task, to_start, self_or_task, any_or_task, a_queue, FieldB, no_b, of_self, of_task, or_none, FieldX, no_x, a_message, a_tock_value, a_switch, fields, value_x, behind_x, is_message}
 use Rattle.ledger.specs.Good.{GoodEntry}
 use Rattle.tables.specs.declared.shape.Shape.{Shape}
 use Rattle.tables.specs.Layout.{OneOf}
@@ -28,32 +29,32 @@ InX s a_tock_value x = Unit {0}
 InX s a_switch x = Unit {0}
 
 -- X and the bytes behind it, by the row of the code
-abbrev pub value_of : (code : ℕ) → List ℕ → ℕ
-value_of k f = value_x (fields (code_at k)).follows f
+abbrev pub value_of : Code → List ℕ → ℕ
+value_of k f = value_x (fields k).follows f
 
-abbrev pub rest_of : (code : ℕ) → List ℕ → List ℕ
-rest_of k f = behind_x (fields (code_at k)).follows f
+abbrev pub rest_of : Code → List ℕ → List ℕ
+rest_of k f = behind_x (fields k).follows f
 
-abbrev pub MeansA : Shape → (code a : ℕ) → Type 0
-MeansA s k a = InA s (fields (code_at k)).A a
+abbrev pub MeansA : Shape → Code → (a : ℕ) → Type 0
+MeansA s k a = InA s (fields k).A a
 
-abbrev pub MeansB : Shape → (code b : ℕ) → Type 0
-MeansB s k b = InB s (fields (code_at k)).B b
+abbrev pub MeansB : Shape → Code → (b : ℕ) → Type 0
+MeansB s k b = InB s (fields k).B b
 
-abbrev pub MeansX : Shape → (code x : ℕ) → Type 0
-MeansX s k x = InX s (fields (code_at k)).X x
+abbrev pub MeansX : Shape → Code → (x : ℕ) → Type 0
+MeansX s k x = InX s (fields k).X x
 
-abbrev pub MeansEntry : Config → (code q : ℕ) → List ℕ → Type 0
-MeansEntry c k q e = GoodEntry c (fields (code_at k)).follows q e
+abbrev pub MeansEntry : Config → Code → (q : ℕ) → List ℕ → Type 0
+MeansEntry c k q e = GoodEntry c (fields k).follows q e
 
 -- a service is asked for by a task
-abbrev pub Asks : Shape → (code self : ℕ) → Type 0
-Asks s k self = (fields (code_at k)).service ≡ true → OneOf s.tasks self
+abbrev pub Asks : Shape → Code → (self : ℕ) → Type 0
+Asks s k self = (fields k).service ≡ true → OneOf s.tasks self
 
 -- a message that is sent has room in the tables d
-abbrev pub MessageRoom : Shape → (code : ℕ) → (d : List ℕ) → Type 0
-MessageRoom s k d = is_message (fields (code_at k)).X ≡ true → Roomy s d
+abbrev pub MessageRoom : Shape → Code → (d : List ℕ) → Type 0
+MessageRoom s k d = is_message (fields k).X ≡ true → Roomy s d
 
 -- a season timer's frame has seven bytes
-abbrev pub Seven : (code : ℕ) → List ℕ → Type 0
-Seven k f = k ≡ 18 → length f ≡ 7
+abbrev pub Seven : Code → List ℕ → Type 0
+Seven k f = k ≡ SEASON_TIMER → length f ≡ 7

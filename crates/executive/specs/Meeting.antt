@@ -6,7 +6,7 @@ use Rattle.rows.specs.Rows.{row_at}
 use Rattle.tables.specs.Layout.{OneOf, regions}
 use Rattle.tables.specs.declared.shape.Shape.{Shape}
 use Rattle.tables.specs.declared.tasks.Request.{Request}
-use Rattle.tables.specs.declared.tasks.Request.TheVariants.{Dequeue, Enqueue}
+use Rattle.tables.specs.declared.tasks.Request.TheVariants.{None, Receive, Dequeue, Enqueue}
 use Rattle.tables.specs.Decode.{view_request, view_task, record_of}
 use Rattle.tables.specs.Planes.{blocks_at}
 use Rattle.tables.specs.Encoded.{AsksFor}
@@ -47,6 +47,14 @@ request_is c s L d z w h t x v one p q =
     ap (λ (y : Request). view_request c y (waiting_in s d t)) (sym q ∙ p)
     ∙ ap (λ (Q : ℕ). view_request c (record_of Q (blocks_at k.blocks (t - 1)) (row_at 6 (t - 1) k.records)).request (waiting_in s d t)) h.of.queues
     ∙ sym (ap (λ (y : ledger.Task). y.request) (shown_task c s L d z w h t one))
+
+-- a request is open
+pub some_open : (c : Config) (e : List ℕ) (x : Request) → (x ≡ None → ⊥) → true ≡ is_open (view_request c x e)
+unfolding view_request is_open
+some_open c e None n = absurd (n refl)
+some_open c e (Receive a) n = refl
+some_open c e (Dequeue q) n = refl
+some_open c e (Enqueue q) n = refl
 
 pub reissue_is : (c : Config) (L : Ledger) (t : ℕ) (r : ledger.Request) → t ≡ running L → r ≡ open_request L → issue_again c t r (set_request t none L) ≡ reissue c L
 unfolding reissue

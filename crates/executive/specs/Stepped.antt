@@ -77,7 +77,7 @@ module _ (c : Config) (s : Shape) (f d z w a : List ℕ) (self n : ℕ) (runs : 
       subst (λ (i : ℕ). Accepted c L (call c i f)) (sym (runs c L z w h)) (accepted c L f (tasks_length c s L d z w h) (sym (number_is L h) ∙ e))
 
   -- a message that is sent has room, since it lies in no mailbox of some ledger that the memory shows
-  pub room_found : n ≡ 0 → Of c s → Fits s (length d) → 16 * s.tasks ≤ length z → Holds s (length w) → sound_in s d ≡ true → MessageRoom s (byte 0 f) d
+  pub room_found : n ≡ 0 → Of c s → Fits s (length d) → 16 * s.tasks ≤ length z → Holds s (length w) → sound_in s d ≡ true → MessageRoom s (code_at (byte 0 f)) d
   unfolding call
   room_found e o (fitting l r) long held sound m =
       let L : Ledger = some c s d z w in

@@ -1,29 +1,45 @@
 // The effect of an accepted frame.
-ghost use Rattle.std.specs.Prelude.{◌≡◌, true, ◌≤◌, length, get_or};
+ghost use Rattle.std.specs.Prelude.{◌≡◌, true, cond, ◌≤◌, length, get_or};
 ghost use Rattle.ledger.specs.Lists.{byte};
 ghost use Rattle.ledger.specs.Config.{config_in};
+ghost use Rattle.ledger.specs.Ledger as ledger;
 ghost use Rattle.ledger.specs.Ledger.{plain, set_outcome};
-ghost use Rattle.ledger.specs.Refusals.{fields, code_at};
+ghost use Rattle.ledger.specs.Services.{issue};
 ghost use Rattle.tables.specs.Layout.{Fits, OneOf, count_at};
 ghost use Rattle.tables.specs.Shows.{Does};
+ghost use Rattle.command.specs.Codes.{view_code, IsCode};
 ghost use Rattle.executive.specs.Suits.{Suits};
 ghost use Rattle.executive.specs.Carried.{Meant, Effects, Passed, Carries};
 
+use command::codes::Code;
+use tables::semaphores::Semaphore;
 use tables::shape::Shape;
 use tables::tasks::Outcome;
 
 // An accepted service first sets the caller's outcome to plain. The number of messages stays.
-fn prepare(tables: &mut [u8], shape: Shape, me: u8)
-    requires { Fits shape (length tables.old) × OneOf shape.tasks me }
-    ensures does { Does shape tables.old tables.new (λ c L. set_outcome me plain L) }
+#[tactic(auto, unfolding(tables::specs::Decode::view_outcome))]
+fn prepare(service: bool, tables: &mut [u8], shape: Shape, me: u8)
+    requires { Fits shape (length tables.old) × (service ≡ true → OneOf shape.tasks me) }
+    ensures does { Does shape tables.old tables.new (λ c L. cond service (set_outcome me plain L) L) }
     ensures count { get_or tables.new count_at 0 ≡ get_or tables.old count_at 0 }
 {
-    tables::tasks::store_outcome(tables, shape, me, Outcome::Plain);
+    if service {
+        tables::tasks::store_outcome(tables, shape, me, Outcome::Plain);
+    }
 }
 
-// The effect of a service, by the family of its code; `a` and `b` are the meant task or queue and semaphore. No code is 0.
-fn by_family(
-    code: u8,
+// Stands apart, since what it calls is not inlined: the compiler would else copy the shape for that call in every frame.
+fn receive(tables: &mut [u8], shape: Shape, me: u8, a: u8)
+    requires { Fits shape (length tables.old) × OneOf shape.tasks me }
+    ensures { Does shape tables.old tables.new (λ c L. issue c me (ledger.receive a) L) }
+{
+    services::message::receive(tables, shape, me, a);
+}
+
+// The effect of a code; `a` and `b` are the meant task or queue and semaphore.
+#[tactic(auto, unfolding(ledger::specs::Services::effect, ledger::specs::Refusals::fields, ledger::specs::Refusals::value_x, ledger::specs::Refusals::behind_x, ledger::specs::Refusals::is_message, tables::specs::Decode::view_semaphore))]
+fn serve(
+    code: Code,
     me: u8,
     a: u8,
     b: u8,
@@ -34,23 +50,47 @@ fn by_family(
     timers: &mut [u8],
     shape: Shape,
 )
-    requires { (5 ≤ length frame.now) × OneOf 18 code × ((fields (code_at code)).service ≡ true)
-        × Suits config.now shape (length tables.old) (length slots.old) (length timers.old) × Meant (config_in config.now) shape code me a b frame.now tables.old }
-    ensures { Effects (config_in config.now) shape code me a b frame.now
+    requires { (5 ≤ length frame.now) × Suits config.now shape (length tables.old) (length slots.old) (length timers.old)
+        × Meant (config_in config.now) shape (view_code code) me a b frame.now tables.old }
+    ensures { Effects (config_in config.now) shape (view_code code) me a b frame.now
         tables.old slots.old timers.old tables.new slots.new timers.new }
 {
     match code {
-        0x00..=0x03 => crate::semaphore::serve(tables, shape, code, me, b),
-        0x04..=0x06 => crate::message::serve(tables, shape, code, me, a, b, frame[3], frame[4]),
-        0x07..=0x08 => crate::queue::serve(tables, slots, config, shape, code, me, a, frame),
-        0x09..=0x0C => crate::task::serve(tables, timers, shape, code, a),
-        _ => crate::timer::serve(tables, timers, shape, code, a, b, frame),
+        Code::Wait => services::semaphore::wait(tables, shape, me, b),
+        Code::Signal => services::semaphore::signal_by(tables, shape, me, b),
+        Code::Pend => tables::semaphores::store(tables, shape, b, Semaphore::Pending),
+        Code::Send => services::message::send(tables, shape, me, a, b, frame[4]),
+        Code::Sendw => services::message::sendw(tables, shape, me, a, b, frame[4]),
+        Code::Receive => receive(tables, shape, me, a),
+        Code::Dequeue => crate::queue::dequeue(tables, slots, config, shape, me, a),
+        Code::Enqueue => crate::queue::enqueue(tables, config, shape, me, a, frame),
+        Code::Resume => services::task::set_suspended(tables, shape, a, false),
+        Code::Suspend => services::task::set_suspended(tables, shape, a, true),
+        Code::Terminate => services::task::terminate(tables, timers, shape, a),
+        Code::Execute => services::task::execute(tables, shape, a),
+        Code::Delay => {
+            let v = tocks::tock_value_at(frame[3], frame[4]);
+            crate::timer::delay(tables, timers, shape, a, b, v);
+        }
+        Code::Timer => {
+            let v = tocks::tock_value_at(frame[3], frame[4]);
+            crate::timer::start(timers, shape, a, b, v);
+        }
+        Code::Purge => clock::purge(timers, shape, a, crate::timer::named(frame[4], b)),
+        Code::Tick => services::timer::tick(tables, timers, shape),
+        Code::InterruptExit => {
+            services::semaphore::signal(tables, shape, b);
+        }
+        Code::SeasonTimer => {
+            let v = tocks::long_tock_value_at(frame[3], frame[4], frame[5], frame[6]);
+            crate::timer::start(timers, shape, a, b, v);
+        }
     }
 }
 
 // The effect of a frame of this code, with the fields that it means.
 fn carried(
-    code: u8,
+    code: Code,
     me: u8,
     frame: &[u8],
     config: &[u8],
@@ -59,22 +99,16 @@ fn carried(
     timers: &mut [u8],
     shape: Shape,
 )
-    requires { (5 ≤ length frame.now) × (byte 0 frame.now ≡ code) × OneOf 18 code
+    requires { (5 ≤ length frame.now) × IsCode (byte 0 frame.now) code
         × Suits config.now shape (length tables.old) (length slots.old) (length timers.old) × Passed (config_in config.now) shape me frame.now tables.old }
     ensures { Carries (config_in config.now) shape me frame.now
         tables.old slots.old timers.old tables.new slots.new timers.new }
 {
     let u = command::codes::row(code);
-    let kind = u.a;
-    let a = command::fields::meant_task(kind, me, frame[1]);
-    let kind = u.b;
-    let b = command::fields::meant_semaphore(kind, shape, me, a, frame[2]);
-    if u.service {
-        prepare(tables, shape, me);
-        by_family(code, me, a, b, frame, config, tables, slots, timers, shape);
-        return;
-    }
-    crate::outside::serve(tables, timers, shape, code, b);
+    let a = command::fields::meant_task(u.a, me, frame[1]);
+    let b = command::fields::meant_semaphore(u.b, shape, me, a, frame[2]);
+    prepare(u.service, tables, shape, me);
+    serve(code, me, a, b, frame, config, tables, slots, timers, shape);
 }
 
 // The effect of an accepted frame, while task `me` runs.
@@ -91,5 +125,8 @@ pub fn carry_out(
     ensures { Carries (config_in config.now) shape me frame.now
         tables.old slots.old timers.old tables.new slots.new timers.new }
 {
-    carried(frame[0], me, frame, config, tables, slots, timers, shape);
+    // An accepted frame has a code.
+    if let Ok(code) = Code::try_from(frame[0]) {
+        carried(code, me, frame, config, tables, slots, timers, shape);
+    }
 }

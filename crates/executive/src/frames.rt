@@ -3,11 +3,13 @@ ghost use Rattle.std.specs.Prelude.{◌≡◌, true, ◌≤◌, length};
 ghost use Rattle.answer.specs.Written.{answer_bytes};
 ghost use Rattle.ledger.specs.Config.{config_in};
 ghost use Rattle.mailboxes.specs.Room.{sound_in};
+ghost use Rattle.refusals.specs.Numbers.{number_in};
 ghost use Rattle.executive.specs.Suits.{Suits};
 ghost use Rattle.executive.specs.Carried.{Passed};
 ghost use Rattle.executive.specs.Stepped.{Acts, Steps};
 
 use crate::settling::Settled;
+use refusals::Refusal;
 use tables::shape::Shape;
 
 // The effect of an accepted frame, and settling.
@@ -28,7 +30,6 @@ fn act(
     crate::settling::settle(tables, slots, config, shape)
 }
 
-// Gives the frame's number, 0 where it was accepted.
 pub fn step(
     frame: &[u8],
     config: &[u8],
@@ -37,21 +38,20 @@ pub fn step(
     timers: &mut [u8],
     shape: Shape,
     answer: &mut [u8],
-) -> u8
+) -> Result<(), Refusal>
     requires { Suits config.now shape (length tables.old) (length slots.old) (length timers.old) × (answer_bytes ≤ length answer.old) × (sound_in shape tables.old ≡ true) }
     ensures { Steps (config_in config.now) shape frame.now
         tables.old slots.old timers.old answer.old
-        tables.new slots.new timers.new answer.new result }
+        tables.new slots.new timers.new answer.new (number_in result) }
 {
     let me = tables::tasks::running(tables, shape);
-    let number = command::refusal(frame, config, tables, timers, shape, me);
-    if number != 0 {
-        answer::write(tables, slots, shape, me, number, 0, answer);
-        return number;
+    if let Err(refusal) = command::refusal(frame, config, tables, timers, shape, me) {
+        answer::write(tables, slots, shape, me, u8::from(refusal), 0, answer);
+        return Err(refusal);
     }
     let settled = act(me, frame, config, tables, slots, timers, shape);
     let running = settled.running;
     let reissues = settled.reissues as u8;
     answer::write(tables, slots, shape, running, 0, reissues, answer);
-    0
+    Ok(())
 }

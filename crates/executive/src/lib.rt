@@ -5,10 +5,6 @@
 
 pub mod carrying;
 pub mod frames;
-pub mod message;
-pub mod outside;
 pub mod queue;
-pub mod semaphore;
 pub mod settling;
-pub mod task;
 pub mod timer;

@@ -1,14 +1,11 @@
 // Dequeue and enqueue.
-ghost use Rattle.std.specs.Prelude.{◌≡◌, ℕ, ◌*◌, ◌≤◌, length, drop};
-ghost use Rattle.ledger.specs.Services.{effect};
-ghost use Rattle.ledger.specs.Refusals.{code_at};
+ghost use Rattle.std.specs.Prelude.{◌≡◌, ◌*◌, ◌≤◌, length, drop};
 ghost use Rattle.tables.specs.Layout.{Fits, OneOf};
 ghost use Rattle.ledger.specs.Ledger as ledger;
 ghost use Rattle.ledger.specs.Services as ledger_services;
 ghost use Rattle.queues.specs.Rings.{ring_of, RingFits};
 ghost use Rattle.ledger.specs.Config.{config_in};
 ghost use Rattle.command.specs.Configured.{Framed};
-ghost use Rattle.executive.specs.Meant.{MeansA, MeansEntry, Asks};
 ghost use Rattle.executive.specs.Suits.{DoesOf, DoesWithSlotsOf};
 
 use queues::Ring;
@@ -22,7 +19,7 @@ pub fn ring(config: &[u8], shape: Shape, q: u8) -> Ring
     configuration::block::ring_of(config, shape, q as usize)
 }
 
-fn dequeue(tables: &mut [u8], slots: &mut [u8], config: &[u8], shape: Shape, me: u8, q: u8)
+pub fn dequeue(tables: &mut [u8], slots: &mut [u8], config: &[u8], shape: Shape, me: u8, q: u8)
     requires { Fits shape (length tables.old) × Framed config.now shape × (16 * shape.tasks ≤ length slots.old)
         × OneOf shape.tasks me × OneOf shape.queues q }
     ensures { DoesWithSlotsOf (config_in config.now) shape tables.old slots.old
@@ -33,7 +30,7 @@ fn dequeue(tables: &mut [u8], slots: &mut [u8], config: &[u8], shape: Shape, me:
 }
 
 // The entry is the part of the frame that starts at its sixth byte.
-fn enqueue(tables: &mut [u8], config: &[u8], shape: Shape, me: u8, q: u8, frame: &[u8])
+pub fn enqueue(tables: &mut [u8], config: &[u8], shape: Shape, me: u8, q: u8, frame: &[u8])
     requires { Fits shape (length tables.old) × Framed config.now shape × OneOf shape.tasks me × OneOf shape.queues q
         × (length (drop 5 frame.now) ≡ (ledger_services.shape (config_in config.now) q).width) }
     ensures { DoesOf (config_in config.now) shape tables.old tables.new
@@ -41,27 +38,4 @@ fn enqueue(tables: &mut [u8], config: &[u8], shape: Shape, me: u8, q: u8, frame:
 {
     let r = ring(config, shape, q);
     services::queue::enqueue(tables, shape, r, me, q, &frame[5..]);
-}
-
-// The codes $07 and $08; `q` is the queue.
-pub fn serve(
-    tables: &mut [u8],
-    slots: &mut [u8],
-    config: &[u8],
-    shape: Shape,
-    code: u8,
-    me: u8,
-    q: u8,
-    frame: &[u8],
-)
-    requires { Fits shape (length tables.old) × Framed config.now shape × (16 * shape.tasks ≤ length slots.old) × (7 ≤ code)
-        × (code ≤ 8) × Asks shape code me × MeansA shape code q × MeansEntry (config_in config.now) code q (drop 5 frame.now) }
-    ensures { (b x : ℕ) → DoesWithSlotsOf (config_in config.now) shape
-        tables.old slots.old tables.new slots.new
-        (λ c L. effect (code_at code) c me q b x (drop 5 frame.now) L) }
-{
-    match code {
-        0x07 => dequeue(tables, slots, config, shape, me, q),
-        _ => enqueue(tables, config, shape, me, q, frame),
-    }
 }

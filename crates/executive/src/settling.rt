@@ -78,14 +78,7 @@ fn is_open(tables: &[u8], shape: Shape, t: u8) -> bool
     if t == 0 {
         return false;
     }
-    let task = tables::tasks::load(tables, shape, t);
-    let request = task.request;
-    match request {
-        Request::None => false,
-        Request::Receive(_) => true,
-        Request::Dequeue(_) => true,
-        Request::Enqueue(_) => true,
-    }
+    !matches!(tables::tasks::load(tables, shape, t).request, Request::None)
 }
 
 // The open request of the running task, closed and issued again.
@@ -93,9 +86,7 @@ fn reissue(tables: &mut [u8], slots: &mut [u8], config: &[u8], shape: Shape, run
     requires { Fits shape (length tables.old) × Framed config.now shape × (16 * shape.tasks ≤ length slots.old) × OneOf shape.tasks running }
     ensures { Reissues (config_in config.now) shape tables.old slots.old tables.new slots.new running }
 {
-    let task = tables::tasks::load(tables, shape, running);
-    let request = task.request;
-    match request {
+    match tables::tasks::load(tables, shape, running).request {
         Request::None => {}
         Request::Receive(from) => receive_again(tables, shape, running, from),
         Request::Dequeue(q) => dequeue_again(tables, slots, config, shape, running, q),
@@ -116,22 +107,20 @@ fn settle_open(
     ensures { Ends (config_in config.now) shape tables.old slots.old tables.new slots.new result }
 {
     let limit = 2 * shape.tasks;
-    let mut n: usize = 0;
     let mut running = first;
-    while n < limit {
+    for n in 0..limit {
         reissue(tables, slots, config, shape, running);
-        n += 1;
         running = tables::tasks::running(tables, shape);
         if !is_open(tables, shape, running) {
             return Settled {
-                running: running,
-                reissues: n,
+                running,
+                reissues: n + 1,
             };
         }
     }
     Settled {
-        running: running,
-        reissues: n,
+        running,
+        reissues: limit,
     }
 }
 
@@ -142,7 +131,7 @@ pub fn settle(tables: &mut [u8], slots: &mut [u8], config: &[u8], shape: Shape) 
     let running = tables::tasks::running(tables, shape);
     if !is_open(tables, shape, running) {
         return Settled {
-            running: running,
+            running,
             reissues: 0,
         };
     }

@@ -1,21 +1,18 @@
 // Delay, timer, purge and season timer.
-ghost use Rattle.std.specs.Prelude.{◌≡◌, List, ℕ, ◌≤◌, length};
-ghost use Rattle.ledger.specs.Services.{effect};
-ghost use Rattle.ledger.specs.Refusals.{fields, code_at};
-ghost use Rattle.tables.specs.Layout.{Fits};
+ghost use Rattle.std.specs.Prelude.{◌≡◌, ◌<◌, length, cond, eqb, Option, Some, None};
+ghost use Rattle.ledger.specs.Services.{wait_for, start_timer};
+ghost use Rattle.tables.specs.Layout.{Fits, OneOf};
 ghost use Rattle.ledger.specs.Time as time;
-ghost use Rattle.ledger.specs.Good.{GoodX};
 ghost use Rattle.tocks.specs.Views.{tock_view};
 ghost use Rattle.tables.specs.Shows.{DoesWithTimersIf};
 ghost use Rattle.clock.specs.Held.{Holds};
-ghost use Rattle.executive.specs.Meant.{MeansA, MeansB, Seven, value_of};
-ghost use Rattle.ledger.specs.Refusals.{asked_by};
-ghost use Rattle.executive.specs.Codes.{TimerCode};
+ghost use Rattle.clock.specs.Does.{DoesTimersIf};
 
 use tables::shape::Shape;
 use tocks::TockValue;
 
 // The tocks until it is due for the first time.
+#[tactic(auto, unfolding(ledger::specs::Time::tocks))]
 fn first_tocks(v: TockValue) -> u32
     ensures { result ≡ time.tocks (tock_view v) }
 {
@@ -27,6 +24,7 @@ fn first_tocks(v: TockValue) -> u32
 }
 
 // The period, or 0.
+#[tactic(auto, unfolding(ledger::specs::Time::period))]
 fn period_of(v: TockValue) -> u32
     ensures { result ≡ time.period (tock_view v) }
 {
@@ -37,39 +35,26 @@ fn period_of(v: TockValue) -> u32
     }
 }
 
-// The tock value that X is: of four bytes in $12, of two in the others.
-fn tock_value_of(code: u8, frame: &[u8]) -> TockValue
-    requires { (5 ≤ length frame.now) × Seven code frame.now }
-    ensures { tock_view result ≡ asked_by code frame.now }
+// A timer of task a on semaphore b is started, and the semaphore waits for the task.
+pub fn delay(tables: &mut [u8], timers: &mut [u8], shape: Shape, a: u8, b: u8, v: TockValue)
+    requires { Fits shape (length tables.old) × Holds shape (length timers.old) × OneOf shape.tasks a × OneOf shape.semaphores b }
+    ensures { DoesWithTimersIf shape tables.old timers.old tables.new timers.new
+        (λ c L. length L.timers < c.R) (λ c L. wait_for a b (start_timer a b (tock_view v) L)) }
 {
-    if code == 0x12 {
-        return tocks::long_tock_value_at(frame[3], frame[4], frame[5], frame[6]);
-    }
-    tocks::tock_value_at(frame[3], frame[4])
+    services::timer::delay(tables, timers, shape, a, b, first_tocks(v), period_of(v));
 }
 
-// The codes $0D to $0F and $12; `a` and `b` are the meant task and semaphore.
-pub fn serve(
-    tables: &mut [u8],
-    timers: &mut [u8],
-    shape: Shape,
-    code: u8,
-    a: u8,
-    b: u8,
-    frame: &[u8],
-)
-    requires { Fits shape (length tables.old) × Holds shape (length timers.old) × TimerCode code × MeansA shape code a × MeansB shape code b
-        × (5 ≤ length frame.now) × Seven code frame.now }
-    ensures { (self : ℕ) (e : List ℕ) → DoesWithTimersIf shape tables.old timers.old
-        tables.new timers.new (λ c L. GoodX c L (fields (code_at code)).X a b (value_of code frame.now))
-        (λ c L. effect (code_at code) c self a b (value_of code frame.now) e L) }
+// A timer of task a on semaphore b is started.
+pub fn start(timers: &mut [u8], shape: Shape, a: u8, b: u8, v: TockValue)
+    requires { Holds shape (length timers.old) }
+    ensures { DoesTimersIf shape timers.old timers.new (λ c L. length L.timers < c.R) (λ c L. start_timer a b (tock_view v) L) }
 {
-    let v = tock_value_of(code, frame);
-    let first = first_tocks(v);
-    let again = period_of(v);
-    match code {
-        0x0D => services::timer::delay(tables, timers, shape, a, b, first, again),
-        0x0F => clock::purge(timers, shape, a, frame[4] == 0, b),
-        _ => clock::start(timers, shape, a, b, first, again),
-    }
+    clock::start(timers, shape, a, b, first_tocks(v), period_of(v));
+}
+
+// The semaphore that a purge names, by the low byte of X: none where that is 0.
+pub fn named(x: u8, b: u8) -> Option<u8>
+    ensures { result ≡ cond (eqb x 0) None (Some b) }
+{
+    if x == 0 { None } else { Some(b) }
 }

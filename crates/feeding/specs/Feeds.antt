@@ -1,5 +1,5 @@
 -- What a whole line, and what a part of the input, lead to.
-use Rattle.std.specs.Prelude.{ℕ, ◌+◌, ◌-◌, ◌*◌, ◌≤◌, ◌≡◌, refl, true, false, List, [], ◌∷◌, ◌++◌, length, get_or, drop}
+use Rattle.std.specs.Prelude.{ℕ, ◌+◌, ◌-◌, ◌*◌, ◌≤◌, ◌≡◌, refl, List, [], ◌∷◌, ◌++◌, length, get_or, drop}
 use Rattle.std.proofs.Common.{sym, ◌∙◌, subst, append_assoc, append-nil, arith, length-take, length-drop, take-add, take_all, drop-drop}
 use Rattle.std.proofs.Math.Path.{ap}
 use Rattle.std.proofs.Math.ListN.{take}
@@ -11,10 +11,9 @@ use Rattle.feeding.specs.declared.Stage.{Stage}
 use Rattle.feeding.specs.declared.Stage.TheVariants.{First, Running, Ended}
 use Rattle.feeding.specs.declared.Answered.{Answered}
 use Rattle.feeding.specs.declared.Reached.{Reached}
-use Rattle.feeding.specs.declared.gathering.Gathered.{Gathered}
 use Rattle.feeding.specs.Input.{Stands, first, runs, over, print, printing, configures, steps, Said, line_fed, Fed, behind, fed, last}
 use Rattle.feeding.specs.Whole.{parts}
-use Rattle.feeding.specs.Line.{most, Keeps, keeps_none, Gathers, line_cut, cut_none}
+use Rattle.feeding.specs.Line.{most, Keeps, keeps_none, Gathering, GathersLine, line_cut, cut_none}
 use Rattle.feeding.specs.Replies.{At, stage_number, Answers, FirstReply, GoesOn}
 
 -- nothing is fed yet
@@ -96,27 +95,27 @@ module _ (r r' : Reached) (x x' : Lent) (bytes : List ℕ) where
   fed_as s l f e a k t =
       subst (λ (y : Fed). At y.stand r'.stage x'.memory × Keeps y.line r'.held x'.line × (take r'.printed x'.out ≡ take r.printed x.out ++ y.text)) (sym e) (a, k, t)
 
-module _ (input : List ℕ) (r : Reached) (line line' : List ℕ) (g : Gathered) (h : Gathers input r.next line r.held line' g) (m : Memory) (out : List ℕ) where
-  pub turns_unended : g.ended ≡ false
-      → Feeds (cut input r.next g.next) r (lent line m out) (record { next = g.next; stage = r.stage; held = g.held; printed = r.printed }) (lent line' m out)
-  turns_unended e = record {
+module _ (input : List ℕ) (r : Reached) (line line' : List ℕ) (m : Memory) (out : List ℕ) where
+  pub turns_part : (held : ℕ) → Gathering input r.next line r.held (length input) held line'
+      → Feeds (cut input r.next (length input)) r (lent line m out) (record { next = length input; stage = r.stage; held = held; printed = r.printed }) (lent line' m out)
+  turns_part held h = record {
     tells = λ s l a k.
-        let u = h.unended e l k in
-        let bytes = cut input r.next g.next in
-        fed_as r (record { next = g.next; stage = r.stage; held = g.held; printed = r.printed }) (lent line m out) (lent line' m out) bytes s l
-        (record { stand = s; line = l ++ bytes; text = [] }) (u.2 s) a u.1 (sym (append-nil (take r.printed out)));
+        let u = h.keeps l k in
+        let bytes = cut input r.next (length input) in
+        fed_as r (record { next = length input; stage = r.stage; held = held; printed = r.printed }) (lent line m out) (lent line' m out) bytes s l
+        (record { stand = s; line = l ++ bytes; text = [] }) (u.1 s) a u.0 (sym (append-nil (take r.printed out)));
   }
 
-  pub turns_ended : g.ended ≡ true → (m' : Memory) (out' : List ℕ) (a : Answered) → Says (take g.held line') r.stage m out r.printed m' out' a
-      → Feeds (cut input r.next g.next) r (lent line m out) (record { next = g.next; stage = a.stage; held = 0; printed = a.printed }) (lent line' m' out')
-  turns_ended e m' out' a says = record {
+  pub turns_line : (next held : ℕ) → GathersLine input r.next line r.held line' next held → (m' : Memory) (out' : List ℕ) (a : Answered) → Says (take held line') r.stage m out r.printed m' out' a
+      → Feeds (cut input r.next next) r (lent line m out) (record { next = next; stage = a.stage; held = 0; printed = a.printed }) (lent line' m' out')
+  turns_line next held h m' out' a says = record {
     tells = λ s l at k.
-        let u = h.ended e l k in
-        let K = l ++ cut input r.next (g.next - 1) in
-        let q : line_fed s (take g.held line') ≡ line_fed s K = ap (line_fed s) u.0.bytes ∙ line_cut s K in
+        let u = h.keeps l k in
+        let K = l ++ cut input r.next (next - 1) in
+        let q : line_fed s (take held line') ≡ line_fed s K = ap (line_fed s) u.0.bytes ∙ line_cut s K in
         let v = subst (λ (y : Said). At y.stand a.stage m' × (take a.printed out' ≡ take r.printed out ++ y.text)) q (says.tells s at) in
-        fed_as r (record { next = g.next; stage = a.stage; held = 0; printed = a.printed }) (lent line m out) (lent line' m' out')
-        (cut input r.next g.next) s l (record { stand = (line_fed s K).stand; line = []; text = (line_fed s K).text }) (u.1 s) v.0 (keeps_none line') v.1;
+        fed_as r (record { next = next; stage = a.stage; held = 0; printed = a.printed }) (lent line m out) (lent line' m' out')
+        (cut input r.next next) s l (record { stand = (line_fed s K).stand; line = []; text = (line_fed s K).text }) (u.1 s) v.0 (keeps_none line') v.1;
   }
 
 -- ---- turn by turn

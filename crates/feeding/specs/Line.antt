@@ -10,8 +10,8 @@ use Rattle.std.proofs.lemmas.Bool.{lt-leb}
 use Rattle.std.proofs.lemmas.List.{take-append-le}
 use Rattle.rows.specs.Splice.{cut}
 use Rattle.ledger.specs.Lines.{longest_frame, frame_of}
-use Rattle.ledger.proofs.Theorems.Checks.{never}
 use Rattle.feeding.specs.declared.gathering.Gathered.{Gathered}
+use Rattle.feeding.specs.declared.gathering.Gathered.TheVariants as gathered
 use Rattle.feeding.specs.Input.{Stands, first, runs, over, line_fed, Fed, behind, fed}
 use Rattle.feeding.specs.Whole.{parts}
 
@@ -28,16 +28,26 @@ pub record Keeps (l : List ℕ) (held : ℕ) (line : List ℕ) : Type 0 where
 abbrev Unended : List ℕ → ℕ → ℕ → List ℕ → Type 0
 Unended input from to l = (s : Stands) → fed s l (cut input from to) ≡ record { stand = s; line = l ++ cut input from to; text = [] }
 
--- the bytes of the input, from the given one up to the next, are gathered behind the line that was held; with an end, or up to the input's
-pub record Gathers (input : List ℕ) (from : ℕ) (line : List ℕ) (held : ℕ) (line' : List ℕ) (r : Gathered) : Type 0 where
-  pub within : (from ≤ r.next) × (r.next ≤ length input)
-  pub onward : from < length input → from < r.next
-  pub unended : r.ended ≡ false
-      → (l : List ℕ) → Keeps l held line → (r.next ≡ length input) × Keeps (l ++ cut input from r.next) r.held line' × Unended input from r.next l
-  pub ended : r.ended ≡ true
-      → (l : List ℕ) → Keeps l held line
-      → let k = l ++ cut input from (r.next - 1) in
-      Keeps k r.held line' × ((s : Stands) → fed s l (cut input from r.next) ≡ record { stand = (line_fed s k).stand; line = []; text = (line_fed s k).text })
+-- the bytes of the input, from the given one up to i, are gathered behind the line that was held, with no end among them
+pub record Gathering (input : List ℕ) (from : ℕ) (line₀ : List ℕ) (held₀ i n : ℕ) (line : List ℕ) : Type 0 where
+  pub from_on : from ≤ i
+  pub up_to : i ≤ length input
+  pub few : n ≤ most
+  pub keeps : (l : List ℕ) → Keeps l held₀ line₀ → Keeps (l ++ cut input from i) n line × Unended input from i l
+
+-- with an end, in front of the next byte
+pub record GathersLine (input : List ℕ) (from : ℕ) (line : List ℕ) (held : ℕ) (line' : List ℕ) (next held' : ℕ) : Type 0 where
+  pub onward : from < next
+  pub up_to : next ≤ length input
+  pub few : held' ≤ most
+  pub keeps : (l : List ℕ) → Keeps l held line
+      → let k = l ++ cut input from (next - 1) in
+      Keeps k held' line' × ((s : Stands) → fed s l (cut input from next) ≡ record { stand = (line_fed s k).stand; line = []; text = (line_fed s k).text })
+
+-- they are gathered up to an end, or up to the input's
+abbrev pub Gathers : (input : List ℕ) (from : ℕ) (line : List ℕ) (held : ℕ) (line' : List ℕ) → Gathered → Type 0
+Gathers input from line held line' (gathered.Line next held') = GathersLine input from line held line' next held'
+Gathers input from line held line' (gathered.Part held') = Gathering input from line held (length input) held' line'
 
 -- ---- a line that is held is read as the whole line
 
@@ -93,12 +103,7 @@ cut_more input from i h r =
     ap (λ (n : ℕ). take n (drop from input)) e ∙ take-suc (drop from input) (i - from) 0 (simp length-drop (omega arith))
     ∙ ap (λ (x : ℕ). cut input from i ++ (x ∷ [])) (get_or-drop from input (i - from) 0 ∙ ap (λ (n : ℕ). get_or input n 0) f)
 
--- ---- the loop: the bytes up to i are gathered, with no end among them
-pub record Gathering (input : List ℕ) (from : ℕ) (line₀ : List ℕ) (held₀ i n : ℕ) (line : List ℕ) : Type 0 where
-  pub from_on : from ≤ i
-  pub up_to : i ≤ length input
-  pub few : n ≤ most
-  pub keeps : (l : List ℕ) → Keeps l held₀ line₀ → Keeps (l ++ cut input from i) n line × Unended input from i l
+-- ---- the loop
 
 pub gathering_start : (input : List ℕ) (from : ℕ) (line : List ℕ) (held : ℕ) → from ≤ length input → held ≤ most → Gathering input from line held from held line
 unfolding fed
@@ -153,14 +158,14 @@ module _ (input : List ℕ) (from : ℕ) (line₀ : List ℕ) (held₀ i n : ℕ
   pub gathering_full : eqb b 0x0A ≡ false → most ≤ n → Gathering input from line₀ held₀ (i + 1) n line
   gathering_full e h = grown n line e g.few (λ l k. keeps_full b k h)
 
-  pub gathered_line : eqb b 0x0A ≡ true → Gathers input from line₀ held₀ line (record { next = i + 1; held = n; ended = true })
+  pub gathered_line : eqb b 0x0A ≡ true → GathersLine input from line₀ held₀ line (i + 1) n
   unfolding fed behind
   gathered_line e =
       record {
-        within = (omega (arith, g.from_on), omega arith);
-        onward = λ h. omega (arith, g.from_on);
-        unended = λ x. never (sym x);
-        ended = λ x l k.
+        onward = omega (arith, g.from_on);
+        up_to = omega arith;
+        few = g.few;
+        keeps = λ l k.
             let h = g.keeps l k in
             let f : i + 1 - 1 ≡ i = omega arith in
             let K : List ℕ = l ++ cut input from i in
@@ -171,13 +176,3 @@ module _ (input : List ℕ) (from : ℕ) (line₀ : List ℕ) (held₀ i n : ℕ
                   fed_next s l h.1 ∙ y ∙ (λ j. record { stand = (line_fed s K).stand; line = []; text = append-nil (line_fed s K).text j }),
             );
       }
-
-pub gathered_part : (input : List ℕ) (from : ℕ) (line₀ : List ℕ) (held₀ i n : ℕ) (line : List ℕ) → Gathering input from line₀ held₀ i n line → length input ≤ i
-    → Gathers input from line₀ held₀ line (record { next = i; held = n; ended = false })
-gathered_part input from line₀ held₀ i n line g h =
-    record {
-      within = (g.from_on, g.up_to);
-      onward = λ k. omega arith;
-      unended = λ x l k. let a = g.keeps l k in (omega (arith, g.up_to), a.0, a.1);
-      ended = λ x. never x;
-    }

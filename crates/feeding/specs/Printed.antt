@@ -1,5 +1,5 @@
 -- An answer, printed behind what is printed: its digits and the line's end.
-use Rattle.std.specs.Prelude.{ℕ, ◌+◌, ◌-◌, ◌*◌, ◌≤◌, ◌<◌, ◌≡◌, drop, set}
+use Rattle.std.specs.Prelude.{ℕ, ◌+◌, ◌-◌, ◌*◌, ◌≤◌, ◌<◌, ◌≡◌, drop, set, Result}
 use Rattle.std.proofs.Math.Path.{ap, ap₂}
 use Rattle.std.proofs.Common.{◌∙◌, add-one, length-append, length-take, take_at}
 use mathlib.Core.List.{List, [], ◌∷◌, ◌++◌, append_assoc}
@@ -13,10 +13,10 @@ use Rattle.rows.specs.Laws.{length_cut, length_splice, lent_back}
 use Rattle.ledger.specs.Lines.{longest_frame, digits_of, line_of, write_line, written_into}
 use Rattle.ledger.proofs.Theorems.Lines.{length_digits}
 use Rattle.line.specs.Answers.{left_in, Gives}
-use Rattle.line.specs.declared.Written.{Written}
+use Rattle.refusals.specs.declared.Refusal.{Refusal}
 use Rattle.feeding.specs.Input.{print}
 
-module _ (out a part : List ℕ) (w : Written) (p n : ℕ) (room : p + 41 ≤ length out) (e : length a ≡ n) (few : n ≤ 20) where
+module _ (out a part : List ℕ) (w : Result ℕ Refusal) (p n : ℕ) (room : p + 41 ≤ length out) (e : length a ≡ n) (few : n ≤ 20) where
   abbrev lent : List ℕ
   lent = cut out p (length out)
 

@@ -1,5 +1,6 @@
 -- What the memory holds where a session stands, and what the answer to a line leaves in it.
-use Rattle.std.specs.Prelude.{ℕ, ◌*◌, ◌≤◌, ◌≡◌, Bool, true, false, List, ◌++◌, eqb, get_or, take, drop}
+use Rattle.std.specs.Prelude.{ℕ, ◌*◌, ◌≤◌, ◌≡◌, Bool, true, false, List, ◌++◌, eqb, get_or, take, drop, Result, Ok, Err}
+use Rattle.std.specs.Prelude as std
 use Rattle.std.proofs.Math.Path.{refl, ap}
 use Rattle.std.proofs.Common.{sym, ◌∙◌, subst, arith}
 use Rattle.std.proofs.Math.Option.{Option, none, some}
@@ -18,13 +19,11 @@ use Rattle.configuration.specs.Limits.{controller_made}
 use Rattle.configuration.specs.Block.{frame_rule}
 use Rattle.configuration.specs.Started.{timers_bytes}
 use Rattle.parts.specs.Parts.{part, kept_frame}
-use Rattle.configuration.specs.declared.Lent.{Lent}
 use Rattle.configuration.specs.Layout.{shape_of, of_one, Lends}
 use Rattle.answer.specs.Written.{written}
 use Rattle.answer.specs.Read.{read_length}
-use Rattle.line.specs.Answers.{answer_to, left_in, Gives}
-use Rattle.line.specs.declared.Written.{Written}
-use Rattle.line.specs.declared.Written.TheVariants as written_as
+use Rattle.line.specs.Answers.{by_number, answer_to, left_in, Gives}
+use Rattle.refusals.specs.declared.Refusal.{Refusal}
 use Rattle.ledger.proofs.Theorems.Checks.{never}
 use Rattle.ledger.proofs.Theorems.Within.{controller_gives}
 use Rattle.mcx11.specs.Contract.{Memory, memory, has_sizes, full_size, is_marked, config_of, tables_part, slots_part, timers_part, lent_well, Displays, answering, Configures, Frames}
@@ -77,42 +76,40 @@ pub record GoesOn (f : Option (List ℕ)) (m m' : Memory) : Type 0 where
 
 -- ---- what the reader says, with room for the longest frame
 
-unfoldable is_length : Written → Bool
-is_length (written_as.Refused n) = false
-is_length (written_as.Length n) = true
+abbrev is_ok : Result ℕ ℕ → Bool
+is_ok (Ok n) = true
+is_ok (Err n) = false
 
-unfoldable length_in : Written → ℕ
-length_in (written_as.Refused n) = 0
-length_in (written_as.Length n) = n
+abbrev length_in : Result ℕ ℕ → ℕ
+length_in (Ok n) = n
+length_in (Err n) = 0
 
-module _ (line before after : List ℕ) (w : Written) (g : Gives (read_line (length before) line) before after w) (room : longest_frame ≤ length before) where
-  says_frame : (f : List ℕ) → frame_of line ≡ some f → (w ≡ written_as.Length (length f)) × (after ≡ f ++ drop (length f) before)
+module _ (line before after : List ℕ) (w : Result ℕ Refusal) (g : Gives (read_line (length before) line) before after w) (room : longest_frame ≤ length before) where
+  says_frame : (f : List ℕ) → frame_of line ≡ some f → (by_number w ≡ Ok (length f)) × (after ≡ f ++ drop (length f) before)
   unfolding read_line written_into answer_to left_in
   says_frame f e =
       let short = le-ltb (length before) (length f) (omega (arith, frame_is_short line f e)) in
       (g.answered ∙ rw (e, short), g.left ∙ rw (e, short))
 
-  says_none : frame_of line ≡ none → w ≡ written_as.Refused 1
+  says_none : frame_of line ≡ none → by_number w ≡ Err 1
   unfolding read_line written_into answer_to
   says_none e = g.answered ∙ rw e
 
-  pub read_none : (n : ℕ) → w ≡ written_as.Refused n → frame_of line ≡ none
-  unfolding is_length
-  read_none n e = go (frame_of line) refl
+  pub read_none : (refused : Refusal) → w ≡ Err refused → frame_of line ≡ none
+  read_none refused e = go (frame_of line) refl
     where
       go : (o : Option (List ℕ)) → frame_of line ≡ o → frame_of line ≡ none
       go none x = x
-      go (some f) x = never (ap is_length (sym e ∙ (says_frame f x).0))
+      go (some f) x = never (ap is_ok (sym (ap by_number e) ∙ (says_frame f x).0))
 
-  pub read_frame : (n : ℕ) → w ≡ written_as.Length n → (n ≤ length after) × (frame_of line ≡ some (take n after))
-  unfolding is_length length_in
+  pub read_frame : (n : ℕ) → w ≡ Ok n → (n ≤ length after) × (frame_of line ≡ some (take n after))
   read_frame n e = go (frame_of line) refl
     where
       go : (o : Option (List ℕ)) → frame_of line ≡ o → (n ≤ length after) × (frame_of line ≡ some (take n after))
-      go none x = never (ap is_length (sym (says_none x) ∙ e))
+      go none x = never (ap is_ok (sym (says_none x) ∙ ap by_number e))
       go (some f) x =
           let k = says_frame f x in
-          let m : length f ≡ n = ap length_in (sym k.0 ∙ e) in
+          let m : length f ≡ n = ap length_in (sym k.0 ∙ ap by_number e) in
           (omega (arith, ap length k.1, length-append f (drop (length f) before)), x ∙ ap some (sym (ap (take n) k.1 ∙ take_at f (drop (length f) before) n m)))
 
 -- ---- an answer that was written
@@ -168,7 +165,7 @@ module _ {f : List ℕ} {m m' : Memory} {r : ℕ} (full : Full controller m) (h 
 -- ---- a line that is no frame
 
 -- what the reading of the kept frame says, by limits and bytes that are known
-pub lends_as : {k j : Limits} → k ≡ j → {f g : List ℕ} → f ≡ g → (r : Lent) → Lends k f r → Lends j g r
+pub lends_as : {k j : Limits} → k ≡ j → {f g : List ℕ} → f ≡ g → (r : std.Option Shape) → Lends k f r → Lends j g r
 lends_as {k} ek {f} {g} ef r h = subst (λ (x : Limits). Lends x g r) ek (subst (λ (x : List ℕ). Lends k x r) ef h)
 
 pub refuses_line : (g d z a a' : List ℕ) (s : Shape) → Of (config_in (kept_frame g)) s → TellsNow s d z 1 a a' → RefusesLine g d z a a'

@@ -16,7 +16,7 @@ ghost use Rattle.feeding.specs.Line.{most};
 ghost use Rattle.feeding.specs.Feeds.{begun, again, Says, lent, Feeds, Ends};
 
 pub use gathering::HELD;
-use gathering::gather;
+use gathering::{Gathered, gather};
 use printing::print;
 use replying::{reply_first, reply_next};
 
@@ -54,12 +54,10 @@ pub fn start() -> Reached
 pub fn next_block(reached: Reached) -> Reached
     ensures { result ≡ again reached }
 {
-    let stage = reached.stage;
     Reached {
         next: 0,
-        stage: stage,
-        held: reached.held,
         printed: 0,
+        ..reached
     }
 }
 
@@ -89,9 +87,9 @@ fn answer_line(
 {
     match stage {
         Stage::First => {
-            let after = reply_first(line, config, tables, slots, timers, answer);
+            let stage = reply_first(line, config, tables, slots, timers, answer);
             Answered {
-                stage: after,
+                stage,
                 printed: print(answer, out, printed),
             }
         }
@@ -104,7 +102,7 @@ fn answer_line(
         }
         Stage::Ended => Answered {
             stage: Stage::Ended,
-            printed: printed,
+            printed,
         },
     }
 }
@@ -128,34 +126,31 @@ fn turn(
         (reached.next < result.next) × (result.next ≤ length input.now) × (result.held ≤ most) × (result.printed ≤ reached.printed + 41)
         × Feeds (cut input.now reached.next result.next) reached x result x' }
 {
-    let g = gather(input, reached.next, line, reached.held);
-    let stage = reached.stage;
-    if !g.ended {
-        return Reached {
-            next: g.next,
-            stage: stage,
-            held: g.held,
-            printed: reached.printed,
-        };
-    }
-    let end = g.held;
-    let a = answer_line(
-        &line[..end],
-        stage,
-        config,
-        tables,
-        slots,
-        timers,
-        answer,
-        out,
-        reached.printed,
-    );
-    let after = a.stage;
-    Reached {
-        next: g.next,
-        stage: after,
-        held: 0,
-        printed: a.printed,
+    match gather(input, reached.next, line, reached.held) {
+        Gathered::Part { held } => Reached {
+            next: input.len(),
+            held,
+            ..reached
+        },
+        Gathered::Line { next, held } => {
+            let a = answer_line(
+                &line[..held],
+                reached.stage,
+                config,
+                tables,
+                slots,
+                timers,
+                answer,
+                out,
+                reached.printed,
+            );
+            Reached {
+                next,
+                stage: a.stage,
+                held: 0,
+                printed: a.printed,
+            }
+        }
     }
 }
 
@@ -179,6 +174,7 @@ pub fn feed(
         × Feeds (drop reached.next input.now) reached x result x' }
 {
     let mut r = reached;
+    // A turn goes on by a line or a part of one, so that no `for` counts the turns.
     while r.next < input.len() {
         r = turn(input, r, line, config, tables, slots, timers, answer, out);
     }
@@ -204,10 +200,9 @@ pub fn finish(
     if end == 0 {
         return reached.printed;
     }
-    let stage = reached.stage;
     let a = answer_line(
         &line[..end],
-        stage,
+        reached.stage,
         config,
         tables,
         slots,

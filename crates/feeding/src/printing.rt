@@ -23,7 +23,8 @@ pub fn print(answer: &[u8], out: &mut [u8], printed: usize) -> usize
 {
     let n = length_of(answer);
     let end = 1 + n;
-    line::write(&answer[1..end], &mut out[printed..]);
+    // 41 bytes are room enough for its digits and the line's end.
+    let _ = line::write(&answer[1..end], &mut out[printed..]);
     let at = printed + 2 * n;
     out[at] = 0x0A;
     at + 1

@@ -10,10 +10,10 @@ ghost use Rattle.mcx11.specs.Sizes.{Full};
 ghost use Rattle.feeding.specs.Replies.{FirstReply, RefusesLine, GoesOn};
 
 use super::Stage;
-use configuration::Lent;
 use configuration::limits::controller;
-use line::{LONGEST_FRAME, Written};
+use line::LONGEST_FRAME;
 use parts::FRAME_AT;
+use tables::shape::Shape;
 
 // The answer to the first line: it is to be a configuration.
 pub fn reply_first(
@@ -28,13 +28,12 @@ pub fn reply_first(
     ensures { FirstReply (frame_of line.now) (memory config.new tables.new slots.new timers.new answer.new) result }
 {
     let mut frame = [0u8; LONGEST_FRAME];
-    let w = line::read(line, &mut frame);
-    match w {
-        Written::Refused(_) => {
+    match line::read(line, &mut frame) {
+        Err(_) => {
             answer::refuse_configuration(1, answer);
             Stage::Ended
         }
-        Written::Length(n) => {
+        Ok(n) => {
             let r = mcx11::entries::mcx11_configure_blocks(
                 &frame[..n],
                 config,
@@ -43,22 +42,19 @@ pub fn reply_first(
                 timers,
                 answer,
             );
-            if r == 0 {
-                return Stage::Running;
-            }
-            Stage::Ended
+            if r == 0 { Stage::Running } else { Stage::Ended }
         }
     }
 }
 
 // The frame of the configuration that the block keeps.
-fn by_frame(config: &[u8]) -> Lent
+fn by_frame(config: &[u8]) -> Option<Shape>
     requires { (sizes_of limits.controller).config ≤ length config.now }
     ensures { Lends limits.controller (kept_frame config.now) result }
 {
     let limits = controller();
     if !mcx11::lent::counts(limits, config) {
-        return Lent::Bad;
+        return None;
     }
     let end = FRAME_AT + parts::frame_length(config);
     configuration::block::lent(limits, &config[FRAME_AT..end])
@@ -70,10 +66,8 @@ fn refuse_line(config: &[u8], tables: &[u8], slots: &[u8], answer: &mut [u8])
         × ((sizes_of limits.controller).slots ≤ length slots.now) × (answer_bytes ≤ length answer.old) }
     ensures { RefusesLine config.now tables.now slots.now answer.old answer.new }
 {
-    let l = by_frame(config);
-    match l {
-        Lent::Bad => {}
-        Lent::Good(shape) => mcx11::by_limits::tell(tables, slots, shape, 1, answer),
+    if let Some(shape) = by_frame(config) {
+        mcx11::by_limits::tell(tables, slots, shape, 1, answer);
     }
 }
 
@@ -91,10 +85,9 @@ pub fn reply_next(
         (memory config.now tables.new slots.new timers.new answer.new) }
 {
     let mut frame = [0u8; LONGEST_FRAME];
-    let w = line::read(line, &mut frame);
-    match w {
-        Written::Refused(_) => refuse_line(config, tables, slots, answer),
-        Written::Length(n) => {
+    match line::read(line, &mut frame) {
+        Err(_) => refuse_line(config, tables, slots, answer),
+        Ok(n) => {
             mcx11::entries::mcx11_frame_blocks(&frame[..n], config, tables, slots, timers, answer);
         }
     }

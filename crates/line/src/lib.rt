@@ -11,10 +11,3 @@ pub use writing::write;
 
 // The most bytes of a frame. Its line has two digits for each.
 pub const LONGEST_FRAME: usize = 326;
-
-// What a call gives back: document 01's number, or the length of the result in the lent buffer.
-#[derive(Clone, Copy)]
-pub enum Written {
-    Refused(u8),
-    Length(usize),
-}

@@ -5,31 +5,24 @@ ghost use Rattle.ledger.specs.Lines.{frame_of, read_line};
 ghost use Rattle.line.specs.Answers.{Gives};
 ghost use Rattle.line.specs.Digits.{is_some, is_digit, nibble, pairs};
 
-use super::{LONGEST_FRAME, Written};
+use super::LONGEST_FRAME;
+use refusals::Refusal;
 
+#[tactic(auto, unfolding(crate::specs::Digits::is_digit, ledger::specs::Lines::digit_value))]
 fn is_digit(d: u8) -> bool
     ensures { result ≡ is_digit d }
 {
-    if d < 0x30 {
-        return false;
-    }
-    if d <= 0x39 {
-        return true;
-    }
-    if d < 0x41 {
-        return false;
-    }
-    d <= 0x46
+    matches!(d, b'0'..=b'9' | b'A'..=b'F')
 }
 
+// Every byte is tested, in one pass that does not branch.
+#[tactic(auto, using(crate::proofs::Pairs::all_more), unfolding(ledger::specs::Lists::all))]
 fn all_digits(line: &[u8]) -> bool
     ensures { result ≡ all is_digit line.now }
 {
     let mut good = true;
-    let mut i = 0;
-    while i < line.len() {
-        good = good & is_digit(line[i]);
-        i += 1;
+    for d in line {
+        good = good & is_digit(*d);
     }
     good
 }
@@ -52,11 +45,8 @@ fn put_bytes(line: &[u8], frame: &mut [u8])
     requires { length line.now / 2 ≤ length frame.old }
     ensures { frame.new ≡ pairs line.now ++ drop (length line.now / 2) frame.old }
 {
-    let n = line.len() / 2;
-    let mut i = 0;
-    while i < n {
+    for i in 0..line.len() / 2 {
         frame[i] = byte_of(line[2 * i], line[2 * i + 1]);
-        i += 1;
     }
 }
 
@@ -74,17 +64,16 @@ fn is_line(line: &[u8]) -> bool
     all_digits(line)
 }
 
-pub fn read(line: &[u8], frame: &mut [u8]) -> Written
+pub fn read(line: &[u8], frame: &mut [u8]) -> Result<usize, Refusal>
     ensures { Gives (read_line (length frame.old) line.now) frame.old frame.new result }
 {
-    let good = is_line(line);
-    let bytes = line.len() / 2;
-    if !good {
-        return Written::Refused(1);
+    if !is_line(line) {
+        return Err(Refusal::Line);
     }
+    let bytes = line.len() / 2;
     if frame.len() < bytes {
-        return Written::Refused(11);
+        return Err(Refusal::Memory);
     }
     put_bytes(line, frame);
-    Written::Length(bytes)
+    Ok(bytes)
 }

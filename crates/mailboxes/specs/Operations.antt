@@ -1,10 +1,10 @@
 -- Each operation, from what its call of the records promises: the ledger's own change, for a ledger that the memory shows.
-use Rattle.std.specs.Prelude.{◌≡◌, Bool, List, ℕ, ◌+◌, ◌-◌, ◌<◌, ◌≤◌, length, get_or}
+use Rattle.std.specs.Prelude.{◌≡◌, Bool, List, ℕ, ◌+◌, ◌-◌, ◌<◌, ◌≤◌, length, get_or, None}
 use Rattle.std.proofs.Math.Path.{sym, ap}
 use Rattle.std.proofs.Common.{ap₂, ◌∙◌, arith}
 use Rattle.std.proofs.Math.Option.{none, some}
 use Rattle.messages.specs.Pending.{Pending, letter, pending, pending_in, letter_at, numbers_in, numbered, mailbox_of, mailboxes_of, occurs}
-use Rattle.messages.specs.Changes.{Inserted, Found, Removed, Taken}
+use Rattle.messages.specs.Changes.{Inserted, FoundAt, Found, Removed, Taken}
 use Rattle.messages.specs.Records.{held_is, found_some, found_none, taken}
 use Rattle.tables.specs.declared.shape.Shape.{Shape}
 use Rattle.tables.specs.Layout.{OneOf, count_at}
@@ -47,18 +47,19 @@ module _ {tidy : Bool} (c : Config) (s : Shape) (L : Ledger) (d z w : List ℕ) 
           (λ u ne. i.others u ne ∙ ap (mailbox_of u) mail_now)
           (λ q. i.addressed (mail_tidy c s L d z w h q n e))
 
-      -- what a receive found, at record k
-      module _ (few : n ≤ s.messages) (a k : ℕ) (f : Found s.tasks n t a (bytes s d) k) where
-        pub take_none : n ≤ k → none ≡ find (wanted a) (mailbox L t)
-        take_none g = sym (ap (find (wanted a)) (sym own_mail) ∙ found_none s.tasks n t a k (bytes s d) f g)
+      -- a receive found nothing
+      pub take_none : (a : ℕ) → Found s.tasks n t a (bytes s d) None → none ≡ find (wanted a) (mailbox L t)
+      take_none a f = sym (ap (find (wanted a)) (sym own_mail) ∙ found_none s.tasks n t a (bytes s d) f)
 
-        pub take_some : (m : Message) → k < n → m ≡ letter_at k (bytes s d) → some m ≡ find (wanted a) (mailbox L t)
-        take_some m g q = ap some q ∙ sym (ap (find (wanted a)) (sym own_mail) ∙ found_some s.tasks n t a k (bytes s d) f g)
+      -- or a message, at record k
+      module _ (few : n ≤ s.messages) (a k : ℕ) (f : FoundAt s.tasks n t a (bytes s d) k) where
+        pub take_some : (m : Message) → m ≡ letter_at k (bytes s d) → some m ≡ find (wanted a) (mailbox L t)
+        take_some m q = ap some q ∙ sym (ap (find (wanted a)) (sym own_mail) ∙ found_some s.tasks n t a (bytes s d) k f)
 
-        pub take_done : (ys : List ℕ) → k < n → length ys ≡ length (bytes s d) → Removed n k (bytes s d) ys
+        pub take_done : (ys : List ℕ) → length ys ≡ length (bytes s d) → Removed n k (bytes s d) ys
             → ShowsAs tidy c s (set_mailbox t (without (wanted a) (mailbox L t)) L) (renewed s d ys (n - 1)) z w
-        take_done ys g l q =
-            let i : Taken s.tasks n t a (bytes s d) ys = taken s.tasks n t a k (bytes s d) ys f g (q s.tasks).0 in
+        take_done ys l q =
+            let i : Taken s.tasks n t a (bytes s d) ys = taken s.tasks n t a k (bytes s d) ys f (q s.tasks).0 in
             mail_renewed c s L d z w h t to ys l (n - 1) (omega arith) (without (wanted a) (mailbox L t))
             (i.own ∙ ap (without (wanted a)) own_mail)
             (λ u ne. i.others u ne ∙ ap (mailbox_of u) mail_now)

@@ -4,7 +4,6 @@
 #![tactic(auto)]
 
 ghost use Rattle.std.specs.Prelude.{◌≡◌, ◌≤◌, length};
-ghost use Rattle.tables.specs.Decode.{count_of};
 ghost use Rattle.tables.specs.Layout.{OneOf, Fits};
 ghost use Rattle.tables.specs.Shows.{Does, Tells};
 ghost use Rattle.ledger.specs.Lists.{find};
@@ -14,32 +13,16 @@ ghost use Rattle.ledger.specs.Refusals.{inamailbox};
 ghost use Rattle.mailboxes.specs.Room.{Roomy, sound_in};
 ghost use Rattle.mailboxes.specs.Received.{view_received, inserted, taken};
 
+use messages::Message;
+use tables::counts::count_of;
 use tables::shape::{COUNT_AT, Shape};
-
-// A message that was received: its number, its sender, its semaphore.
-#[derive(Clone, Copy)]
-pub enum Received {
-    Nothing,
-    Message(u8, u8, u8),
-}
-
-// How many messages are pending, by the byte that counts them.
-fn count(x: u8, most: usize) -> usize
-    ensures { (result ≡ count_of most x) × (result ≤ most) }
-{
-    let n = x as usize;
-    if n <= most {
-        return n;
-    }
-    most
-}
 
 // Whether the message of a number lies in a mailbox.
 pub fn holds(tables: &[u8], shape: Shape, number: u8) -> bool
     requires { Fits shape (length tables.now) }
     ensures { Tells shape tables.now (λ c L. inamailbox L number) result }
 {
-    let n = count(tables[COUNT_AT], shape.messages);
+    let n = count_of(shape.messages, tables[COUNT_AT]);
     let at = shape.messageat;
     let end = shape.bodyat;
     messages::holds(&tables[at..end], n, number)
@@ -50,7 +33,7 @@ pub fn insert(tables: &mut [u8], shape: Shape, to: u8, number: u8, sender: u8, s
     requires { Fits shape (length tables.old) × OneOf shape.tasks to × Roomy shape tables.old }
     ensures { Does shape tables.old tables.new (λ c L. inserted to number sender semaphore L) }
 {
-    let n = count(tables[COUNT_AT], shape.messages);
+    let n = count_of(shape.messages, tables[COUNT_AT]);
     let at = shape.messageat;
     let end = shape.bodyat;
     messages::insert(
@@ -65,25 +48,25 @@ pub fn insert(tables: &mut [u8], shape: Shape, to: u8, number: u8, sender: u8, s
     tables[COUNT_AT] = (n + 1) as u8;
 }
 
-// Takes the first message for task t that is from `from`, or from any if that is 0.
+// Takes the first message for task t that is from `from`, or from any if that is 0, if there is one.
 // It is compiled into its callers, since each call would take a copy of the shape on the stack.
 #[inline(always)]
-pub fn take(tables: &mut [u8], shape: Shape, t: u8, from: u8) -> Received
+pub fn take(tables: &mut [u8], shape: Shape, t: u8, from: u8) -> Option<Message>
     requires { Fits shape (length tables.old) × OneOf shape.tasks t }
     ensures tells { Tells shape tables.old (λ c L. find (wanted from) (mailbox L t)) (view_received result) }
     ensures does { Does shape tables.old tables.new (λ c L. taken result t from L) }
 {
-    let n = count(tables[COUNT_AT], shape.messages);
+    let n = count_of(shape.messages, tables[COUNT_AT]);
     let at = shape.messageat;
     let end = shape.bodyat;
-    let k = messages::find(&tables[at..end], n, shape.tasks, t, from);
-    if k >= n {
-        return Received::Nothing;
-    }
-    let p = messages::load(&tables[at..end], k);
+    // No `?`, which calls code of std that the theorems about runs can't name.
+    let Some(k) = messages::find(&tables[at..end], n, shape.tasks, t, from) else {
+        return None;
+    };
+    let message = messages::load(&tables[at..end], k);
     messages::remove(&mut tables[at..end], n, k);
     tables[COUNT_AT] = (n - 1) as u8;
-    Received::Message(p.number, p.sender, p.semaphore)
+    Some(message)
 }
 
 // Whether there is room for one more message, or else each that lies in the memory is one of those that there are, and lies there once.
@@ -91,7 +74,7 @@ pub fn sound(tables: &[u8], shape: Shape) -> bool
     requires { Fits shape (length tables.now) }
     ensures { result ≡ sound_in shape tables.now }
 {
-    let n = count(tables[COUNT_AT], shape.messages);
+    let n = count_of(shape.messages, tables[COUNT_AT]);
     if n < shape.messages {
         return true;
     }

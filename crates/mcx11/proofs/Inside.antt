@@ -81,6 +81,6 @@ module _ (k : Limits) (f g d z w a : List ℕ) where
         unchanged = λ x n. (refl, refl, refl);
       }
 
--- by limits that are known
-pub frames_by : {k j : Limits} → k ≡ j → {f : List ℕ} {m m' : Memory} {r : ℕ} → Frames k f m m' r → Frames j f m m' r
-frames_by e {f} {m} {m'} {r} h = subst (λ (x : Limits). Frames x f m m' r) e h
+-- by limits that are known, and the number that the result goes by
+pub frames_by : {k j : Limits} {r n : ℕ} → n ≡ r → k ≡ j → {f : List ℕ} {m m' : Memory} → Frames k f m m' r → Frames j f m m' n
+frames_by {k} {j} {r} {n} en ek {f} {m} {m'} h = subst (λ (x : Limits). Frames x f m m' n) ek (subst (λ (x : ℕ). Frames k f m m' x) (sym en) h)

@@ -217,6 +217,6 @@ module _ (k : Limits) (f g d z w a : List ℕ) where
         accepted = λ y x. b;
       }
 
--- by limits that are known
-pub configures_by : {k j : Limits} → k ≡ j → {f : List ℕ} {m m' : Memory} {r : ℕ} → Configures k f m m' r → Configures j f m m' r
-configures_by e {f} {m} {m'} {r} h = subst (λ (x : Limits). Configures x f m m' r) e h
+-- by limits that are known, and the number that the result goes by
+pub configures_by : {k j : Limits} {r n : ℕ} → n ≡ r → k ≡ j → {f : List ℕ} {m m' : Memory} → Configures k f m m' r → Configures j f m m' n
+configures_by {k} {j} {r} {n} en ek {f} {m} {m'} h = subst (λ (x : Limits). Configures x f m m' n) ek (subst (λ (x : ℕ). Configures k f m m' x) (sym en) h)

@@ -1,10 +1,8 @@
 -- The result of a C function, one int32_t: what was computed, from 0 up, or the number of the refusal with a minus sign.
-use Rattle.std.specs.Prelude.{◌≡◌, List, ℕ, ◌<◌, ◌^◌, ℤ, pos, neg_ℤ, length}
+use Rattle.std.specs.Prelude.{◌≡◌, List, ℕ, ◌<◌, ◌^◌, ℤ, pos, neg_ℤ, length, Result, Ok, Err}
 use Rattle.ledger.specs.Lines as lines
 use Rattle.ledger.specs.Time as time
 use Rattle.line.specs.Answers.{left_in}
-use Rattle.line.specs.declared.Written.{Written}
-use Rattle.line.specs.declared.Written.TheVariants as written
 
 abbrev pub refused : ℕ → ℤ
 refused n = neg_ℤ (pos n)
@@ -23,11 +21,11 @@ pub record Returns (said : lines.Written) (before after : List ℕ) (r : ℤ) : 
   pub returned : r ≡ returned_length said
   pub left : after ≡ left_in before said
 
--- the same of the answer of the crate `line`
-unfoldable pub of_written : Written → ℤ
-of_written (written.Refused n) = refused n
-of_written (written.Length n) = pos n
+-- the same of the answer of the crate `line`, with its refusal's number
+unfoldable pub of_written : Result ℕ ℕ → ℤ
+of_written (Err n) = refused n
+of_written (Ok n) = pos n
 
-unfoldable pub Short : Written → Type 0
-Short (written.Refused n) = Unit {0}
-Short (written.Length n) = n < 2 ^ 31
+unfoldable pub Short : Result ℕ ℕ → Type 0
+Short (Err n) = Unit {0}
+Short (Ok n) = n < 2 ^ 31

@@ -1,5 +1,5 @@
 -- The test for number 11, in its two steps: what each of their ways out says of the memory, whatever lies in the answer.
-use Rattle.std.specs.Prelude.{ℕ, ◌+◌, ◌≤◌, ◌≡◌, refl, Bool, true, false, cond, ◌&&◌, List, leb}
+use Rattle.std.specs.Prelude.{ℕ, ◌+◌, ◌≤◌, ◌≡◌, refl, Bool, true, false, cond, ◌&&◌, List, leb, Option, None, Some}
 use Rattle.std.proofs.Math.Path.{sym, ap, subst}
 use Rattle.std.proofs.Common.{◌∙◌}
 use native.Mathlib.Omega.{arith}
@@ -11,11 +11,9 @@ use Rattle.tables.specs.declared.shape.Shape.{Shape}
 use Rattle.tables.specs.Layout.{Fits, fitting}
 use Rattle.tables.specs.Shows.{Of}
 use Rattle.mailboxes.specs.Room.{sound_in}
-use Rattle.configuration.specs.declared.Lent.{Lent}
-use Rattle.configuration.specs.declared.Lent.TheVariants.{Bad, Good}
 use Rattle.configuration.specs.Limits.{Made}
 use Rattle.configuration.specs.Block.{frame_rule, counts_rule, frame_rule_lem}
-use Rattle.configuration.specs.Layout.{shape_of, of_one, Lends}
+use Rattle.configuration.specs.Layout.{shape_of, of_one}
 use Rattle.parts.specs.Parts.{part_at, frame_at, marked_by, part, kept_frame}
 use Rattle.mcx11.specs.Contract.{memory, Sizes, sizes_of, has_sizes, full_size, config_mark, tables_mark, slots_mark, timers_mark, is_marked, messages_sound}
 use Rattle.mcx11.specs.Sizes.{RoomForMarks, room_for_marks}
@@ -82,25 +80,12 @@ module _ (k : Limits) (g d z w : List ℕ) (na : ℕ) (n : Sizes) (en : n ≡ si
 unfoldable pub rest_rule : Limits → (kept tables : List ℕ) → Bool
 rest_rule k f d = frame_rule k f && messages_sound (config_in f) (part (shape_of (config_in f)).end d)
 
-abbrev pub Tested : Limits → (kept tables : List ℕ) → Lent → Type 0
-Tested k f d Bad = rest_rule k f d ≡ false
-Tested k f d (Good s) = (rest_rule k f d ≡ true) × Of (config_in f) s
-
-pub tested_bad : (k : Limits) (f d : List ℕ) {r : Lent} → Tested k f d r → r ≡ Bad → rest_rule k f d ≡ false
-tested_bad k f d h e = subst (Tested k f d) e h
-
-pub tested_good : (k : Limits) (f d : List ℕ) {r : Lent} {s : Shape} → Tested k f d r → r ≡ Good s → (rest_rule k f d ≡ true) × Of (config_in f) s
-tested_good k f d h e = subst (Tested k f d) e h
-
--- what the reading of the frame says
-pub lends_bad : (k : Limits) (f : List ℕ) {r : Lent} → Lends k f r → r ≡ Bad → frame_rule k f ≡ false
-lends_bad k f h e = subst (Lends k f) e h
-
-pub lends_good : (k : Limits) (f : List ℕ) {r : Lent} {s : Shape} → Lends k f r → r ≡ Good s → (frame_rule k f ≡ true) × Of (config_in f) s
-lends_good k f h e = subst (Lends k f) e h
+abbrev pub Tested : Limits → (kept tables : List ℕ) → Option Shape → Type 0
+Tested k f d None = rest_rule k f d ≡ false
+Tested k f d (Some s) = (rest_rule k f d ≡ true) × Of (config_in f) s
 
 module _ (k : Limits) (f d : List ℕ) where
-  pub tested_frame : frame_rule k f ≡ false → Tested k f d Bad
+  pub tested_frame : frame_rule k f ≡ false → Tested k f d None
   unfolding rest_rule
   tested_frame e = rw e
 
@@ -108,13 +93,13 @@ module _ (k : Limits) (f d : List ℕ) where
     pub tested_fits : (sizes_of k).tables ≤ length d → Fits s s.end × (part_at + s.end ≤ length d)
     tested_fits h = (fitting o.laid (omega arith), omega (arith, tables_within k made (config_in f) (frame_rule_lem k f keeps) s o))
 
-    pub tested_messages : (r : Lent) → r ≡ cond (sound_in s (part s.end d)) (Good s) Bad → Tested k f d r
+    pub tested_messages : (r : Option Shape) → r ≡ cond (sound_in s (part s.end d)) (Some s) None → Tested k f d r
     unfolding rest_rule
     tested_messages r er = subst (Tested k f d) (sym er) (go (sound_in s (part s.end d)) refl)
       where
         same : sound_in s (part s.end d) ≡ messages_sound (config_in f) (part (shape_of (config_in f)).end d)
         same = sound_is (config_in f) s o (part s.end d) ∙ ap (λ (x : Shape). messages_sound (config_in f) (part x.end d)) (of_one (config_in f) s o)
 
-        go : (x : Bool) → sound_in s (part s.end d) ≡ x → Tested k f d (cond x (Good s) Bad)
+        go : (x : Bool) → sound_in s (part s.end d) ≡ x → Tested k f d (cond x (Some s) None)
         go true h = (rw keeps (sym same ∙ h), o)
         go false h = rw keeps (sym same ∙ h)

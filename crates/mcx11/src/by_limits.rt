@@ -7,18 +7,19 @@ ghost use Rattle.tables.specs.Shows.{Of};
 ghost use Rattle.configuration.specs.Limits.{limits_of, Made};
 ghost use Rattle.configuration.specs.Block.{counts_rule};
 ghost use Rattle.configuration.specs.Started.{timers_bytes};
+ghost use Rattle.refusals.specs.Numbers.{number_in};
 ghost use Rattle.parts.specs.Parts.{part_at, ends};
 ghost use Rattle.mcx11.specs.Contract as contract;
-ghost use Rattle.mcx11.specs.Contract.{memory, Begins, Configures};
+ghost use Rattle.mcx11.specs.Contract.{memory, Begins, Configures, Frames};
 ghost use Rattle.mcx11.specs.Sizes.{sizes_in, RoomForMarks};
 ghost use Rattle.mcx11.specs.Inside.{Room, StepsInside, Sized, FramesInside};
 ghost use Rattle.mcx11.specs.Begun.{TellsNow, Places};
 
 use crate::lent::{CONFIG_MARK, SLOTS_MARK, Sizes, TABLES_MARK, TIMERS_MARK};
-use configuration::Lent;
 use configuration::limits::Limits;
 use executive::frames::step;
-use parts::PART_AT;
+use parts::{FRAME_AT, PART_AT};
+use refusals::Refusal;
 use tables::shape::Shape;
 
 // A frame to the parts of blocks that are lent well, with the configuration's frame that is kept.
@@ -30,10 +31,10 @@ fn feed(
     timers: &mut [u8],
     shape: Shape,
     answer: &mut [u8],
-) -> u8
+) -> Result<(), Refusal>
     requires { Room shape kept.now tables.old slots.old timers.old × (answer_bytes ≤ length answer.old) }
     ensures { StepsInside shape frame.now kept.now tables.old slots.old timers.old answer.old
-        tables.new slots.new timers.new answer.new result }
+        tables.new slots.new timers.new answer.new (number_in result) }
 {
     let tables_end = PART_AT + shape.end;
     let slots_end = PART_AT + 16 * shape.tasks;
@@ -49,9 +50,9 @@ fn feed(
     )
 }
 
-// A frame to blocks that meet the limits, with the configuration's frame that is kept. Gives its number: 0 accepted, 11 where the rest of the
-// rules is broken (then nothing is written).
-pub fn frame(
+// A frame to blocks that meet the limits, with the configuration's frame that is kept. Where the rest of the rules is broken nothing is
+// written.
+fn inside(
     limits: Limits,
     frame: &[u8],
     kept: &[u8],
@@ -59,16 +60,47 @@ pub fn frame(
     slots: &mut [u8],
     timers: &mut [u8],
     answer: &mut [u8],
-) -> u8
+) -> Result<(), Refusal>
     requires { Made (limits_of limits) × (counts_rule (limits_of limits) kept.now ≡ true) × Sized (limits_of limits) tables.old slots.old timers.old answer.old }
     ensures { FramesInside (limits_of limits) frame.now kept.now tables.old slots.old timers.old answer.old
-        tables.new slots.new timers.new answer.new result }
+        tables.new slots.new timers.new answer.new (number_in result) }
 {
-    let l = crate::lent::test(limits, kept, tables);
-    match l {
-        Lent::Bad => 11,
-        Lent::Good(shape) => feed(frame, kept, tables, slots, timers, shape, answer),
+    let Some(shape) = crate::lent::test(limits, kept, tables) else {
+        return Err(Refusal::Memory);
+    };
+    feed(frame, kept, tables, slots, timers, shape, answer)
+}
+
+// A frame. Where the lent memory is short or broken nothing is written. This is compiled into each entry, so that the limits are tested
+// there, with numbers that the compiler knows; the rest is one function for both.
+#[inline(always)]
+pub fn frame(
+    limits: Limits,
+    frame: &[u8],
+    config: &[u8],
+    tables: &mut [u8],
+    slots: &mut [u8],
+    timers: &mut [u8],
+    answer: &mut [u8],
+) -> Result<(), Refusal>
+    requires { Made (limits_of limits) }
+    ensures { Frames (limits_of limits) frame.now (memory config.now tables.old slots.old timers.old answer.old)
+        (memory config.now tables.new slots.new timers.new answer.new) (number_in result) }
+{
+    let n = crate::lent::sizes_of(limits);
+    if !crate::lent::meets_limits(limits, n, config, tables, slots, timers, answer.len()) {
+        return Err(Refusal::Memory);
     }
+    let end = FRAME_AT + parts::frame_length(config);
+    inside(
+        limits,
+        frame,
+        &config[FRAME_AT..end],
+        tables,
+        slots,
+        timers,
+        answer,
+    )
 }
 
 // Sets the marks of all blocks.
@@ -143,7 +175,7 @@ fn begin(
     tell(tables, slots, shape, 0, answer);
 }
 
-// A configuration. Gives its number: 0 accepted, 11 where a lent block is short (then nothing is written).
+// A configuration. Where a lent block is short nothing is written.
 pub fn configure(
     limits: Limits,
     frame: &[u8],
@@ -152,10 +184,10 @@ pub fn configure(
     slots: &mut [u8],
     timers: &mut [u8],
     answer: &mut [u8],
-) -> u8
+) -> Result<(), Refusal>
     requires { Made (limits_of limits) }
     ensures { Configures (limits_of limits) frame.now (memory config.old tables.old slots.old timers.old answer.old)
-        (memory config.new tables.new slots.new timers.new answer.new) result }
+        (memory config.new tables.new slots.new timers.new answer.new) (number_in result) }
 {
     let n = crate::lent::sizes_of(limits);
     if !crate::lent::has_sizes(
@@ -166,13 +198,12 @@ pub fn configure(
         timers.len(),
         answer.len(),
     ) {
-        return 11;
+        return Err(Refusal::Memory);
     }
-    let number = configuration::frame::refusal_by(limits, frame);
-    if number != 0 {
-        answer::refuse_configuration(number, answer);
-        return number;
+    if let Err(refusal) = configuration::frame::refusal_by(limits, frame) {
+        answer::refuse_configuration(u8::from(refusal), answer);
+        return Err(refusal);
     }
     begin(limits, frame, config, tables, slots, timers, answer);
-    0
+    Ok(())
 }

@@ -1,11 +1,10 @@
 // The exported functions of the executive: the ride controller's, and those of the brake module, which has less memory.
 // Each gives the number: 0 accepted, 11 where the lent memory is short or, for a frame, broken; then nothing is written.
-// A frame's limits are tested in the entry itself, with numbers that the compiler knows; the rest is one function for both.
 ghost use Rattle.ledger.specs.Config as limits;
 ghost use Rattle.mcx11.specs.Contract.{memory, Configures, Frames};
 
 use configuration::limits::{brake_module, controller};
-use parts::FRAME_AT;
+use refusals::returned;
 
 // Configures the ride controller.
 pub fn mcx11_configure_blocks(
@@ -19,7 +18,15 @@ pub fn mcx11_configure_blocks(
     ensures { Configures limits.controller frame.now (memory config.old tables.old slots.old timers.old answer.old)
         (memory config.new tables.new slots.new timers.new answer.new) result }
 {
-    crate::by_limits::configure(controller(), frame, config, tables, slots, timers, answer)
+    returned(crate::by_limits::configure(
+        controller(),
+        frame,
+        config,
+        tables,
+        slots,
+        timers,
+        answer,
+    ))
 }
 
 // Carries out a frame on the ride controller.
@@ -34,21 +41,7 @@ pub fn mcx11_frame_blocks(
     ensures { Frames limits.controller frame.now (memory config.now tables.old slots.old timers.old answer.old)
         (memory config.now tables.new slots.new timers.new answer.new) result }
 {
-    let limits = controller();
-    let n = crate::lent::sizes_of(limits);
-    if !crate::lent::meets_limits(limits, n, config, tables, slots, timers, answer.len()) {
-        return 11;
-    }
-    let end = FRAME_AT + parts::frame_length(config);
-    crate::by_limits::frame(
-        limits,
-        frame,
-        &config[FRAME_AT..end],
-        tables,
-        slots,
-        timers,
-        answer,
-    )
+    returned(crate::by_limits::frame(controller(), frame, config, tables, slots, timers, answer))
 }
 
 // Configures the brake module.
@@ -63,7 +56,15 @@ pub fn mcx11_module_configure_blocks(
     ensures { Configures limits.brake_module frame.now (memory config.old tables.old slots.old timers.old answer.old)
         (memory config.new tables.new slots.new timers.new answer.new) result }
 {
-    crate::by_limits::configure(brake_module(), frame, config, tables, slots, timers, answer)
+    returned(crate::by_limits::configure(
+        brake_module(),
+        frame,
+        config,
+        tables,
+        slots,
+        timers,
+        answer,
+    ))
 }
 
 // Carries out a frame on the brake module.
@@ -78,19 +79,5 @@ pub fn mcx11_module_frame_blocks(
     ensures { Frames limits.brake_module frame.now (memory config.now tables.old slots.old timers.old answer.old)
         (memory config.now tables.new slots.new timers.new answer.new) result }
 {
-    let limits = brake_module();
-    let n = crate::lent::sizes_of(limits);
-    if !crate::lent::meets_limits(limits, n, config, tables, slots, timers, answer.len()) {
-        return 11;
-    }
-    let end = FRAME_AT + parts::frame_length(config);
-    crate::by_limits::frame(
-        limits,
-        frame,
-        &config[FRAME_AT..end],
-        tables,
-        slots,
-        timers,
-        answer,
-    )
+    returned(crate::by_limits::frame(brake_module(), frame, config, tables, slots, timers, answer))
 }

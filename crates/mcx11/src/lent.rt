@@ -5,14 +5,11 @@ ghost use Rattle.mailboxes.specs.Room.{sound_in};
 ghost use Rattle.ledger.specs.Config as limit;
 ghost use Rattle.configuration.specs.Limits.{limits_of, Made};
 ghost use Rattle.configuration.specs.Block.{counts_rule};
-ghost use Rattle.configuration.specs.declared.Lent.TheVariants as variants;
 ghost use Rattle.parts.specs.Parts.{part_at, frame_at, marked_by, part, kept_frame};
 ghost use Rattle.mcx11.specs.Contract.{sizes_of, config_mark, tables_mark, slots_mark, timers_mark};
 ghost use Rattle.mcx11.specs.Sizes.{sizes_in, RoomForMarks};
 ghost use Rattle.mcx11.specs.Tested.{MeetsLimits, Tested};
 
-use configuration::Lent;
-use configuration::frame::wide;
 use configuration::limits::Limits;
 use parts::{FRAME_AT, PART_AT};
 use tables::shape::{RECORDS_AT, Shape};
@@ -37,14 +34,15 @@ pub const SLOTS_MARK: u32 = 0x5358434D;
 pub const TIMERS_MARK: u32 = 0x5258434D;
 
 // The most that a configuration within the limits needs, with the marks.
+#[tactic(auto, unfolding(crate::specs::Contract::sizes_of))]
 pub fn sizes_of(limits: Limits) -> Sizes
     ensures { sizes_in result ≡ sizes_of (limits_of limits) }
 {
     let frame = configuration::limits::longest(limits);
-    let tasks = wide(limits.tasks);
-    let queues = wide(limits.queues);
-    let messages = wide(limits.messages);
-    let timers = wide(limits.timers);
+    let tasks = limits.tasks as usize;
+    let queues = limits.queues as usize;
+    let messages = limits.messages as usize;
+    let timers = limits.timers as usize;
     let bytes = limits.bytes as usize;
     Sizes {
         config: FRAME_AT + frame + 4,
@@ -66,22 +64,11 @@ pub fn has_sizes(
 ) -> bool
     ensures { result ≡ (leb n.config config && leb n.tables tables && leb n.slots slots && leb n.timers timers && leb n.answer answer) }
 {
-    if config < n.config {
-        return false;
-    }
-    if tables < n.tables {
-        return false;
-    }
-    if slots < n.slots {
-        return false;
-    }
-    if timers < n.timers {
-        return false;
-    }
-    if answer < n.answer {
-        return false;
-    }
-    true
+    n.config <= config
+        && n.tables <= tables
+        && n.slots <= slots
+        && n.timers <= timers
+        && n.answer <= answer
 }
 
 // Whether each block has its own mark at both ends.
@@ -90,16 +77,10 @@ fn is_marked(n: Sizes, config: &[u8], tables: &[u8], slots: &[u8], timers: &[u8]
     ensures { result ≡ (marked_by config_mark n.config config.now && marked_by tables_mark n.tables tables.now
         && marked_by slots_mark n.slots slots.now && marked_by timers_mark n.timers timers.now) }
 {
-    if !parts::is_marked(config, n.config, CONFIG_MARK) {
-        return false;
-    }
-    if !parts::is_marked(tables, n.tables, TABLES_MARK) {
-        return false;
-    }
-    if !parts::is_marked(slots, n.slots, SLOTS_MARK) {
-        return false;
-    }
-    parts::is_marked(timers, n.timers, TIMERS_MARK)
+    parts::is_marked(config, n.config, CONFIG_MARK)
+        && parts::is_marked(tables, n.tables, TABLES_MARK)
+        && parts::is_marked(slots, n.slots, SLOTS_MARK)
+        && parts::is_marked(timers, n.timers, TIMERS_MARK)
 }
 
 // How long the frame is that the block keeps, and how much there is of each.
@@ -125,42 +106,36 @@ pub fn meets_limits(
     requires { sizes_in n ≡ sizes_of (limits_of limits) }
     ensures { MeetsLimits (limits_of limits) config.now tables.now slots.now timers.now answer result }
 {
-    if !has_sizes(
+    has_sizes(
         n,
         config.len(),
         tables.len(),
         slots.len(),
         timers.len(),
         answer,
-    ) {
-        return false;
-    }
-    if !is_marked(n, config, tables, slots, timers) {
-        return false;
-    }
-    counts(limits, config)
+    ) && is_marked(n, config, tables, slots, timers)
+        && counts(limits, config)
 }
 
 // The messages of tables with this shape.
-fn by_messages(tables: &[u8], shape: Shape) -> Lent
+fn by_messages(tables: &[u8], shape: Shape) -> Option<Shape>
     requires { Fits shape shape.end × (part_at + shape.end ≤ length tables.now) }
-    ensures { result ≡ cond (sound_in shape (part shape.end tables.now)) (variants.Good shape) variants.Bad }
+    ensures { result ≡ cond (sound_in shape (part shape.end tables.now)) (Some shape) None }
 {
     let end = PART_AT + shape.end;
     if mailboxes::sound(&tables[PART_AT..end], shape) {
-        return Lent::Good(shape);
+        return Some(shape);
     }
-    Lent::Bad
+    None
 }
 
 // The rest: the shape of the frame that is kept, where it and the messages keep the rules.
-pub fn test(limits: Limits, kept: &[u8], tables: &[u8]) -> Lent
+pub fn test(limits: Limits, kept: &[u8], tables: &[u8]) -> Option<Shape>
     requires { Made (limits_of limits) × (counts_rule (limits_of limits) kept.now ≡ true) × ((sizes_of (limits_of limits)).tables ≤ length tables.now) }
     ensures { Tested (limits_of limits) kept.now tables.now result }
 {
-    let block = configuration::block::lent(limits, kept);
-    match block {
-        Lent::Bad => Lent::Bad,
-        Lent::Good(shape) => by_messages(tables, shape),
-    }
+    let Some(shape) = configuration::block::lent(limits, kept) else {
+        return None;
+    };
+    by_messages(tables, shape)
 }

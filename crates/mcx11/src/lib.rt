@@ -17,26 +17,28 @@ ghost use Rattle.ledger.specs.Lines as lines;
 ghost use Rattle.ledger.specs.Time as time;
 ghost use Rattle.stretch.specs.Busiest.{busiest_of, Gives};
 ghost use Rattle.starts.specs.Starts.{Leaves};
+ghost use Rattle.refusals.specs.Numbers.{number_of};
+ghost use Rattle.line.specs.Answers.{by_number};
 ghost use Rattle.mcx11.specs.Results.{refused, Returns, returned_tocks, of_written, Short};
 
-use line::Written;
+use refusals::Refusal;
 use starts::Cycle;
 use stretch::Record;
-use tocks::Tocks;
 
-fn refusal(number: u8) -> i32
-    ensures { result ≡ refused number }
+fn refused(refusal: Refusal) -> i32
+    ensures { result ≡ refused (number_of refusal) }
 {
-    -(number as i32)
+    -(refusal as i32)
 }
 
-fn returned(w: Written) -> i32
-    requires { Short w }
-    ensures { result ≡ of_written w }
+#[tactic(auto, unfolding(crate::specs::Results::of_written, crate::specs::Results::Short))]
+fn returned(answer: Result<usize, Refusal>) -> i32
+    requires { Short (by_number answer) }
+    ensures { result ≡ of_written (by_number answer) }
 {
-    match w {
-        Written::Refused(number) => refusal(number),
-        Written::Length(n) => n as i32,
+    match answer {
+        Ok(n) => n as i32,
+        Err(refusal) => refused(refusal),
     }
 }
 
@@ -55,12 +57,13 @@ pub fn mcx11_write_line(frame: &[u8], line: &mut [u8]) -> i32
 }
 
 // Milliseconds as tocks of per milliseconds each.
+#[tactic(auto, unfolding(crate::specs::Results::returned_tocks))]
 pub fn mcx11_milliseconds(ms: u16, per: u16) -> i32
     ensures { result ≡ returned_tocks (time.milliseconds ms per) }
 {
     match tocks::milliseconds(ms, per) {
-        Tocks::Are(n) => n as i32,
-        Tocks::Refused(number) => refusal(number),
+        Ok(n) => n as i32,
+        Err(refusal) => refused(refusal),
     }
 }
 

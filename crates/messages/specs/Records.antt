@@ -1,16 +1,17 @@
 -- Records and their bytes: what the searches find and what the changes of rows are on mailboxes.
-use Rattle.std.specs.Prelude.{◌≡◌, ℕ, ◌+◌, ◌-◌, ◌*◌, ◌<◌, ◌≤◌, Bool, true, false, cond, not, ◌&&◌, ◌||◌, ltb, List, [], ◌∷◌, map, length, get_or, ◌==◌, ◌≢◌, nat_eq, nat_lt, slice_index, slice_index_or}
+use Rattle.std.specs.Prelude.{◌≡◌, ℕ, ◌+◌, ◌-◌, ◌*◌, ◌<◌, ◌≤◌, Bool, true, false, cond, ◌&&◌, List, [], ◌∷◌, map, length, nat_eq, slice_index, slice_index_or, Option, None, Some, is_some}
 use Rattle.std.proofs.Math.Path.{refl, sym, ap}
-use Rattle.std.proofs.Common.{ap₂, ◌∙◌, add-zero, arith, eq-eqb, ne_eqb, le-leb}
+use Rattle.std.proofs.Common.{ap₂, ◌∙◌, add-zero, arith, le-leb, lt-ltb, le-ltb}
 use Rattle.std.proofs.Math.Option.{none, some}
 use Rattle.std.proofs.Math.ListN.{length-map, get_or-map}
 use Rattle.ledger.specs.Lists.{within, any, all, find}
 use Rattle.ledger.specs.Services.{wanted}
 use Rattle.rows.specs.Rows.{rows_of, insert_at, remove_at, get_d_row, get_d_rows, length_rows, map_insert_at}
-use Rattle.rows.specs.First.{first_of, map_remove_at, any_is}
+use Rattle.rows.specs.First.{map_remove_at, any_is}
 use Rattle.messages.specs.Lists.{all_insert, all_remove, any_map, any_ext}
-use Rattle.messages.specs.Pending.{Pending, to_task, addressed, letter, pending, receiver, pending_of, pending_at, pending_in, letter_at, numbers_in, for, mailbox_of, mailboxes_of, numbered, behind, place_for, wanted_by, place_of, occurs}
-use Rattle.messages.specs.Changes.{Inserted, Found, Removed, Taken}
+use Rattle.messages.specs.Pending.{Pending, to_task, addressed, letter, pending, receiver, pending_of, pending_at, pending_in, letter_at, numbers_in, mailbox_of, mailboxes_of, numbered, place_for, wanted_by, place_of, occurs}
+use Rattle.messages.specs.Searches.{Searched}
+use Rattle.messages.specs.Changes.{Inserted, FoundAt, Found, Removed, Taken}
 use Rattle.messages.specs.Mailboxes.{mailbox_insert, mailbox_insert_other, mailbox_remove, mailbox_remove_other, mailbox_find, mailbox_find_none, mailboxes_any}
 
 -- ---- the task that a receiver's byte means
@@ -27,21 +28,6 @@ module _ (T b : ℕ) where
       go true e = e
       go false e = rw (le-leb 1 T h)
 
-  module _ (t : ℕ) where
-    means_own : 1 ≤ t → t ≤ T → b ≡ t → true ≡ (receiver T b == t)
-    means_own l h e = sym (eq-eqb (receiver T b) t (means_task (omega arith) (omega arith) ∙ e))
-
-    means_other : (b ≢ t) → (t ≢ 1) → false ≡ (receiver T b == t)
-    means_other n m = go (within 1 T b)
-      where
-        go : (w : Bool) → false ≡ (cond w b 1 == t)
-        go true = sym (ne_eqb b t n)
-        go false = sym (ne_eqb 1 t (λ e. m (sym e)))
-
-    means_first : (b ≢ t) → t ≡ 1 → (w : Bool) → not w ≡ (cond w b 1 == t)
-    means_first n e true = sym (ne_eqb b t n)
-    means_first n e false = sym (eq-eqb 1 t (sym e))
-
 -- ---- records, byte by byte
 
 module _ (T : ℕ) where
@@ -53,11 +39,11 @@ module _ (T : ℕ) where
   unfolding pending_in pending_at
   pending_at_lem n k d h = get_or-map (pending_of T) (rows_of 4 n d) k [] ∙ ap (pending_of T) (get_d_rows 4 n k d h)
 
-  pending_bytes : (k : ℕ) (d : List ℕ)
-      → pending (receiver T (slice_index d (k * 4))) (slice_index d (k * 4 + 1)) (slice_index d (k * 4 + 2)) (slice_index d (k * 4 + 3)) ≡ pending_at T k d
+  pub pending_bytes : (k : ℕ) (d : List ℕ)
+      → pending_at T k d ≡ pending (receiver T (slice_index d (k * 4))) (slice_index d (k * 4 + 1)) (slice_index d (k * 4 + 2)) (slice_index d (k * 4 + 3))
   unfolding pending_at
   pending_bytes k d =
-      sym (simp (get_d_row 4 k 0 d (omega arith), get_d_row 4 k 1 d (omega arith), get_d_row 4 k 2 d (omega arith), get_d_row 4 k 3 d (omega arith), add-zero))
+      simp (get_d_row 4 k 0 d (omega arith), get_d_row 4 k 1 d (omega arith), get_d_row 4 k 2 d (omega arith), get_d_row 4 k 3 d (omega arith), add-zero)
 
 pub letter_bytes : (k : ℕ) (d : List ℕ) → letter (slice_index d (k * 4 + 1)) (slice_index d (k * 4 + 2)) (slice_index d (k * 4 + 3)) ≡ letter_at k d
 unfolding letter_at
@@ -72,59 +58,31 @@ unfolding numbers_in
 number_at n k d h =
     get_or-map (λ (r : List ℕ). slice_index r 1) (rows_of 4 n d) k [] ∙ ap (λ (r : List ℕ). slice_index r 1) (get_d_rows 4 n k d h) ∙ get_d_row 4 k 1 d (omega arith)
 
--- ---- record k, tested by its bytes
-
-module _ (T k : ℕ) (d : List ℕ) (t : ℕ) where
-  for_read : nat_eq (receiver T (slice_index d (k * 4))) t ≡ for t (pending_at T k d)
-  for_read = ap (for t) (pending_bytes T k d)
-
-  pub for_own : 1 ≤ t → t ≤ T → slice_index d (k * 4) ≡ t → true ≡ for t (pending_at T k d)
-  for_own l h e = means_own T (slice_index d (k * 4)) t l h e ∙ for_read
-
-  pub for_other : (slice_index d (k * 4) ≢ t) → (t ≢ 1) → false ≡ for t (pending_at T k d)
-  for_other n m = means_other T (slice_index d (k * 4)) t n m ∙ for_read
-
-  pub for_first : (slice_index d (k * 4) ≢ t) → t ≡ 1 → {w : Bool} → w ≡ within 1 T (slice_index d (k * 4)) → not w ≡ for t (pending_at T k d)
-  for_first n e q = ap not q ∙ means_first T (slice_index d (k * 4)) t n e (within 1 T (slice_index d (k * 4))) ∙ for_read
-
-  -- once that is told
-  module _ {f : Bool} (r : f ≡ for t (pending_at T k d)) where
-    module _ (e : f ≡ false) where
-      pub behind_other : (s : ℕ) → false ≡ behind t s (pending_at T k d)
-      behind_other s = sym (rw (sym r ∙ e))
-
-      pub wanted_other : (a : ℕ) → false ≡ wanted_by t a (pending_at T k d)
-      wanted_other a = sym (rw (sym r ∙ e))
-
-    module _ (e : f ≡ true) where
-      sender_read : get_or d (k * 4 + 2) 0 ≡ (pending_at T k d).message.sender
-      sender_read = ap (λ (p : Pending). p.message.sender) (pending_bytes T k d)
-
-      pub behind_own : (s : ℕ) → nat_lt s (slice_index d (k * 4 + 2)) ≡ behind t s (pending_at T k d)
-      behind_own s = ap (ltb s) sender_read ∙ sym (rw (sym r ∙ e))
-
-      pub wanted_own : (a : ℕ) (b : Bool) → b ≡ (a == 0 || a == slice_index d (k * 4 + 2)) → b ≡ wanted_by t a (pending_at T k d)
-      unfolding wanted
-      wanted_own a b q = q ∙ ap (λ (x : ℕ). (a == 0) || a == x) sender_read ∙ sym (rw (sym r ∙ e))
-
 -- ---- what a search has found
 
-module _ (T n t a k : ℕ) (d : List ℕ) (f : Found T n t a d k) where
-  same_letter : (pending_at T k d).message ≡ letter_at k d
-  unfolding pending_at letter_at
-  same_letter = refl
+module _ (T n t a : ℕ) (d : List ℕ) where
+  module _ (k : ℕ) (f : FoundAt T n t a d k) where
+    same_letter : (pending_at T k d).message ≡ letter_at k d
+    unfolding pending_at letter_at
+    same_letter = refl
 
-  pub found_some : k < n → find (wanted a) (mailbox_of t (pending_in T n d)) ≡ some (letter_at k d)
-  found_some h =
-      mailbox_find t a (pending_in T n d) (pending_of T []) (rw (pending_length, ← f.place) h)
-      ∙ rw (← f.place) (ap (λ (p : Pending). some p.message) (pending_at_lem T n k d h)) ∙ ap some same_letter
+    pub found_some : find (wanted a) (mailbox_of t (pending_in T n d)) ≡ some (letter_at k d)
+    found_some =
+        mailbox_find t a (pending_in T n d) (pending_of T []) (rw (pending_length, ← f.place) f.inside)
+        ∙ rw (← f.place) (ap (λ (p : Pending). some p.message) (pending_at_lem T n k d f.inside)) ∙ ap some same_letter
 
-  pub found_none : n ≤ k → find (wanted a) (mailbox_of t (pending_in T n d)) ≡ none
-  found_none h = mailbox_find_none t a (pending_in T n d) (rw (pending_length, ← f.place) h)
+  pub found_none : place_of t a (pending_in T n d) ≡ n → find (wanted a) (mailbox_of t (pending_in T n d)) ≡ none
+  found_none e = mailbox_find_none t a (pending_in T n d) (rw (pending_length, e) (omega arith))
 
--- the number x occurs: the search for it ended before n
-pub found_number : (n x k : ℕ) (d : List ℕ) → k ≡ first_of (λ y. nat_eq y x) (numbers_in n d) → occurs x (numbers_in n d) ≡ nat_lt k n
-found_number n x k d e = any_is (λ y. nat_eq y x) (numbers_in n d) ∙ rw (number_length, ← e)
+  pub found_first : (place : Option ℕ) {looked : ℕ} → Searched (wanted_by t a) (pending_in T n d) place looked → Found T n t a d place
+  unfolding place_of
+  found_first None s = s.found ∙ pending_length T n d
+  found_first (Some k) s = record { place = s.found.0; inside = omega (arith, s.found.1, pending_length T n d) }
+
+-- the number x occurs just where the search for it gave a place
+pub found_number : (n x : ℕ) (d : List ℕ) (place : Option ℕ) {looked : ℕ} → Searched (λ y. nat_eq y x) (numbers_in n d) place looked → is_some place ≡ occurs x (numbers_in n d)
+found_number n x d None s = sym (any_is (λ y. nat_eq y x) (numbers_in n d) ∙ le-ltb _ _ (omega (arith, s.found)))
+found_number n x d (Some k) s = sym (any_is (λ y. nat_eq y x) (numbers_in n d) ∙ lt-ltb _ _ (omega (arith, s.found.0, s.found.1)))
 
 -- then the message x lies in a mailbox: every record does
 pub held_is : (T n x : ℕ) (d : List ℕ) → 1 ≤ T → any (any (numbered x)) (mailboxes_of T (pending_in T n d)) ≡ occurs x (numbers_in n d)
@@ -160,11 +118,11 @@ removed n k d d' e T = (
   λ h. ap (all (to_task T)) e ∙ all_remove (to_task T) k (rows_of 4 n d) h,
 )
 
-pub taken : (T n t a k : ℕ) (d d' : List ℕ) → Found T n t a d k → k < n → pending_in T (n - 1) d' ≡ remove_at k (pending_in T n d) → Taken T n t a d d'
-taken T n t a k d d' f h e =
+pub taken : (T n t a k : ℕ) (d d' : List ℕ) → FoundAt T n t a d k → pending_in T (n - 1) d' ≡ remove_at k (pending_in T n d) → Taken T n t a d d'
+taken T n t a k d d' f e =
     let l : List Pending = pending_in T n d in
     let q : pending_in T (n - 1) d' ≡ remove_at (place_of t a l) l = e ∙ ap (λ (i : ℕ). remove_at i l) f.place in
-    let i : place_of t a l < length l = rw (pending_length, ← f.place) h in
+    let i : place_of t a l < length l = rw (pending_length, ← f.place) f.inside in
     record {
       own = ap (mailbox_of t) q ∙ mailbox_remove t a l;
       others = λ u ne. ap (mailbox_of u) q ∙ mailbox_remove_other t a l u ne i;

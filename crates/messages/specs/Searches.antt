@@ -1,6 +1,6 @@
 -- A search looks at one item after the other until one passes, and counts each that it looks at.
 -- It looks at no more messages than lie, and no more lie than there is room for: its count never passes G.
-use Rattle.std.specs.Prelude.{◌≡◌, ℕ, suc, ◌/◌, ◌≤◌, Bool, true, false, cond, List, [], ◌∷◌, length, nat_eq, refl}
+use Rattle.std.specs.Prelude.{◌≡◌, ℕ, suc, ◌+◌, ◌/◌, ◌<◌, ◌≤◌, Bool, true, false, cond, List, [], ◌∷◌, length, nat_eq, refl, Option, MatchOption, unwrap_or}
 use Rattle.std.proofs.Common.{arith}
 use Rattle.rows.specs.First.{first_of}
 
@@ -28,10 +28,15 @@ pub record Looks : Type 0 where
 pub looks : Looks
 looks = record { where_none_lie = refl; the_first_passes = refl; the_last_passes = refl; none_passes = refl }
 
--- what a search in l gives: where the first that passes lies, the length if none does, and how many items it looked at
-pub record Searched {A : Type 0} (p : A → Bool) (l : List A) (place looked : ℕ) : Type 0 where
-  pub found : place ≡ first_of p l
+-- what a search in l gives: where the first that passes lies, if one does, and how many items it looked at
+pub record Searched {A : Type 0} (p : A → Bool) (l : List A) (place : Option ℕ) (looked : ℕ) : Type 0 where
+  pub found : MatchOption place (first_of p l ≡ length l) (λ k. (k ≡ first_of p l) × (k < length l))
   pub counted : looked ≡ looked_at p l
+
+-- the same by what a test answered of n items, where `said k b` is that it answers b of item k
+pub record Answered (said : ℕ → Bool → Type 0) (n : ℕ) (place : Option ℕ) (looked : ℕ) : Type 0 where
+  pub before : (k : ℕ) → k < unwrap_or place n → said k false
+  pub found : MatchOption place (looked ≡ n) (λ k. (k < n) × (looked ≡ k + 1) × said k true)
 
 module _ {A : Type 0} (p : A → Bool) where
   -- no more are looked at than there are

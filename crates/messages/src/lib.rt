@@ -1,16 +1,15 @@
 // The pending messages of all mailboxes: n records of four bytes (receiver, number, sender, semaphore) at the start of a lent slice.
 // A receiver that is none of the tasks is read as task 1, so that every record lies in a mailbox.
+// n goes beside the slice, as it lies elsewhere in the lent memory, and `never_past` speaks of the room that the slice has for more.
 // Promises what each search finds, its count never past G, and what each change makes of every mailbox, in the ledger's own functions.
 // Rests on the crates ledger (what a mailbox is) and rows (records put in and taken out).
 #![tactic(auto)]
 
-pub mod number;
-pub mod place;
-pub mod sender;
+pub mod search;
 
 ghost use Rattle.std.specs.Prelude.{◌≡◌, ◌+◌, ◌-◌, ◌*◌, ◌^◌, ◌<◌, ◌≤◌, length, bit_or};
 ghost use Rattle.ledger.specs.Lists.{within};
-ghost use Rattle.messages.specs.Pending.{letter, letter_at, pending, pending_at, for, numbers_in, occurs, complete_in};
+ghost use Rattle.messages.specs.Pending.{letter, letter_at, pending, numbers_in, occurs, complete_in};
 ghost use Rattle.messages.specs.Changes.{Inserted, Found, Removed};
 ghost use Rattle.messages.specs.Searches.{Bounded};
 
@@ -23,6 +22,7 @@ pub struct Message {
 }
 
 // The message in record k.
+#[tactic(auto, using(crate::specs::Records::letter_bytes))]
 pub fn load(b: &[u8], k: usize) -> Message
     requires { k * 4 + 4 ≤ length b.now }
     ensures { letter result.number result.sender result.semaphore ≡ letter_at k b.now }
@@ -35,34 +35,11 @@ pub fn load(b: &[u8], k: usize) -> Message
     }
 }
 
-// What a search gives: the place of the first message that passes its test, n if none does, and how many messages it looked at.
-// It counts in a byte, one for each message looked at, whichever task that is for.
-#[derive(Clone, Copy)]
-pub struct Search {
-    pub place: usize,
-    pub looked: u8,
-}
-
-// Whether a number is 1 to top.
+// Whether a number is 1 to top. Less 1 and wrapped, 0 is past every top: one compare, where `(1..=top).contains` makes two for each record.
 fn is_within(x: u8, top: usize) -> bool
     ensures { result ≡ within 1 top x }
 {
     (x as usize).wrapping_sub(1) < top
-}
-
-// Whether record k is for task `to`: its receiver is that number, or is no task, which means task 1.
-// For another task than 1, a record for others costs one compare.
-pub fn is_for(b: &[u8], k: usize, tasks: usize, to: u8) -> bool
-    requires { (k * 4 + 4 ≤ length b.now) × (1 ≤ to) × (to ≤ tasks) }
-    ensures { result ≡ for to (pending_at tasks k b.now) }
-{
-    if b[k * 4] == to {
-        return true;
-    }
-    if to != 1 {
-        return false;
-    }
-    !is_within(b[k * 4], tasks)
 }
 
 // Puts a message in behind those of the same receiver from the same or a lower sender.
@@ -70,18 +47,20 @@ pub fn insert(b: &mut [u8], n: usize, tasks: usize, to: u8, number: u8, sender: 
     requires { Bounded (n + 1) b.old × (1 ≤ to) × (to ≤ tasks) }
     ensures { Inserted tasks n (pending to number sender semaphore) b.old b.new }
 {
-    let s = place::search(b, n, tasks, to, sender);
-    let row = [to, number, sender, semaphore];
-    rows::insert_at(b, n, 4, s.place, &row);
+    // A match, here and in `holds`: `unwrap_or` and `is_some` are calls, of code that the theorems about runs can't name.
+    let place = match search::place(b, n, tasks, to, sender).place {
+        Some(k) => k,
+        None => n,
+    };
+    rows::insert_at(b, n, 4, place, &[to, number, sender, semaphore]);
 }
 
-// The place of the first message for task `to` that is from `from`, or from any if that is 0; n if there is none.
-pub fn find(b: &[u8], n: usize, tasks: usize, to: u8, from: u8) -> usize
+// The place of the first message for task `to` that is from `from`, or from any if that is 0, if there is one.
+pub fn find(b: &[u8], n: usize, tasks: usize, to: u8, from: u8) -> Option<usize>
     requires { Bounded n b.now × (1 ≤ to) × (to ≤ tasks) }
     ensures { Found tasks n to from b.now result }
 {
-    let s = sender::search(b, n, tasks, to, from);
-    s.place
+    search::sender(b, n, tasks, to, from).place
 }
 
 // Takes record k out; the records behind it move up.
@@ -97,8 +76,7 @@ pub fn holds(b: &[u8], n: usize, number: u8) -> bool
     requires { Bounded n b.now }
     ensures { result ≡ occurs number (numbers_in n b.now) }
 {
-    let s = number::search(b, n, number);
-    s.place < n
+    matches!(search::number(b, n, number).place, Some(_))
 }
 
 // The numbers seen, bit x - 1 for x, with one more.
@@ -115,14 +93,12 @@ pub fn complete(b: &[u8], n: usize, most: usize) -> bool
     ensures { result ≡ complete_in most (numbers_in n b.now) }
 {
     let mut seen: u64 = 0;
-    let mut k = 0;
-    while k < n {
+    for k in 0..n {
         let x = b[k * 4 + 1];
         if !is_within(x, most) {
             return false;
         }
         seen = with(seen, x as usize);
-        k += 1;
     }
     u64::count_ones(seen) == n as u32
 }

@@ -1,6 +1,6 @@
 // A lent block: a mark at both ends of its size, and between them the part that a configuration needs.
 // Promises: a block is marked exactly where both marks stand; what marks a block or keeps a frame changes the bytes named and no other.
-// Rests on rows, for copies and numbers of four bytes.
+// Rests on rows, for copies and numbers of bytes.
 #![tactic(auto)]
 
 ghost use Rattle.std.specs.Prelude.{◌≡◌, ◌+◌, ◌*◌, ◌≤◌, eqb, length};
@@ -27,10 +27,7 @@ pub fn is_marked(block: &[u8], size: usize, mark: u32) -> bool
     requires { (8 ≤ size) × (size ≤ length block.now) }
     ensures { result ≡ marked_by mark size block.now }
 {
-    if !stands(block, 0, mark) {
-        return false;
-    }
-    stands(block, size - 4, mark)
+    stands(block, 0, mark) && stands(block, size - 4, mark)
 }
 
 // Sets both marks.
@@ -42,18 +39,12 @@ pub fn mark_ends(block: &mut [u8], size: usize, mark: u32)
     rows::put4(block, size - 4, mark);
 }
 
-fn word(high: u8, low: u8) -> usize
-    ensures { (result ≡ 256 * high + low) × (result ≤ 65535) }
-{
-    256 * (high as usize) + low as usize
-}
-
 // The length of the frame that the block keeps, high byte first.
 pub fn frame_length(config: &[u8]) -> usize
     requires { frame_at ≤ length config.now }
     ensures { (result ≡ lists.word part_at config.now) × (result ≤ 65535) }
 {
-    word(config[PART_AT], config[PART_AT + 1])
+    rows::word(config[PART_AT], config[PART_AT + 1]) as usize
 }
 
 // Keeps a frame in the block, its length before it.

@@ -4,7 +4,7 @@
 #![tactic(auto)]
 
 ghost use Rattle.std.specs.Prelude.{◌≡◌, ◌+◌, ◌-◌, ◌*◌, ◌≤◌, length, set};
-ghost use Rattle.tables.specs.Decode.{head_of, count_of};
+ghost use Rattle.tables.specs.Decode.{head_of};
 ghost use Rattle.tables.specs.Layout.{OneOf, Fits};
 ghost use Rattle.tables.specs.Shows.{DoesIf};
 ghost use Rattle.ledger.specs.Services.{put_entry};
@@ -12,6 +12,7 @@ ghost use Rattle.ledger.specs.Refusals.{on_not_empty, on_not_full, meets21};
 ghost use Rattle.queues.specs.Rings.{RingFits, HasRoom, head_in, count_in, TellsRing, Takes};
 ghost use Rattle.queues.specs.Waits.{not_full_of};
 
+use tables::counts::count_of;
 use tables::shape::Shape;
 use tables::tasks::Outcome;
 
@@ -23,28 +24,12 @@ pub struct Ring {
     pub base: usize,
 }
 
-fn wide(x: u8) -> usize
-    ensures { result ≡ x }
-{
-    x as usize
-}
-
-fn head_of(depth: usize, x: usize) -> usize
+// A byte that names a place in a ring, the first where it names none.
+fn head_of(depth: usize, x: u8) -> usize
     ensures { result ≡ head_of depth x }
 {
-    if x < depth {
-        return x;
-    }
-    0
-}
-
-fn count_of(most: usize, x: usize) -> usize
-    ensures { result ≡ count_of most x }
-{
-    if x <= most {
-        return x;
-    }
-    most
+    let at = x as usize;
+    if at < depth { at } else { 0 }
 }
 
 // The place of the oldest entry.
@@ -53,7 +38,7 @@ fn head(tables: &[u8], shape: Shape, ring: Ring, q: u8) -> usize
     ensures { result ≡ head_in shape ring tables.now (q - 1) }
 {
     let at = shape.ringat + (q as usize - 1) * 2;
-    head_of(ring.depth, wide(tables[at]))
+    head_of(ring.depth, tables[at])
 }
 
 // How many entries a queue holds.
@@ -62,7 +47,7 @@ pub fn count(tables: &[u8], shape: Shape, ring: Ring, q: u8) -> usize
     ensures { result ≡ count_in shape ring tables.now (q - 1) }
 {
     let at = shape.ringat + (q as usize - 1) * 2 + 1;
-    count_of(ring.depth, wide(tables[at]))
+    count_of(ring.depth, tables[at])
 }
 
 // The semaphore not-full of a queue; not-empty is the one before it.

@@ -10,10 +10,7 @@ ghost use Rattle.rings.specs.Ring.{wrap_of, holds};
 fn wrap(x: usize, depth: usize) -> usize
     ensures { result ≡ wrap_of depth x }
 {
-    if x < depth {
-        return x;
-    }
-    x - depth
+    if x < depth { x } else { x - depth }
 }
 
 // Puts an entry of w bytes behind those that the ring holds.

@@ -11,6 +11,7 @@ use Rattle.rows.proofs.insert_at.Symbol as insert_at
 use Rattle.rows.proofs.put4.Symbol as put4
 use Rattle.rows.proofs.remove_at.Symbol as remove_at
 use Rattle.rows.proofs.replace_at.Symbol as replace_at
+use Rattle.rows.proofs.word.Symbol as word
 
 pub the_table : Tree
 the_table = link.table
@@ -42,3 +43,7 @@ remove_at_linked W h = link.linked-rows::remove_at W h tt
 pub replace_at_linked : (W : World) → Holds W "rows" the_table → HasT (in_world W) true replace_at.code
 unfolding the_table
 replace_at_linked W h = link.linked-rows::replace_at W h tt
+
+pub word_linked : (W : World) → Holds W "rows" the_table → HasT (in_world W) true word.code
+unfolding the_table
+word_linked W h = link.linked-rows::word W h tt

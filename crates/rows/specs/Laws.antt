@@ -3,7 +3,7 @@ use Rattle.std.specs.Prelude.{◌≡◌, List, [], ◌∷◌, ◌++◌, ℕ, zer
 use Rattle.std.proofs.Common.{sym, ap, ◌∙◌, subst, append_assoc, append-nil, add_assoc, add-one, arith, drop_of_length-le, length-append, length-take, length-drop, take-append-drop, inl, inr, take_at, length-take-le, drop-cons, take-suc, get_or-take, get_or-drop, get_or-append-add, take-take, take-add, drop-drop, drop_at}
 use Rattle.std.proofs.Math.ListN.{get_or-append}
 use Rattle.std.proofs.lemmas.List.Edits.{sets-eq}
-use Rattle.std.proofs.Math.Seq.{take-nil, take-length, paste, paste-suc, length_paste_head}
+use Rattle.std.proofs.Math.Seq.{take-nil, take-length, paste, paste-zero, paste-suc, length_paste_head}
 use Rattle.std.proofs.lemmas.List.{set_at, take-append-le, drop-append-le}
 use borrow.Rule.Slice.PartMut.{put_mid}
 use Rattle.rows.specs.Splice.{cut, splice}
@@ -83,17 +83,29 @@ module _ (d₀ d : List ℕ) (i to w : ℕ) (room : to + w ≤ length d₀) (now
   pub raised_end : (from : ℕ) → from ≤ i → i ≤ from → i ≤ to → d ≡ splice d₀ (from + w) (cut d₀ from to)
   raised_end from h k l = let e : i ≡ from = omega arith in now ∙ rw e (raised_is d₀ from to w (omega arith) room)
 
-module _ (d₀ d : List ℕ) (from to w j : ℕ) (room : to ≤ length d₀) (fits : from + w ≤ to) (now : d ≡ paste d₀ from (drop (from + w) d₀) j) where
-  pub lowered_turn : j < to - from - w → set d (from + j) (get_or d (from + j + w) 0) ≡ paste d₀ from (drop (from + w) d₀) (j + 1)
-  lowered_turn h =
+pub lowered_zero : (d : List ℕ) (from w : ℕ) → d ≡ paste d from (drop (from + w) d) (from - from)
+lowered_zero d from w =
+    let z : from - from ≡ 0 = omega arith in
+    rw z (paste-zero d from (drop (from + w) d))
+
+module _ (d₀ d : List ℕ) (from to w i : ℕ) (room : to ≤ length d₀) (fits : from + w ≤ to) (now : d ≡ paste d₀ from (drop (from + w) d₀) (i - from)) where
+  pub lowered_turn : from ≤ i → i < to - w → set d i (get_or d (i + w) 0) ≡ paste d₀ from (drop (from + w) d₀) (i + 1 - from)
+  lowered_turn f h =
+      let j : ℕ = i - from in
       let len : j < length (drop (from + w) d₀) = simp length-drop (omega arith) in
+      let at : i ≡ from + j = omega arith in
       let e : from + j + w ≡ from + w + j = omega arith in
+      let s : i + 1 - from ≡ suc j = omega arith in
       let g : get_or d (from + j + w) 0 ≡ get_or (drop (from + w) d₀) j 0 =
       rw now (ahead d₀ from (drop (from + w) d₀) j w (omega arith) (omega arith)) ∙ ap (λ (n : ℕ). get_or d₀ n 0) e ∙ sym (get_or-drop (from + w) d₀ j 0) in
-      rw (g, now, add-one) (paste-suc d₀ from (drop (from + w) d₀) j 0 (omega arith) len)
+      ap (λ (k : ℕ). set d k (get_or d (k + w) 0)) at
+      ∙ ap (λ (v : ℕ). set d (from + j) v) g
+      ∙ ap (λ (l : List ℕ). set l (from + j) (get_or (drop (from + w) d₀) j 0)) now
+      ∙ paste-suc d₀ from (drop (from + w) d₀) j 0 (omega arith) len
+      ∙ ap (paste d₀ from (drop (from + w) d₀)) (sym s)
 
-  pub lowered_end : j ≤ to - from - w → to - from - w ≤ j → d ≡ splice d₀ from (cut d₀ (from + w) to)
-  lowered_end h k = let e : j ≡ to - (from + w) = omega arith in now ∙ rw e (paste_cut d₀ from (from + w) to room)
+  pub lowered_end : to - w ≤ i → i ≤ to - w → d ≡ splice d₀ from (cut d₀ (from + w) to)
+  lowered_end h k = let e : i - from ≡ to - (from + w) = omega arith in now ∙ rw e (paste_cut d₀ from (from + w) to room)
 
 -- ---- a splice into a splice: the part behind is moved first, then the part before it is written
 pub splice_splice : (d : List ℕ) (a w : ℕ) (s m : List ℕ) → length s ≡ w → a + w + length m ≤ length d → splice (splice d (a + w) m) a s ≡ splice d a (s ++ m)

@@ -7,7 +7,6 @@ ghost use Rattle.ledger.specs.Ledger as ledger;
 ghost use Rattle.ledger.specs.Services as ledger_services;
 ghost use Rattle.ledger.specs.Dropped.{drop_first};
 
-use mailboxes::Received;
 use tables::blocks::Block;
 use tables::shape::Shape;
 use tables::tasks::{Outcome, Request};
@@ -33,14 +32,14 @@ pub fn receive(tables: &mut [u8], shape: Shape, t: u8, from: u8)
     requires { Fits shape (length tables.old) × OneOf shape.tasks t }
     ensures { Does shape tables.old tables.new (λ c L. ledger_services.issue c t (ledger.receive from) L) }
 {
-    let r = mailboxes::take(tables, shape, t, from);
-    match r {
-        Received::Nothing => {
+    match mailboxes::take(tables, shape, t, from) {
+        None => {
             tables::blocks::set(tables, shape, t, Block::Message, true);
             tables::tasks::store_request(tables, shape, t, Request::Receive(from));
         }
-        Received::Message(x, s, b) => {
-            tables::tasks::store_outcome(tables, shape, t, Outcome::Message(x, s, b));
+        Some(m) => {
+            let outcome = Outcome::Message(m.number, m.sender, m.semaphore);
+            tables::tasks::store_outcome(tables, shape, t, outcome);
         }
     }
 }
@@ -51,14 +50,11 @@ fn drop_first(tables: &mut [u8], shape: Shape, t: u8) -> bool
     ensures does { Does shape tables.old tables.new (λ c L. drop_first t (ledger.mailbox L t) L) }
     ensures tells { Tells shape tables.old (λ c L. ltb 0 (length (ledger.mailbox L t))) result }
 {
-    let r = mailboxes::take(tables, shape, t, 0);
-    match r {
-        Received::Nothing => false,
-        Received::Message(_, _, b) => {
-            crate::semaphore::signal(tables, shape, b);
-            true
-        }
-    }
+    let Some(message) = mailboxes::take(tables, shape, t, 0) else {
+        return false;
+    };
+    crate::semaphore::signal(tables, shape, message.semaphore);
+    true
 }
 
 // Nobody will receive the messages in the mailbox of task t: each is taken out, in mailbox order, and its semaphore signalled.
@@ -67,11 +63,9 @@ pub fn drop_messages(tables: &mut [u8], shape: Shape, t: u8)
     requires { Fits shape (length tables.old) × OneOf shape.tasks t }
     ensures { Does shape tables.old tables.new (λ c L. ledger_services.drop_messages t L) }
 {
-    let mut left = shape.messages;
-    while left > 0 {
+    for _ in 0..shape.messages {
         if !drop_first(tables, shape, t) {
             return;
         }
-        left -= 1;
     }
 }

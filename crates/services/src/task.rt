@@ -51,7 +51,7 @@ pub fn terminate(tables: &mut [u8], timers: &mut [u8], shape: Shape, a: u8)
     ensures { DoesWithTimers shape tables.old timers.old tables.new timers.new (λ c L. ledger.terminate a L) }
 {
     tables::semaphores::withdraw(tables, shape, a);
-    clock::purge(timers, shape, a, true, 0);
+    clock::purge(timers, shape, a, None);
     crate::message::drop_messages(tables, shape, a);
     let idle = Blocks {
         idle: true,

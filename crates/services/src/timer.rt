@@ -31,10 +31,8 @@ pub fn tick(tables: &mut [u8], timers: &mut [u8], shape: Shape)
     ensures { DoesWithTimers shape tables.old timers.old tables.new timers.new (λ c L. ledger.tick c L) }
 {
     let n = clock::advance(tables, timers, shape);
-    let mut k: usize = 0;
-    while k < n {
+    for _ in 0..n {
         let b = clock::take_due(timers, shape);
         crate::semaphore::signal(tables, shape, b);
-        k += 1;
     }
 }

@@ -3,43 +3,44 @@
 // Rests on feeding, whose theorem `session` is about every list of blocks, and on std's streams to read and write.
 #![tactic(auto)]
 
-ghost use Rattle.std.specs.Prelude.{◌≤◌, length};
+ghost use Rattle.std.specs.Prelude.{◌≤◌, length, IfOk};
 ghost use Rattle.feeding.specs.Line.{most};
+ghost use Rattle.session.specs.Few.{HoldsFew};
 
 use feeding::{HELD, Reached, Stage};
 use std::io::{Read, Write};
 
-// How far the input is fed, whether there is more of it to feed, and whether its end was met.
+// What a block leads to: more of the input is to be fed; its end was met; or a refused configuration has ended the session.
 #[derive(Clone, Copy)]
-struct Fed {
-    reached: Reached,
-    more: bool,
-    ended: bool,
+enum Fed {
+    Part(Reached),
+    Whole(Reached),
+    Refused,
 }
 
-// Whether another line can be answered.
-fn goes_on(stage: Stage) -> bool {
-    match stage {
-        Stage::First => true,
-        Stage::Running => true,
-        Stage::Ended => false,
-    }
+// What went wrong.
+#[derive(Clone, Copy)]
+enum Failure {
+    Input,
+    Output,
 }
 
-// Says what went wrong, with a line's end, to standard error. Where that fails too, nobody can be told.
-fn complain(rt: &HostRuntime, what: &[u8]) {
-    let _ = rt.stderr().write_all(what).is_ok();
+// Says what went wrong, to standard error. Where that fails too, nobody can be told.
+fn complain(rt: &HostRuntime, failure: Failure) {
+    let what = match failure {
+        Failure::Input => "session: the input cannot be read\n",
+        Failure::Output => "session: the output cannot be written\n",
+    };
+    let _ = rt.stderr().write_all(what.as_bytes());
 }
 
 // Writes what was printed.
-fn write_out(rt: &HostRuntime, out: &[u8], printed: usize) -> bool
+fn write_out(rt: &HostRuntime, out: &[u8], printed: usize) -> Result<(), Failure>
     requires { printed ≤ length out.now }
 {
-    let written = rt.stdout().write_all(&out[..printed]).is_ok();
-    if !written {
-        complain(rt, b"session: the output cannot be written\n");
-    }
-    written
+    rt.stdout()
+        .write_all(&out[..printed])
+        .map_err(|_| Failure::Output)
 }
 
 // Reads a block, feeds it and writes what was printed. An error is not the end of the input, and no line ends with it.
@@ -53,19 +54,13 @@ fn turn(
     timers: &mut [u8; 659],
     answer: &mut [u8; 21],
     out: &mut [u8; 335872],
-) -> Fed
+) -> Result<Fed, Failure>
     requires { reached.held ≤ most }
-    ensures { result.reached.held ≤ most }
+    ensures { IfOk result HoldsFew }
 {
     let mut input = [0u8; 8192];
-    let got = rt.stdin().read(&mut input);
-    let Ok(n) = got else {
-        complain(rt, b"session: the input cannot be read\n");
-        return Fed {
-            reached: reached,
-            more: false,
-            ended: false,
-        };
+    let Ok(n) = rt.stdin().read(&mut input) else {
+        return Err(Failure::Input);
     };
     let from = feeding::next_block(reached);
     let r = feeding::feed(
@@ -79,14 +74,13 @@ fn turn(
         answer,
         out,
     );
-    let written = write_out(rt, out, r.printed);
-    let stage = r.stage;
-    let more = n > 0 && written && goes_on(stage);
-    let ended = n == 0 && written;
-    Fed {
-        reached: r,
-        more: more,
-        ended: ended,
+    write_out(rt, out, r.printed)?;
+    if n == 0 {
+        return Ok(Fed::Whole(r));
+    }
+    match r.stage {
+        Stage::Ended => Ok(Fed::Refused),
+        _ => Ok(Fed::Part(r)),
     }
 }
 
@@ -101,17 +95,16 @@ fn end(
     timers: &mut [u8; 659],
     answer: &mut [u8; 21],
     out: &mut [u8; 335872],
-)
+) -> Result<(), Failure>
     requires { reached.held ≤ most }
 {
     let last = feeding::next_block(reached);
     let printed = feeding::finish(last, line, config, tables, slots, timers, answer, out);
-    write_out(rt, out, printed);
+    write_out(rt, out, printed)
 }
 
-// Feeds all of the input. A proved loop has to end, and nothing says that an input does, so the turns are counted down from a
-// number that no run uses up.
-fn main(rt: HostRuntime) {
+// Feeds all of the input. A proved loop has to end, and nothing says that an input does, so the turns are as many as no run uses up.
+fn feed_all(rt: &HostRuntime) -> Result<(), Failure> {
     let mut line = [0u8; HELD];
     let mut config = [0u8; 336];
     let mut tables = [0u8; 7517];
@@ -120,12 +113,9 @@ fn main(rt: HostRuntime) {
     let mut answer = [0u8; 21];
     let mut out = [0u8; 335872];
     let mut reached = feeding::start();
-    let mut more = true;
-    let mut ended = false;
-    let mut turns = u64::MAX;
-    while turns > 0 && more {
-        let t = turn(
-            &rt,
+    for _ in 0..u64::MAX {
+        let fed = turn(
+            rt,
             reached,
             &mut line,
             &mut config,
@@ -134,23 +124,30 @@ fn main(rt: HostRuntime) {
             &mut timers,
             &mut answer,
             &mut out,
-        );
-        more = t.more;
-        ended = t.ended;
-        reached = t.reached;
-        turns -= 1;
+        )?;
+        match fed {
+            Fed::Part(on) => reached = on,
+            Fed::Whole(last) => {
+                return end(
+                    rt,
+                    last,
+                    &line,
+                    &mut config,
+                    &mut tables,
+                    &mut slots,
+                    &mut timers,
+                    &mut answer,
+                    &mut out,
+                );
+            }
+            Fed::Refused => return Ok(()),
+        }
     }
-    if ended {
-        end(
-            &rt,
-            reached,
-            &line,
-            &mut config,
-            &mut tables,
-            &mut slots,
-            &mut timers,
-            &mut answer,
-            &mut out,
-        );
+    Ok(())
+}
+
+fn main(rt: HostRuntime) {
+    if let Err(failure) = feed_all(&rt) {
+        complain(&rt, failure);
     }
 }

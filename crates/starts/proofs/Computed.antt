@@ -1,11 +1,11 @@
 -- The computed answer is the answer: so there is one to every call, and examples compute. And 256 starts are enough.
-use Rattle.std.specs.Prelude.{ℕ, zero, suc, ◌-◌, ◌^◌, ◌%◌, ◌≤◌, ◌<◌, ◌≡◌, refl, Bool, true, false, cond, List, [], ◌∷◌, map, ◌↔◌, eqb, leb, ltb, length}
+use Rattle.std.specs.Prelude.{ℕ, zero, suc, ◌-◌, ◌^◌, ◌%◌, ◌≤◌, ◌<◌, ◌≡◌, refl, Bool, true, false, cond, List, [], ◌∷◌, map, ◌↔◌, eqb, leb, ltb, length, Some, None, Ok, Err}
 use Rattle.std.proofs.Common.{sym, ◌∙◌, ap, subst, pos_of_ne-zero, arith, eqb-true, ltb-true, ltb-false}
 use Rattle.std.proofs.lemmas.List.{length-map}
 use Rattle.std.proofs.Math.Nat.{pow-le-pow_right}
 use Rattle.std.proofs.lemmas.Bool.{eqb-false}
+use Rattle.refusals.specs.declared.Refusal.TheVariants as refusal
 use Rattle.starts.specs.declared.Cycle.{Cycle}
-use Rattle.starts.specs.declared.Free.TheVariants.{Start, None, Refused}
 use Rattle.starts.specs.Starts.{Collide, timer_at, cycle, Taken, Smallest, most_cycles, longest_cycle, InRange, Valid, Answers}
 use Rattle.starts.specs.Decided.{Decides, holds, decides, both, either, le_decides}
 use Rattle.starts.specs.Least.{Least, least_from, least_from_lem}
@@ -91,10 +91,10 @@ valid_decides ts p =
     (both (all_in_range ts) (in_range p) (AllInRange ts) (InRange p) (AllInRange ts × InRange p)
     (λ a r. (a, r)) (λ x. x.0) (λ x. x.1) (all_decides ts) (range_decides p))
 
-ended_answers : (ts : List Cycle) (p r : ℕ) → Valid ts p → Least (Taken ts p) p r → Answers ts p (ended p r)
+ended_answers : (ts : List Cycle) (p r : ℕ) → Valid ts p → Least (Taken ts p) p r → Answers ts p (Ok (ended p r))
 ended_answers ts p r v l = go (ltb r p) refl
   where
-    go : (z : Bool) → ltb r p ≡ z → Answers ts p (cond z (Start r) None)
+    go : (z : Bool) → ltb r p ≡ z → Answers ts p (Ok (cond z (Some r) None))
     go true e = let h = ltb-true r p e in (v, record { below = h; free = l.stops h; least = l.before })
     go false e = all_taken ts p v (λ s h. l.before s (omega (arith, h, ltb-false r p e)))
 
@@ -148,7 +148,7 @@ pub answers : (ts : List Cycle) (p : ℕ) → Answers ts p (free_start ts p)
 unfolding free_start
 answers ts p = go (valid ts p) (valid_decides ts p)
   where
-    go : (b : Bool) → Decides b (Valid ts p) → Answers ts p (cond b (ended p (least_from (taken ts p) p 0)) (Refused 31))
+    go : (b : Bool) → Decides b (Valid ts p) → Answers ts p (cond b (Ok (ended p (least_from (taken ts p) p 0))) (Err refusal.Cycles))
     go true v =
         ended_answers ts p (least_from (taken ts p) p 0) v
         (least_from_lem (taken ts p) (Taken ts p)

@@ -6,7 +6,7 @@ pub mod Enough
 pub mod Theorems
 -- The computed answer is the answer.
 pub mod Computed
--- What holds of the table at each timer.
-pub mod Collected
+-- What the search finds is what is asked.
+pub mod Found
 -- Its functions in the world of a build.
 pub mod Linked

@@ -1,16 +1,17 @@
 -- There is one answer to every call, each of its three kinds comes exactly where it should, and so it is with what a C function leaves.
-use Rattle.std.specs.Prelude.{ℕ, ◌%◌, ◌<◌, ◌≡◌, refl, Bool, true, false, List, ltb}
+use Rattle.std.specs.Prelude.{ℕ, ◌%◌, ◌<◌, ◌≡◌, refl, Bool, true, false, List, ltb, Option, Some, None, Result, Ok, Err}
 use Rattle.std.proofs.Common.{sym, ap, ◌∙◌, subst, ⊎_elim, mod-lt, eq-or-lt_of_le, arith, ltb-true, ltb-false}
+use Rattle.refusals.specs.declared.Refusal.{Refusal}
+use Rattle.refusals.specs.declared.Refusal.TheVariants as refusal
+use Rattle.refusals.specs.Numbers.{number_of}
 use Rattle.starts.specs.declared.Cycle.{Cycle}
-use Rattle.starts.specs.declared.Free.{Free}
-use Rattle.starts.specs.declared.Free.TheVariants.{Start, None, Refused}
 use Rattle.starts.specs.Starts.{Taken, Smallest, Valid, Answers, Gives, Leaves}
 use Rattle.starts.specs.Theorems.{Exactly, Told}
 use Rattle.starts.proofs.Collisions.{taken_alike}
 
 module _ (ts : List Cycle) (p : ℕ) where
   -- the starts below the period tell of all
-  pub all_taken : Valid ts p → ((e : ℕ) → e < p → Taken ts p e) → Answers ts p None
+  pub all_taken : Valid ts p → ((e : ℕ) → e < p → Taken ts p e) → Answers ts p (Ok None)
   all_taken v h = (v, λ s. taken_alike ts p v s (h (s % p) (mod-lt s v.new.low)))
 
   -- two smallest starts are the same
@@ -25,43 +26,43 @@ module _ (ts : List Cycle) (p : ℕ) where
       go false e = ⊎_elim (λ q. sym q) (λ k. apart r s b a k) (eq-or-lt_of_le (ltb-false s r e))
 
   -- two answers to one call are the same
-  pub answers_agree : (a b : Free) → Answers ts p a → Answers ts p b → a ≡ b
-  answers_agree (Start s) (Start r) x y = ap Start (same s r x.1 y.1)
-  answers_agree (Start s) None x y = absurd (x.1.free (y.1 s))
-  answers_agree (Start s) (Refused n) x y = absurd (y.0 x.0)
-  answers_agree None (Start r) x y = absurd (y.1.free (x.1 r))
-  answers_agree None None x y = refl
-  answers_agree None (Refused n) x y = absurd (y.0 x.0)
-  answers_agree (Refused m) (Start r) x y = absurd (x.0 y.0)
-  answers_agree (Refused m) None x y = absurd (x.0 y.0)
-  answers_agree (Refused m) (Refused n) x y = ap Refused (x.1 ∙ sym y.1)
+  pub answers_agree : (a b : Result (Option ℕ) Refusal) → Answers ts p a → Answers ts p b → a ≡ b
+  answers_agree (Ok (Some s)) (Ok (Some r)) x y = ap (λ (m : ℕ). Ok (Some m)) (same s r x.1 y.1)
+  answers_agree (Ok (Some s)) (Ok None) x y = absurd (x.1.free (y.1 s))
+  answers_agree (Ok (Some s)) (Err n) x y = absurd (y.0 x.0)
+  answers_agree (Ok None) (Ok (Some r)) x y = absurd (y.1.free (x.1 r))
+  answers_agree (Ok None) (Ok None) x y = refl
+  answers_agree (Ok None) (Err n) x y = absurd (y.0 x.0)
+  answers_agree (Err m) (Ok (Some r)) x y = absurd (x.0 y.0)
+  answers_agree (Err m) (Ok None) x y = absurd (x.0 y.0)
+  answers_agree (Err m) (Err n) x y = ap Err (x.1 ∙ sym y.1)
 
   -- each kind of answer comes exactly where it should
-  pub exactly : (a : Free) → Answers ts p a → Exactly ts p a
+  pub exactly : (a : Result (Option ℕ) Refusal) → Answers ts p a → Exactly ts p a
   exactly a x =
       record {
-        turned_away_lem = ((λ e. (subst (Answers ts p) e x).0), (λ h. answers_agree a (Refused 31) x (h, refl)));
-        says_none = ((λ e. subst (Answers ts p) e x), (λ h. answers_agree a None x h));
-        smallest = λ s. ((λ e. subst (Answers ts p) e x), (λ h. answers_agree a (Start s) x h));
+        turned_away_lem = ((λ e. (subst (Answers ts p) e x).0), (λ h. answers_agree a (Err refusal.Cycles) x (h, refl)));
+        says_none = ((λ e. subst (Answers ts p) e x), (λ h. answers_agree a (Ok None) x h));
+        smallest = λ s. ((λ e. subst (Answers ts p) e x), (λ h. answers_agree a (Ok (Some s)) x h));
       }
 
   -- two C functions that leave the answer leave the same
-  gives_agree : (a : Free) (old n m r u : ℕ) → Gives a old n r → Gives a old m u → (r ≡ u) × (n ≡ m)
-  gives_agree (Start s) old n m r u x y = (x.0 ∙ sym y.0, x.1 ∙ sym y.1)
-  gives_agree None old n m r u x y = (x.0 ∙ sym y.0, x.1 ∙ sym y.1)
-  gives_agree (Refused k) old n m r u x y = (x.0 ∙ sym y.0, x.1 ∙ sym y.1)
+  gives_agree : (a : Result (Option ℕ) Refusal) (old n m r u : ℕ) → Gives a old n r → Gives a old m u → (r ≡ u) × (n ≡ m)
+  gives_agree (Ok (Some s)) old n m r u x y = (x.0 ∙ sym y.0, x.1 ∙ sym y.1)
+  gives_agree (Ok None) old n m r u x y = (x.0 ∙ sym y.0, x.1 ∙ sym y.1)
+  gives_agree (Err k) old n m r u x y = (x.0 ∙ sym y.0, x.1 ∙ sym y.1)
 
   pub leaves_agree : (old n m r u : ℕ) → Leaves ts p old n r → Leaves ts p old m u → (r ≡ u) × (n ≡ m)
   leaves_agree old n m r u x y =
       gives_agree y.answer old n m r u
-      (subst (λ (a : Free). Gives a old n r) (answers_agree x.answer y.answer x.right y.right) x.given) y.given
+      (subst (λ (a : Result (Option ℕ) Refusal). Gives a old n r) (answers_agree x.answer y.answer x.right y.right) x.given) y.given
 
   -- what is returned and what is left says which answer it is
   pub leaves_told : (old new r : ℕ) → Leaves ts p old new r → Told ts p old new r
   leaves_told old new r l = go l.answer l.right l.given
     where
-      go : (a : Free) → Answers ts p a → Gives a old new r → Told ts p old new r
-      go (Start s) x g =
+      go : (a : Result (Option ℕ) Refusal) → Answers ts p a → Gives a old new r → Told ts p old new r
+      go (Ok (Some s)) x g =
           record {
             turned_away_lem = ((λ e. absurd (omega (arith, e, g.0))), (λ h. absurd (h x.0)));
             says_none = ((λ e. absurd (omega (arith, e, g.0))), (λ h. absurd (x.1.free (h.1 s))));
@@ -71,15 +72,15 @@ module _ (ts : List Cycle) (p : ℕ) where
             );
             unwritten = λ n. absurd (n g.0);
           }
-      go None x g =
+      go (Ok None) x g =
           record {
             turned_away_lem = ((λ e. absurd (omega (arith, e, g.0))), (λ h. absurd (h x.0)));
             says_none = ((λ e. x), (λ h. g.0));
             smallest = λ t. ((λ e. absurd (omega (arith, e.0, g.0))), (λ h. absurd (h.1.free (x.1 t))));
             unwritten = λ n. g.1;
           }
-      go (Refused k) x g =
-          let r31 : r ≡ 31 = g.0 ∙ x.1 in
+      go (Err k) x g =
+          let r31 : r ≡ 31 = g.0 ∙ ap number_of x.1 in
           record {
             turned_away_lem = ((λ e. x.0), (λ h. r31));
             says_none = ((λ e. absurd (omega (arith, e, r31))), (λ h. absurd (x.0 h.0)));

@@ -1,8 +1,8 @@
 -- The answer computed.
-use Rattle.std.specs.Prelude.{ℕ, ◌%◌, Bool, true, false, cond, List, [], ◌∷◌, eqb, leb, ltb, length}
+use Rattle.std.specs.Prelude.{ℕ, ◌%◌, Bool, true, false, cond, List, [], ◌∷◌, eqb, leb, ltb, length, Option, Some, None, Result, Ok, Err}
+use Rattle.refusals.specs.declared.Refusal.{Refusal}
+use Rattle.refusals.specs.declared.Refusal.TheVariants as refusal
 use Rattle.starts.specs.declared.Cycle.{Cycle}
-use Rattle.starts.specs.declared.Free.{Free}
-use Rattle.starts.specs.declared.Free.TheVariants.{Start, None, Refused}
 use Rattle.starts.specs.Starts.{most_cycles, longest_cycle}
 use Rattle.starts.specs.Least.{least_from}
 use Rattle.starts.specs.Divisor.{gcd_of}
@@ -25,8 +25,8 @@ unfoldable pub valid : List Cycle → ℕ → Bool
 valid ts p = cond (leb (length ts) most_cycles) (cond (all_in_range ts) (in_range p) false) false
 
 -- the start that the search ended at, or none where it ended at the period
-abbrev pub ended : ℕ → ℕ → Free
-ended p r = cond (ltb r p) (Start r) None
+abbrev pub ended : ℕ → ℕ → Option ℕ
+ended p r = cond (ltb r p) (Some r) None
 
-unfoldable pub free_start : List Cycle → ℕ → Free
-free_start ts p = cond (valid ts p) (ended p (least_from (taken ts p) p 0)) (Refused 31)
+unfoldable pub free_start : List Cycle → ℕ → Result (Option ℕ) Refusal
+free_start ts p = cond (valid ts p) (Ok (ended p (least_from (taken ts p) p 0))) (Err refusal.Cycles)

@@ -10,9 +10,6 @@ Decides false P = P → ⊥
 pub holds : {b : Bool} {P : Type 0} → b ≡ true → Decides b P → P
 holds {P = P} e d = subst (λ (x : Bool). Decides x P) e d
 
-pub fails : {b : Bool} {P : Type 0} → b ≡ false → Decides b P → P → ⊥
-fails {P = P} e d = subst (λ (x : Bool). Decides x P) e d
-
 pub decides : (b : Bool) (P : Type 0) → (b ≡ true → P) → (b ≡ false → P → ⊥) → Decides b P
 decides true P t f = t refl
 decides false P t f = f refl

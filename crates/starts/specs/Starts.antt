@@ -1,9 +1,10 @@
 -- Document 02's W11: cyclic timers, the tocks they signal at, and what a free start for a new one is; and what a call gives.
 -- A timer started at s with period p signals at s + p, s + 2p and so on without end: no bound stands on a tock.
-use Rattle.std.specs.Prelude.{◌≡◌, List, ℕ, ◌+◌, ◌*◌, ◌≤◌, ◌<◌, length, get_or}
+use Rattle.std.specs.Prelude.{◌≡◌, List, ℕ, ◌+◌, ◌*◌, ◌≤◌, ◌<◌, length, get_or, Option, Some, None, Result, Ok, Err}
+use Rattle.refusals.specs.declared.Refusal.{Refusal}
+use Rattle.refusals.specs.declared.Refusal.TheVariants as refusal
+use Rattle.refusals.specs.Numbers.{number_of}
 use Rattle.starts.specs.declared.Cycle.{Cycle}
-use Rattle.starts.specs.declared.Free.{Free}
-use Rattle.starts.specs.declared.Free.TheVariants.{Start, None, Refused}
 
 -- the tock is in the timer's row, which begins one period after its start
 pub record Signals (t : Cycle) (tock : ℕ) : Type 0 where
@@ -54,24 +55,24 @@ pub record Valid (ts : List Cycle) (p : ℕ) : Type 0 where
   pub timers : (k : ℕ) → k < length ts → InRange (timer_at ts k).period
   pub new : InRange p
 
--- a is the answer to the call. Where it is None, every start collides with some timer, however large it is
-abbrev pub Answers : List Cycle → ℕ → Free → Type 0
-Answers ts p (Start s) = Valid ts p × Smallest ts p s
-Answers ts p None = Valid ts p × ((s : ℕ) → Taken ts p s)
-Answers ts p (Refused number) = (Valid ts p → ⊥) × (number ≡ 31)
+-- a is the answer to the call: Cycles, which is 31, where it is not valid. Where it is None, every start collides with some timer, however large it is
+abbrev pub Answers : List Cycle → ℕ → Result (Option ℕ) Refusal → Type 0
+Answers ts p (Ok (Some s)) = Valid ts p × Smallest ts p s
+Answers ts p (Ok None) = Valid ts p × ((s : ℕ) → Taken ts p s)
+Answers ts p (Err refused) = (Valid ts p → ⊥) × (refused ≡ refusal.Cycles)
 
 -- what a C function returns for None
 abbrev pub no_start : ℕ
 no_start = 255
 
 -- what a C function that is lent a number gives for each answer: 0 with the start written, or another number with nothing written
-abbrev pub Gives : Free → ℕ → ℕ → ℕ → Type 0
-Gives (Start s) old new r = (r ≡ 0) × (new ≡ s)
-Gives None old new r = (r ≡ no_start) × (new ≡ old)
-Gives (Refused number) old new r = (r ≡ number) × (new ≡ old)
+abbrev pub Gives : Result (Option ℕ) Refusal → ℕ → ℕ → ℕ → Type 0
+Gives (Ok (Some s)) old new r = (r ≡ 0) × (new ≡ s)
+Gives (Ok None) old new r = (r ≡ no_start) × (new ≡ old)
+Gives (Err refused) old new r = (r ≡ number_of refused) × (new ≡ old)
 
 -- it gives the answer to the call
 pub record Leaves (ts : List Cycle) (p old new r : ℕ) : Type 0 where
-  pub answer : Free
+  pub answer : Result (Option ℕ) Refusal
   pub right : Answers ts p answer
   pub given : Gives answer old new r

@@ -1,64 +1,40 @@
--- The table in numbers: for each timer a divisor and a rest; what each step of the program makes of it, and what the search finds in it.
-use Rattle.std.specs.Prelude.{ℕ, ◌+◌, ◌%◌, ◌≤◌, ◌<◌, ◌≡◌, cond, [], ◌∷◌, ltb, get_or, set}
-use Rattle.starts.specs.declared.table.Table.{Table}
-use Rattle.starts.specs.declared.Free.{Free}
-use Rattle.starts.specs.declared.Free.TheVariants.{Start, None, Refused}
-use Rattle.starts.specs.Starts.{most_cycles}
+-- The table in numbers: for each timer a divisor and a rest, and what the search finds by them.
+use Rattle.std.specs.Prelude.{ℕ, ◌%◌, ◌<◌, ◌≡◌, cond, List, ltb, length, get_or, Option, Some, None}
+use Rattle.starts.specs.declared.Cycle.{Cycle}
+use Rattle.starts.specs.declared.table.Residue.{Residue}
+use Rattle.starts.specs.Starts.{timer_at, most_cycles, Valid}
 use Rattle.starts.specs.Least.{Least}
-use Rattle.starts.specs.Divisor.{gcd_of}
+use Rattle.starts.specs.Divisor.{Gcd}
 use Rattle.starts.specs.Enough.{enough_starts}
-use Rattle.starts.specs.Computed.{in_range}
 
-unfoldable pub empty_of : ℕ → ℕ → Table
-empty_of upto p = record {
-  at = 0;
-  upto = upto;
-  period = p;
-  divisors = 1 ∷ 1 ∷ 1 ∷ 1 ∷ 1 ∷ 1 ∷ 1 ∷ 1 ∷ [];
-  rests = 0 ∷ 0 ∷ 0 ∷ 0 ∷ 0 ∷ 0 ∷ 0 ∷ 0 ∷ [];
-}
+-- the divisor and the rest are those of a timer beside a new one of period p
+pub record Beside (t : Cycle) (p : ℕ) (r : Residue) : Type 0 where
+  pub gcd : Gcd t.period p r.divisor
+  pub rest : r.rest ≡ t.start % r.divisor
 
-unfoldable pub before_of : ℕ → ℕ → Table
-before_of n p = cond (ltb most_cycles n) (empty_of 0 0) (cond (in_range p) (empty_of n p) (empty_of 0 0))
+abbrev pub residue_at : List Residue → ℕ → Residue
+residue_at rs k = get_or rs k (record { divisor = 0; rest = 0 })
 
--- what a turn asks
-pub record Ready (t : Table) : Type 0 where
-  pub early : t.at < most_cycles
-  pub accepted : 0 < t.period
-
--- with one timer more, of this divisor
-abbrev pub with_timer : Table → ℕ → ℕ → Table
-with_timer t d start = record {
-  at = t.at + 1;
-  upto = t.upto;
-  period = t.period;
-  divisors = set t.divisors t.at d;
-  rests = set t.rests t.at (start % d);
-}
-
-unfoldable pub turn_of : Table → ℕ → ℕ → Table
-turn_of t start p = cond (in_range p) (with_timer t (gcd_of p t.period) start) (empty_of 0 0)
+-- the table of the timers of a valid call, or that the call is not valid
+abbrev pub Filled : List Cycle → ℕ → Option (List Residue) → Type 0
+Filled ts p (Some rs) = Valid ts p × (length rs ≡ most_cycles) × ((k : ℕ) → k < length ts → Beside (timer_at ts k) p (residue_at rs k))
+Filled ts p None = Valid ts p → ⊥
 
 -- the start has the rest of one of the timers
-pub record Hit (t : Table) (s : ℕ) : Type 0 where
+pub record Hit (rs : List Residue) (s : ℕ) : Type 0 where
   pub which : ℕ
-  pub there : which < t.upto
-  pub same : s % get_or t.divisors which 0 ≡ get_or t.rests which 0
+  pub there : which < length rs
+  pub same : s % (residue_at rs which).divisor ≡ (residue_at rs which).rest
 
 -- what the search asks: no division by 0
-pub record Positive (t : Table) : Type 0 where
-  pub few : t.upto ≤ most_cycles
-  pub divisors : (k : ℕ) → k < t.upto → 0 < get_or t.divisors k 0
+abbrev pub Positive : List Residue → Type 0
+Positive rs = (k : ℕ) → k < length rs → 0 < (residue_at rs k).divisor
 
-abbrev pub Searchable : Table → Type 0
-Searchable t = 0 < t.period → Positive t
+-- the least number below n without a property, or that all have it
+abbrev pub First : (ℕ → Type 0) → ℕ → Option ℕ → Type 0
+First P n (Some s) = (s < n) × Least P n s
+First P n None = (s : ℕ) → s < n → P s
 
 -- how many starts are tried
 abbrev pub tried_of : ℕ → ℕ
 tried_of p = cond (ltb p enough_starts) p enough_starts
-
--- what is found in a table
-abbrev pub Searched : Table → Free → Type 0
-Searched t (Start s) = (0 < t.period) × (s < tried_of t.period) × Least (Hit t) (tried_of t.period) s
-Searched t None = (0 < t.period) × ((s : ℕ) → s < tried_of t.period → Hit t s)
-Searched t (Refused number) = (t.period ≡ 0) × (number ≡ 31)

@@ -2,11 +2,10 @@
 // A start collides with the timer just if it has the same rest. The table is filled timer by timer; then the starts are tried, from 0 on.
 ghost use Rattle.std.specs.Prelude.{◌≡◌, ◌<◌};
 ghost use Rattle.starts.specs.Decided.{Decides};
-ghost use Rattle.starts.specs.Least.{Least};
-ghost use Rattle.starts.specs.Computed.{in_range};
-ghost use Rattle.starts.specs.Table.{Hit, Positive, empty_of, before_of, Ready, turn_of, Searchable, tried_of, Searched};
+ghost use Rattle.starts.specs.Starts.{InRange};
+ghost use Rattle.starts.specs.Table.{Beside, Filled, Hit, Positive, First, tried_of};
 
-use crate::Free;
+use crate::Cycle;
 use crate::divisor::gcd;
 
 // The most timers of a list.
@@ -18,102 +17,65 @@ pub const LONGEST_CYCLE: u32 = 32768;
 // Eight timers that take so many starts side by side take all (proofs/Enough).
 pub const ENOUGH: u32 = 256;
 
-// The table before the timer at; upto is where the list ends. The period is the new timer's, or 0 where the call is refused.
+// The starts that collide with a timer: those with the rest by the divisor.
 #[derive(Clone, Copy)]
-pub struct Table {
-    pub at: usize,
-    pub upto: usize,
-    pub period: u32,
-    pub divisors: [u32; 8],
-    pub rests: [u32; 8],
+pub struct Residue {
+    pub divisor: u32,
+    pub rest: u32,
 }
 
-fn empty(upto: usize, period: u32) -> Table
-    ensures { result ≡ empty_of upto period }
-{
-    Table {
-        at: 0,
-        upto,
-        period,
-        divisors: [1u32; 8],
-        rests: [0u32; 8],
-    }
-}
+// A place of the table that no timer has.
+const UNUSED: Residue = Residue {
+    divisor: 1,
+    rest: 0,
+};
 
 fn in_range(period: u32) -> bool
-    ensures { result ≡ in_range period }
+    ensures { Decides result (InRange period) }
 {
-    if period == 0 {
-        return false;
-    }
-    period <= LONGEST_CYCLE
+    1 <= period && period <= LONGEST_CYCLE
 }
 
-// Before the first of n timers. A call that is refused walks over none.
-pub fn before(n: usize, period: u32) -> Table
-    ensures { result ≡ before_of n period }
+#[tactic(auto, using(crate::specs::Divisor::gcd_pos))]
+fn beside(timer: Cycle, period: u32) -> Residue
+    requires { 0 < period }
+    ensures { Beside timer period result }
 {
-    if MOST_CYCLES < n {
-        return empty(0, 0);
+    let divisor = gcd(timer.period, period);
+    Residue {
+        divisor,
+        rest: timer.start % divisor,
     }
-    if !in_range(period) {
-        return empty(0, 0);
-    }
-    empty(n, period)
 }
 
-// One timer more. A period out of range ends the walk.
-pub fn turn(t: Table, start: u32, period: u32) -> Table
-    requires { Ready t }
-    ensures { result ≡ turn_of t start period }
+// Of each timer, in the list's order, beside a new one of the period; None where they are too many, or a period is out of range.
+pub fn residues(timers: &[Cycle], period: u32) -> Option<[Residue; MOST_CYCLES]>
+    ensures { Filled timers.now period result }
 {
-    if !in_range(period) {
-        return empty(0, 0);
+    if MOST_CYCLES < timers.len() || !in_range(period) {
+        return None;
     }
-    let at = t.at;
-    let divisor = gcd(period, t.period);
-    let mut divisors = t.divisors;
-    let mut rests = t.rests;
-    divisors[at] = divisor;
-    rests[at] = start % divisor;
-    Table {
-        at: at + 1,
-        upto: t.upto,
-        period: t.period,
-        divisors,
-        rests,
+    let mut residues = [UNUSED; MOST_CYCLES];
+    for (k, timer) in timers.iter().enumerate() {
+        if !in_range(timer.period) {
+            return None;
+        }
+        residues[k] = beside(*timer, period);
     }
+    Some(residues)
 }
 
 // Whether a start has the rest of one of the timers.
-fn hit(t: Table, start: u32) -> bool
-    requires { Positive t }
-    ensures { Decides result (Hit t start) }
+fn hit(residues: &[Residue], start: u32) -> bool
+    requires { Positive residues.now }
+    ensures { Decides result (Hit residues.now start) }
 {
-    let mut k = 0;
-    while k < t.upto {
-        if start % t.divisors[k] == t.rests[k] {
+    for residue in residues {
+        if start % residue.divisor == residue.rest {
             return true;
         }
-        k += 1;
     }
     false
-}
-
-// The smallest start below upto that is not hit, or upto.
-fn first_free(t: Table, upto: u32) -> u32
-    requires { Positive t }
-    ensures { Least (Hit t) upto result }
-{
-    let mut s = 0;
-    while s < upto {
-        if hit(t, s) {
-            s += 1;
-        } else {
-            return s;
-        }
-    }
-    s
 }
 
 // How many starts are tried: those below the period, and no more than are enough.
@@ -123,15 +85,16 @@ fn tried(period: u32) -> u32
     if period < ENOUGH { period } else { ENOUGH }
 }
 
-// After the last timer.
-pub fn answer(t: Table) -> Free
-    requires { Searchable t }
-    ensures { Searched t result }
+// The smallest start that is not hit, of those that are tried for a new timer of the period.
+pub fn first_free(residues: &[Residue], period: u32) -> Option<u32>
+    requires { Positive residues.now }
+    ensures { First (Hit residues.now) (tried_of period) result }
 {
-    if t.period == 0 {
-        return Free::Refused(31);
+    let upto = tried(period);
+    for start in 0..upto {
+        if !hit(residues, start) {
+            return Some(start);
+        }
     }
-    let upto = tried(t.period);
-    let s = first_free(t, upto);
-    if s < upto { Free::Start(s) } else { Free::None }
+    None
 }

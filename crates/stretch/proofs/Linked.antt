@@ -1,5 +1,5 @@
 -- The crate's functions in the world of a build, which is what an environment is made of (the kit's prog.Linked): its table of functions, and
--- that a world with this table has the code of the functions that other crates call, whatever else is in it.
+-- that a world with this table, and with what its functions call of other crates (`Below`), has the code of those that are called from outside, whatever else is in it.
 use prog.Linked.{Tree, World, Holds, in_world}
 use prog.LinkedThreads.{HasT}
 use mathlib.Core.Bool.{true}
@@ -10,10 +10,13 @@ use Rattle.stretch.proofs.give.Symbol as give
 pub the_table : Tree
 the_table = link.table
 
-pub busiest_linked : (W : World) → Holds W "stretch" the_table → HasT (in_world W) true busiest.code
-unfolding the_table
-busiest_linked W h = link.linked-stretch::busiest W h tt
+abbrev pub Below : World → Type 0
+Below = link.Below
 
-pub give_linked : (W : World) → Holds W "stretch" the_table → HasT (in_world W) true give.code
+pub busiest_linked : (W : World) → Holds W "stretch" the_table → Below W → HasT (in_world W) true busiest.code
 unfolding the_table
-give_linked W h = link.linked-stretch::give W h tt
+busiest_linked = link.linked-stretch::busiest
+
+pub give_linked : (W : World) → Holds W "stretch" the_table → Below W → HasT (in_world W) true give.code
+unfolding the_table
+give_linked = link.linked-stretch::give

@@ -1,15 +1,17 @@
 -- What is computed is what is asked, and no other answer is.
-use Rattle.std.specs.Prelude.{◌≡◌, refl, Bool, true, false, cond, ◌||◌, List, ℕ, zero, suc, ◌-◌, ◌<◌, ◌≤◌, ltb, eqb, length}
+use Rattle.std.specs.Prelude.{◌≡◌, refl, Bool, true, false, cond, ◌||◌, List, ℕ, zero, suc, ◌-◌, ◌<◌, ◌≤◌, ltb, eqb, length, Result, Ok, Err}
 use Rattle.std.proofs.Common.{sym, ap, ◌∙◌, subst, inl, inr, arith, ltb-true, ltb-false, eqb-true}
 use Rattle.std.proofs.lemmas.List.{length-map}
 use Rattle.std.proofs.lemmas.Bool.{eqb-false}
+use Rattle.refusals.specs.declared.Refusal.{Refusal}
+use Rattle.refusals.specs.declared.Refusal.TheVariants as refusal
+use Rattle.refusals.specs.Numbers.{number_of}
 use Rattle.stretch.specs.declared.Record.{Record}
 use Rattle.stretch.specs.declared.Stretch.{Stretch}
-use Rattle.stretch.specs.declared.Stretch.TheVariants.{Found, Refused}
-use Rattle.stretch.specs.Busiest.{counts, stretch_sum, Largest, most_records, TurnedAway, Answers, Leaves, Gives, Best, better, best_upto, found, busiest_of}
+use Rattle.stretch.specs.Busiest.{counts, stretch_sum, Largest, most_records, TurnedAway, Answers, Leaves, Gives, better, best_upto, busiest_of}
 
 -- ---- of the stretches at 0 to k
-record SoFar (w : ℕ) (cs : List ℕ) (k : ℕ) (b : Best) : Type 0 where
+record SoFar (w : ℕ) (cs : List ℕ) (k : ℕ) (b : Stretch) : Type 0 where
   within : b.place ≤ k
   summed : stretch_sum w cs b.place ≡ b.sum
   largest : (p : ℕ) → p ≤ k → stretch_sum w cs p ≤ b.sum
@@ -25,7 +27,7 @@ next_one f k m h l p hi = go (ltb k p) refl
     go true e = let s : suc k ≡ p = omega (arith, hi, ltb-true k p e) in subst (λ (q : ℕ). f q ≤ m) s l
     go false e = h p (ltb-false k p e)
 
-one_more : (w : ℕ) (cs : List ℕ) (k : ℕ) (b : Best) → SoFar w cs k b → SoFar w cs (suc k) (better b (stretch_sum w cs (suc k)) (suc k))
+one_more : (w : ℕ) (cs : List ℕ) (k : ℕ) (b : Stretch) → SoFar w cs k b → SoFar w cs (suc k) (better b (stretch_sum w cs (suc k)) (suc k))
 one_more w cs k b h = go (ltb b.sum (stretch_sum w cs (suc k))) refl
   where
     go : (t : Bool) → ltb b.sum (stretch_sum w cs (suc k)) ≡ t → SoFar w cs (suc k) (cond t (record { sum = stretch_sum w cs (suc k); place = suc k }) b)
@@ -75,7 +77,7 @@ unfolding busiest_of
 answers rs w = go (ltb most_records (length rs)) (eqb w 0) (ltb (length rs) w) refl refl refl
   where
     go : (a b c : Bool) → ltb most_records (length rs) ≡ a → eqb w 0 ≡ b → ltb (length rs) w ≡ c
-        → Answers rs w (cond (a || (b || c)) (Refused 28) (found (best_upto w (counts rs) (length rs - w))))
+        → Answers rs w (cond (a || (b || c)) (Err refusal.Stretch) (Ok (best_upto w (counts rs) (length rs - w))))
     go true b c ea eb ec = (inl (ltb-true _ _ ea), refl)
     go false true c ea eb ec = (inr (inl (eqb-true _ _ eb)), refl)
     go false false true ea eb ec = (inr (inr (ltb-true _ _ ec)), refl)
@@ -87,28 +89,24 @@ answers rs w = go (ltb most_records (length rs)) (eqb w 0) (ltb (length rs) w) r
         )
 
 -- two answers to one call are the same
-pub answers_agree : (rs : List Record) (w : ℕ) (a b : Stretch) → Answers rs w a → Answers rs w b → a ≡ b
-answers_agree rs w (Refused m) (Refused n) g h = ap Refused (g.1 ∙ sym h.1)
-answers_agree rs w (Refused m) (Found s p) g h = absurd (h.0 g.0)
-answers_agree rs w (Found s p) (Refused n) g h = absurd (g.0 h.0)
-answers_agree rs w (Found s p) (Found t q) g h =
-    let e = one_answer w (counts rs) s p t q g.1 h.1 in ap (λ (m : ℕ). Found m p) e.0 ∙ ap (Found t) e.1
+pub answers_agree : (rs : List Record) (w : ℕ) (a b : Result Stretch Refusal) → Answers rs w a → Answers rs w b → a ≡ b
+answers_agree rs w (Err m) (Err n) g h = ap Err (g.1 ∙ sym h.1)
+answers_agree rs w (Err m) (Ok b) g h = absurd (h.0 g.0)
+answers_agree rs w (Ok a) (Err n) g h = absurd (g.0 h.0)
+answers_agree rs w (Ok a) (Ok b) g h = let e = one_answer w (counts rs) a.sum a.place b.sum b.place g.1 h.1 in ap (λ (m : ℕ). Ok (record { sum = m; place = a.place })) e.0 ∙ ap (λ (n : ℕ). Ok (record { sum = b.sum; place = n })) e.1
 
 -- a C function that gives the computed answer leaves what is asked
 pub gives_leaves : (rs : List Record) (w sum place sum' place' r : ℕ) → Gives (busiest_of rs w) sum place sum' place' r → Leaves rs w sum place sum' place' r
 gives_leaves rs w sum place sum' place' r g = go (busiest_of rs w) (answers rs w) g
   where
-    go : (a : Stretch) → Answers rs w a → Gives a sum place sum' place' r → Leaves rs w sum place sum' place' r
-    go (Refused number) h g = record { refused = λ _. (g.0 ∙ h.1, g.1); accepted = λ no. absurd (no h.0) }
-    go (Found s p) h g = record {
-      refused = λ away. absurd (h.0 away);
-      accepted = λ _. (g.0, subst (λ (q : ℕ). Largest w (counts rs) sum' q) (sym g.1.1) (subst (λ (t : ℕ). Largest w (counts rs) t p) (sym g.1.0) h.1));
-    }
+    go : (a : Result Stretch Refusal) → Answers rs w a → Gives a sum place sum' place' r → Leaves rs w sum place sum' place' r
+    go (Err refused) h g = record { refused = λ _. (g.0 ∙ ap number_of h.1, g.1); accepted = λ no. absurd (no h.0) }
+    go (Ok b) h g = record { refused = λ away. absurd (h.0 away); accepted = λ _. (g.0, rw (g.1.0, g.1.1) h.1) }
 
 -- two that leave what is asked leave the same
 pub leaves_agree : (rs : List Record) (w sum place s p r t q u : ℕ) → Leaves rs w sum place s p r → Leaves rs w sum place t q u → (r ≡ u) × ((s ≡ t) × (p ≡ q))
 leaves_agree rs w sum place s p r t q u a b = go (busiest_of rs w) (answers rs w)
   where
-    go : (z : Stretch) → Answers rs w z → (r ≡ u) × ((s ≡ t) × (p ≡ q))
-    go (Refused number) h = let x = a.refused h.0 in let y = b.refused h.0 in (x.0 ∙ sym y.0, (x.1.0 ∙ sym y.1.0, x.1.1 ∙ sym y.1.1))
-    go (Found m n) h = let x = a.accepted h.0 in let y = b.accepted h.0 in (x.0 ∙ sym y.0, one_answer w (counts rs) s p t q x.1 y.1)
+    go : (z : Result Stretch Refusal) → Answers rs w z → (r ≡ u) × ((s ≡ t) × (p ≡ q))
+    go (Err refused) h = let x = a.refused h.0 in let y = b.refused h.0 in (x.0 ∙ sym y.0, (x.1.0 ∙ sym y.1.0, x.1.1 ∙ sym y.1.1))
+    go (Ok found) h = let x = a.accepted h.0 in let y = b.accepted h.0 in (x.0 ∙ sym y.0, one_answer w (counts rs) s p t q x.1 y.1)

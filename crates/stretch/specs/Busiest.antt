@@ -1,13 +1,11 @@
 -- Document 02's W9: the busiest stretch of a run, as a reader states it and as it is computed; and what a call gives.
 -- A stretch is w consecutive records; its sum is that of their reissues; its place is that of its first record, the list's first being 0.
-use Rattle.std.specs.Prelude.{◌≡◌, Bool, cond, ◌||◌, List, [], ◌∷◌, map, ◌⊎◌, ℕ, zero, suc, ◌+◌, ◌-◌, ◌<◌, ◌≤◌, ltb, eqb, length, take, drop}
+use Rattle.std.specs.Prelude.{◌≡◌, Bool, cond, ◌||◌, List, map, sum, ◌⊎◌, ℕ, zero, suc, ◌+◌, ◌-◌, ◌<◌, ◌≤◌, ltb, eqb, length, take, drop, Result, Ok, Err}
+use Rattle.refusals.specs.declared.Refusal.{Refusal}
+use Rattle.refusals.specs.declared.Refusal.TheVariants as refusal
+use Rattle.refusals.specs.Numbers.{number_of}
 use Rattle.stretch.specs.declared.Record.{Record}
 use Rattle.stretch.specs.declared.Stretch.{Stretch}
-use Rattle.stretch.specs.declared.Stretch.TheVariants.{Found, Refused}
-
-abbrev pub total : List ℕ → ℕ
-total [] = 0
-total (x ∷ xs) = x + total xs
 
 -- the reissues of each record, oldest first
 abbrev pub counts : List Record → List ℕ
@@ -15,7 +13,7 @@ counts rs = map (λ (r : Record). r.reissues) rs
 
 -- the sum of the stretch of w that begins at place p
 abbrev pub stretch_sum : ℕ → List ℕ → ℕ → ℕ
-stretch_sum w cs p = total (take w (drop p cs))
+stretch_sum w cs p = sum (take w (drop p cs))
 
 -- ---- what is asked
 
@@ -33,10 +31,10 @@ most_records = 4096
 abbrev pub TurnedAway : ℕ → ℕ → Type 0
 TurnedAway n w = (most_records < n) ⊎ ((w ≡ 0) ⊎ (n < w))
 
--- a is the answer to the call: 28 where it is turned away, and else the largest sum and the earliest place
-abbrev pub Answers : List Record → ℕ → Stretch → Type 0
-Answers rs w (Refused number) = TurnedAway (length rs) w × (number ≡ 28)
-Answers rs w (Found sum place) = (TurnedAway (length rs) w → ⊥) × Largest w (counts rs) sum place
+-- a is the answer to the call: Stretch, which is 28, where it is turned away, and else the largest sum and the earliest place
+abbrev pub Answers : List Record → ℕ → Result Stretch Refusal → Type 0
+Answers rs w (Err refused) = TurnedAway (length rs) w × (refused ≡ refusal.Stretch)
+Answers rs w (Ok found) = (TurnedAway (length rs) w → ⊥) × Largest w (counts rs) found.sum found.place
 
 -- what a C function that is lent a sum and a place leaves: 28 with nothing written, or 0 with the largest sum and the earliest place
 pub record Leaves (rs : List Record) (w sum place sum' place' r : ℕ) : Type 0 where
@@ -44,30 +42,23 @@ pub record Leaves (rs : List Record) (w sum place sum' place' r : ℕ) : Type 0 
   pub accepted : (TurnedAway (length rs) w → ⊥) → (r ≡ 0) × Largest w (counts rs) sum' place'
 
 -- what it gives for each case of an answer: the number with nothing written, or 0 with the sum and the place
-abbrev pub Gives : Stretch → ℕ → ℕ → ℕ → ℕ → ℕ → Type 0
-Gives (Refused number) sum place sum' place' r = (r ≡ number) × ((sum' ≡ sum) × (place' ≡ place))
-Gives (Found largest at) sum place sum' place' r = (r ≡ 0) × ((sum' ≡ largest) × (place' ≡ at))
+abbrev pub Gives : Result Stretch Refusal → ℕ → ℕ → ℕ → ℕ → ℕ → Type 0
+Gives (Err refused) sum place sum' place' r = (r ≡ number_of refused) × ((sum' ≡ sum) × (place' ≡ place))
+Gives (Ok found) sum place sum' place' r = (r ≡ 0) × ((sum' ≡ found.sum) × (place' ≡ found.place))
 
 -- ---- how it is computed: the plain maximum over all stretches
 
-pub record Best : Type 0 where
-  pub sum : ℕ
-  pub place : ℕ
-
 -- a later stretch must be larger
-abbrev pub better : Best → ℕ → ℕ → Best
+abbrev pub better : Stretch → ℕ → ℕ → Stretch
 better b v p = cond (ltb b.sum v) (record { sum = v; place = p }) b
 
 -- of the stretches at the places 0 to p the best
-abbrev pub best_upto : ℕ → List ℕ → ℕ → Best
+abbrev pub best_upto : ℕ → List ℕ → ℕ → Stretch
 best_upto w cs zero = record { sum = stretch_sum w cs 0; place = 0 }
 best_upto w cs (suc p) = better (best_upto w cs p) (stretch_sum w cs (suc p)) (suc p)
 
 abbrev pub turned_away : ℕ → ℕ → Bool
 turned_away n w = ltb most_records n || (eqb w 0 || ltb n w)
 
-abbrev pub found : Best → Stretch
-found b = Found b.sum b.place
-
-unfoldable pub busiest_of : List Record → ℕ → Stretch
-busiest_of rs w = cond (turned_away (length rs) w) (Refused 28) (found (best_upto w (counts rs) (length rs - w)))
+unfoldable pub busiest_of : List Record → ℕ → Result Stretch Refusal
+busiest_of rs w = cond (turned_away (length rs) w) (Err refusal.Stretch) (Ok (best_upto w (counts rs) (length rs - w)))

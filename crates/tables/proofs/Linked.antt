@@ -7,6 +7,7 @@ use Rattle.tables.proofs.TheLink as link
 use Rattle.tables.proofs.blocks.load.Symbol as blocks_load
 use Rattle.tables.proofs.blocks.set.Symbol as blocks_set
 use Rattle.tables.proofs.blocks.store.Symbol as blocks_store
+use Rattle.tables.proofs.counts.count_of.Symbol as counts_count_of
 use Rattle.tables.proofs.planes.put_bit.Symbol as planes_put_bit
 use Rattle.tables.proofs.semaphores.is_waiting.Symbol as semaphores_is_waiting
 use Rattle.tables.proofs.semaphores.load.Symbol as semaphores_load
@@ -36,6 +37,10 @@ blocks_set_linked = link.linked-tables::blocks::set
 pub blocks_store_linked : (W : World) → Holds W "tables" the_table → Below W → HasT (in_world W) true blocks_store.code
 unfolding the_table
 blocks_store_linked = link.linked-tables::blocks::store
+
+pub counts_count_of_linked : (W : World) → Holds W "tables" the_table → Below W → HasT (in_world W) true counts_count_of.code
+unfolding the_table
+counts_count_of_linked = link.linked-tables::counts::count_of
 
 pub planes_put_bit_linked : (W : World) → Holds W "tables" the_table → Below W → HasT (in_world W) true planes_put_bit.code
 unfolding the_table

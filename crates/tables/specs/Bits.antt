@@ -165,13 +165,22 @@ trailing_some (suc k) x h l =
     under_some (x % 2) (count_trailing_zeros k (x / 2)) k x (low x) h (λ g. trailing_some k (x / 2) g (omega (arith, pow-suc 2 k))) refl
 
 -- the lowest clear bit of a word is the lowest set one of its complement
-pub first_clear : (x : ℕ) → x < 2 ^ 64 → Lowest 64 (bit x) (count_trailing_zeros 64 ((2 ^ 64 - 1) - x)) × ((x ≡ 2 ^ 64 - 1 → ⊥) → count_trailing_zeros 64 ((2 ^ 64 - 1) - x) < 64)
-first_clear x h =
+pub first_clear : (x : ℕ) → x < 2 ^ 64 → (x ≡ 2 ^ 64 - 1 → ⊥) → Lowest 64 (bit x) (count_trailing_zeros 64 ((2 ^ 64 - 1) - x)) × (count_trailing_zeros 64 ((2 ^ 64 - 1) - x) < 64)
+first_clear x h n =
     let y : ℕ = (2 ^ 64 - 1) - x in (
       record {
         most = trailing_le 64 y;
         below = λ j l. not-false (bit x j) (sym (bit_not 64 x j (omega (arith, trailing_le 64 y)) h) ∙ trailing_clear 64 y j l);
         here = λ l. not-true (bit x (count_trailing_zeros 64 y)) (sym (bit_not 64 x (count_trailing_zeros 64 y) l h) ∙ trailing_set 64 y l);
       },
-      λ n. trailing_some 64 y (omega (arith, lt_of_le-ne (le_ones 64 h) n)) (ones_sub-lt 64 x),
+      trailing_some 64 y (omega (arith, lt_of_le-ne (le_ones 64 h) n)) (ones_sub-lt 64 x),
     )
+
+-- of a word whose bits are all set none is clear
+pub none_clear : (x : ℕ) → x ≡ 2 ^ 64 - 1 → Lowest 64 (bit x) 64
+none_clear x full =
+    record {
+      most = omega arith;
+      below = λ j l. ap (λ (n : ℕ). bit n j) full ∙ bit_not 64 0 j l (omega arith) ∙ ap not (bit_zero j);
+      here = λ l. absurd (omega arith);
+    }

@@ -3,7 +3,6 @@ use Rattle.std.specs.Prelude.{cond, List, [], ◌∷◌, ◌++◌, ℕ, eqb, leb
 use Rattle.tables.specs.declared.blocks.Blocks.{Blocks}
 use Rattle.tables.specs.declared.tasks.Outcome.{Outcome}
 use Rattle.tables.specs.declared.tasks.Outcome.TheVariants.{Plain, Begin, Message, Entry, Refused, Semaphore, Woke}
-use Rattle.tables.specs.declared.tasks.OutcomeBytes.{OutcomeBytes}
 use Rattle.tables.specs.declared.tasks.Request.{Request}
 use Rattle.tables.specs.declared.tasks.Request.TheVariants.{None, Receive, Dequeue, Enqueue}
 use Rattle.tables.specs.declared.tasks.Task.{Task}
@@ -19,10 +18,16 @@ abbrev pub outcome_of : ℕ → ℕ → ℕ → ℕ → Outcome
 outcome_of k a b c =
     cond (eqb k 1) Begin (cond (eqb k 2) (Message a b c) (cond (eqb k 3) (Entry a) (cond (eqb k 4) (Refused a) (cond (eqb k 5) (Semaphore a) (cond (eqb k 6) (Woke a) Plain)))))
 
-abbrev bytes : (kind first second third : ℕ) → OutcomeBytes
+pub record Written : Type 0 where
+  pub kind : ℕ
+  pub first : ℕ
+  pub second : ℕ
+  pub third : ℕ
+
+abbrev bytes : (kind first second third : ℕ) → Written
 bytes k a b c = record { kind = k; first = a; second = b; third = c }
 
-abbrev pub outcome_written : Outcome → OutcomeBytes
+abbrev pub outcome_written : Outcome → Written
 outcome_written Plain = bytes 0 0 0 0
 outcome_written Begin = bytes 1 0 0 0
 outcome_written (Message a b c) = bytes 2 a b c

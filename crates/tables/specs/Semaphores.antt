@@ -1,5 +1,5 @@
 -- What a byte of the semaphores' region is on the ledgers that the memory shows: read, and stored.
-use Rattle.std.specs.Prelude.{Bool, ◌≡◌, refl, List, ℕ, ◌+◌, ◌-◌, ◌<◌, eqb, length, get_or, set}
+use Rattle.std.specs.Prelude.{Bool, false, ◌≡◌, refl, List, ℕ, ◌+◌, ◌-◌, ◌<◌, eqb, length, get_or, set}
 use Rattle.std.proofs.Common.{sym, ap, ◌∙◌, subst, eqb-true, arith, length-set, get_or-set_same, get_or-set_other}
 use Rattle.std.proofs.lemmas.Bool.{eqb-false}
 use Rattle.ledger.specs.Config.{Config}
@@ -7,6 +7,7 @@ use Rattle.ledger.specs.Ledger.{Ledger, semaphore_of, set_semaphore}
 use Rattle.ledger.specs.Refusals.{is_waiting}
 use Rattle.tables.specs.declared.shape.Shape.{Shape}
 use Rattle.tables.specs.declared.semaphores.Semaphore as state
+use Rattle.tables.specs.declared.semaphores.Semaphore.TheVariants.{Pending, Done, Waiting}
 use Rattle.tables.specs.Layout.{OneOf, Fits, bound, Regions, named, regions, but, byte_written, region_length, semaphore_at_lem}
 use Rattle.tables.specs.Decode.{state_of, state_byte, view_semaphore, state_as}
 use Rattle.tables.specs.Encoded.{Waiter, case, state_back, state_as_lem}
@@ -30,6 +31,14 @@ known b e q c L z w h = ap view_semaphore (sym q) ∙ e c L z w h
 pub waiting_told : {s : Shape} {d : List ℕ} {x v : state.Semaphore} (b : ℕ) → Tells s d (λ c L. semaphore_of L b) (view_semaphore x) → x ≡ v
     → Tells s d (λ c L. is_waiting (semaphore_of L b)) (is_waiting (view_semaphore v))
 waiting_told b e q c L z w h = ap is_waiting (known b e q c L z w h)
+
+-- what is not WAITING is PENDING or DONE
+pub not_waiting_told : {s : Shape} {d : List ℕ} (x : state.Semaphore) (b : ℕ) → Tells s d (λ c L. semaphore_of L b) (view_semaphore x) → ((t : ℕ) → x ≡ Waiting t → ⊥)
+    → Tells s d (λ c L. is_waiting (semaphore_of L b)) false
+unfolding is_waiting view_semaphore
+not_waiting_told Pending b e n = waiting_told {x = Pending} b e refl
+not_waiting_told Done b e n = waiting_told {x = Done} b e refl
+not_waiting_told (Waiting t) b e n = absurd (n t refl)
 
 pub semaphore_stored : {tidy : Bool} (c : Config) (s : Shape) (L : Ledger) (d z w : List ℕ) → ShowsAs tidy c s L d z w → (b : ℕ) → OneOf s.semaphores b → (x : state.Semaphore) → Waiter s.tasks x
     → ShowsAs tidy c s (set_semaphore b (view_semaphore x) L) (set d (s.semaphoreat + (b - 1)) (state_byte x)) z w

@@ -1,5 +1,5 @@
 -- The search for the lowest row without a block, by words: the bits of a word are those of its bytes.
-use Rattle.std.specs.Prelude.{◌≡◌, Bool, not, List, get_or}
+use Rattle.std.specs.Prelude.{◌≡◌, Bool, List, get_or}
 use Rattle.std.proofs.Math.Path.{refl, ap, ap₂, subst}
 use Rattle.std.proofs.Common.{sym, ◌∙◌, add-zero}
 use Rattle.std.proofs.Math.Bool.{true, false, ◌||◌}
@@ -12,7 +12,7 @@ use Rattle.std.proofs.Math.Pow.{pow-add}
 use borrow.Author.Tests.{ltb-true, ltb-false}
 use Rattle.tables.specs.declared.blocks.Block.{Block}
 use Rattle.tables.specs.declared.blocks.Block.TheVariants.{Idle, Suspended, Event, Message}
-use Rattle.tables.specs.Bits.{bit, Lowest, bit_or_lem, bit_not, bit_zero, bit_below, bit_above}
+use Rattle.tables.specs.Bits.{bit, Lowest, bit_or_lem, bit_below, bit_above}
 use Rattle.tables.specs.Planes.{plane_of, has, blocked_at, number}
 
 -- eight bytes, added up
@@ -70,23 +70,22 @@ module _ (d : List ℕ) (bytes : (k : ℕ) → get_or d k 0 < 256) (at : ℕ) wh
       one : (k : Block) (v : ℕ) → v ≡ number 8 (at + 16 * plane_of k) d → bit v i ≡ has k d (8 * at + i)
       one k v e = ap (λ (n : ℕ). bit n i) e ∙ bit_plane k i l
 
--- ---- the low word x decides, unless all its bits are set
+-- ---- the low word x decides, unless none of its bits is clear
 module _ (d : List ℕ) (x : ℕ) (low : (i : ℕ) → i < 64 → bit x i ≡ blocked_at d (8 * 0 + i)) where
   low_is : (j : ℕ) → j < 64 → (v : Bool) → bit x j ≡ v → blocked_at d j ≡ v
   low_is j l v e = let f : j ≡ 8 * 0 + j = omega arith in ap (blocked_at d) f ∙ sym (low j l) ∙ e
 
-  pub found_low : (x ≡ 2 ^ 64 - 1 → ⊥) → (k : ℕ) → Lowest 64 (bit x) k × ((x ≡ 2 ^ 64 - 1 → ⊥) → k < 64) → Lowest 128 (blocked_at d) k
-  found_low n k first =
-      let l : k < 64 = first.1 n in
+  pub found_low : (k : ℕ) → Lowest 64 (bit x) k → k < 64 → Lowest 128 (blocked_at d) k
+  found_low k first l =
       record {
         most = omega arith;
-        below = λ j h. low_is j (omega arith) true (first.0.below j h);
-        here = λ h. low_is k l false (first.0.here l);
+        below = λ j h. low_is j (omega arith) true (first.below j h);
+        here = λ h. low_is k l false (first.here l);
       }
 
-  module _ (full : x ≡ 2 ^ 64 - 1) (y : ℕ) (high : (i : ℕ) → i < 64 → bit y i ≡ blocked_at d (8 * 8 + i)) where
+  module _ (full : Lowest 64 (bit x) 64) (y : ℕ) (high : (i : ℕ) → i < 64 → bit y i ≡ blocked_at d (8 * 8 + i)) where
     low_blocked : (j : ℕ) → j < 64 → blocked_at d j ≡ true
-    low_blocked j l = low_is j l true (ap (λ (n : ℕ). bit n j) full ∙ bit_not 64 0 j l (omega arith) ∙ ap not (bit_zero j))
+    low_blocked j l = low_is j l true (full.below j l)
 
     high_is : (j : ℕ) → j < 64 → (v : Bool) → bit y j ≡ v → blocked_at d (j + 64) ≡ v
     high_is j l v e = let f : j + 64 ≡ 8 * 8 + j = omega arith in ap (blocked_at d) f ∙ sym (high j l) ∙ e

@@ -10,6 +10,7 @@ ghost use Rattle.ledger.specs.Ledger.{set_blocks};
 use crate::planes::{bit_of, put_bit};
 use crate::shape::{PLANES_AT, Shape};
 
+// In the order of the planes.
 #[derive(Clone, Copy)]
 pub enum Block {
     Idle,
@@ -30,12 +31,7 @@ pub struct Blocks {
 fn plane_of(k: Block) -> usize
     ensures { (result ≡ plane_of k) × (result < 4) }
 {
-    match k {
-        Block::Idle => 0,
-        Block::Suspended => 1,
-        Block::Event => 2,
-        Block::Message => 3,
-    }
+    k as usize
 }
 
 fn has_block(tables: &[u8], shape: Shape, t: u8, k: Block) -> bool

@@ -4,6 +4,7 @@
 #![tactic(auto)]
 
 pub mod blocks;
+pub mod counts;
 pub mod planes;
 pub mod semaphores;
 pub mod shape;

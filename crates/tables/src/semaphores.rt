@@ -20,13 +20,11 @@ pub enum Semaphore {
 fn state_of(tasks: usize, x: u8) -> Semaphore
     ensures { result ≡ state_of tasks x }
 {
-    if x == 0 {
-        return Semaphore::Pending;
+    match x {
+        0 => Semaphore::Pending,
+        t if t as usize <= tasks => Semaphore::Waiting(t),
+        _ => Semaphore::Done,
     }
-    if x as usize <= tasks {
-        return Semaphore::Waiting(x);
-    }
-    Semaphore::Done
 }
 
 fn state_byte(s: Semaphore) -> u8
@@ -61,30 +59,20 @@ pub fn is_waiting(tables: &[u8], shape: Shape, b: u8) -> bool
     requires { Fits shape (length tables.now) × OneOf shape.semaphores b }
     ensures { Tells shape tables.now (λ c L. is_waiting (semaphore_of L b)) result }
 {
-    let s = load(tables, shape, b);
-    match s {
-        Semaphore::Pending => false,
-        Semaphore::Done => false,
-        Semaphore::Waiting(_) => true,
-    }
+    matches!(load(tables, shape, b), Semaphore::Waiting(_))
 }
 
 fn cleared(x: u8, t: u8) -> u8
     ensures { result ≡ cleared_of t x }
 {
-    if x == t {
-        return 0;
-    }
-    x
+    if x == t { 0 } else { x }
 }
 
 fn clear_all(part: &mut [u8], t: u8)
     ensures { part.new ≡ map (cleared_of t) part.old }
 {
-    let mut i = 0;
-    while i < part.len() {
-        part[i] = cleared(part[i], t);
-        i += 1;
+    for x in part.iter_mut() {
+        *x = cleared(*x, t);
     }
 }
 

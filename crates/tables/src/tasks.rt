@@ -1,7 +1,7 @@
 // The task records: six bytes of outcome and open request. The entry of an open enqueue waits in sixteen bytes beside it.
 ghost use Rattle.std.specs.Prelude.{◌≡◌, ◌≤◌, length, get_or};
 ghost use Rattle.rows.specs.Splice.{splice};
-ghost use Rattle.tables.specs.Decode.{outcome_of, outcome_written, outcome_bytes, request_of, request_kind, request_argument, request_bytes, view_outcome, view_request};
+ghost use Rattle.tables.specs.Decode.{outcome_of, outcome_bytes, request_of, request_bytes, view_outcome, view_request};
 ghost use Rattle.tables.specs.Layout.{OneOf, Fits, count_at};
 ghost use Rattle.tables.specs.Encoded.{AsksFor, Narrow};
 ghost use Rattle.tables.specs.Shows.{record_in, waiting_in, AsWide, Does, DoesIf, Tells};
@@ -33,133 +33,84 @@ pub enum Request {
 }
 
 #[derive(Clone, Copy)]
-struct OutcomeBytes {
-    kind: u8,
-    first: u8,
-    second: u8,
-    third: u8,
-}
-
-#[derive(Clone, Copy)]
 pub struct Task {
     pub blocks: Blocks,
     pub outcome: Outcome,
     pub request: Request,
 }
 
+// The kinds of outcome, as a record names them; any other byte is plain.
+const PLAIN: u8 = 0;
+
+const BEGIN: u8 = 1;
+
+const MESSAGE: u8 = 2;
+
+const ENTRY: u8 = 3;
+
+const REFUSED: u8 = 4;
+
+const SEMAPHORE: u8 = 5;
+
+const WOKE: u8 = 6;
+
+// And those of open request; any other byte is none.
+const NONE: u8 = 0;
+
+const RECEIVE: u8 = 1;
+
+const DEQUEUE: u8 = 2;
+
+const ENQUEUE: u8 = 3;
+
 fn outcome_of(k: u8, a: u8, b: u8, c: u8) -> Outcome
     ensures { result ≡ outcome_of k a b c }
 {
-    if k == 1 {
-        return Outcome::Begin;
+    match k {
+        BEGIN => Outcome::Begin,
+        MESSAGE => Outcome::Message(a, b, c),
+        ENTRY => Outcome::Entry(a),
+        REFUSED => Outcome::Refused(a),
+        SEMAPHORE => Outcome::Semaphore(a),
+        WOKE => Outcome::Woke(a),
+        _ => Outcome::Plain,
     }
-    if k == 2 {
-        return Outcome::Message(a, b, c);
-    }
-    if k == 3 {
-        return Outcome::Entry(a);
-    }
-    if k == 4 {
-        return Outcome::Refused(a);
-    }
-    if k == 5 {
-        return Outcome::Semaphore(a);
-    }
-    if k == 6 {
-        return Outcome::Woke(a);
-    }
-    Outcome::Plain
 }
 
-fn outcome_bytes(o: Outcome) -> OutcomeBytes
-    ensures { result ≡ outcome_written o }
+fn outcome_bytes(o: Outcome) -> [u8; 4]
+    ensures { result ≡ outcome_bytes o }
 {
     match o {
-        Outcome::Plain => OutcomeBytes {
-            kind: 0,
-            first: 0,
-            second: 0,
-            third: 0,
-        },
-        Outcome::Begin => OutcomeBytes {
-            kind: 1,
-            first: 0,
-            second: 0,
-            third: 0,
-        },
-        Outcome::Message(a, b, c) => OutcomeBytes {
-            kind: 2,
-            first: a,
-            second: b,
-            third: c,
-        },
-        Outcome::Entry(a) => OutcomeBytes {
-            kind: 3,
-            first: a,
-            second: 0,
-            third: 0,
-        },
-        Outcome::Refused(a) => OutcomeBytes {
-            kind: 4,
-            first: a,
-            second: 0,
-            third: 0,
-        },
-        Outcome::Semaphore(a) => OutcomeBytes {
-            kind: 5,
-            first: a,
-            second: 0,
-            third: 0,
-        },
-        Outcome::Woke(a) => OutcomeBytes {
-            kind: 6,
-            first: a,
-            second: 0,
-            third: 0,
-        },
+        Outcome::Plain => [PLAIN, 0, 0, 0],
+        Outcome::Begin => [BEGIN, 0, 0, 0],
+        Outcome::Message(a, b, c) => [MESSAGE, a, b, c],
+        Outcome::Entry(a) => [ENTRY, a, 0, 0],
+        Outcome::Refused(a) => [REFUSED, a, 0, 0],
+        Outcome::Semaphore(a) => [SEMAPHORE, a, 0, 0],
+        Outcome::Woke(a) => [WOKE, a, 0, 0],
     }
 }
 
 fn request_of(queues: usize, k: u8, a: u8) -> Request
     ensures { result ≡ request_of queues k a }
 {
-    if k == 1 {
-        return Request::Receive(a);
-    }
-    if a == 0 {
-        return Request::None;
-    }
-    if queues < a as usize {
-        return Request::None;
-    }
-    if k == 2 {
-        return Request::Dequeue(a);
-    }
-    if k == 3 {
-        return Request::Enqueue(a);
-    }
-    Request::None
-}
-
-fn request_kind(q: Request) -> u8
-    ensures { result ≡ request_kind q }
-{
-    match q {
-        Request::None => 0,
-        Request::Receive(_) => 1,
-        Request::Dequeue(_) => 2,
-        Request::Enqueue(_) => 3,
+    let queue = a != 0 && a as usize <= queues;
+    match k {
+        RECEIVE => Request::Receive(a),
+        DEQUEUE if queue => Request::Dequeue(a),
+        ENQUEUE if queue => Request::Enqueue(a),
+        _ => Request::None,
     }
 }
 
-fn request_argument(q: Request) -> u8
-    ensures { result ≡ request_argument q }
+fn request_bytes(q: Request) -> [u8; 2]
+    ensures { result ≡ request_bytes q }
 {
     match q {
-        Request::None => 0,
-        Request::Receive(a) => a,
-        Request::Dequeue(a) => a,
-        Request::Enqueue(a) => a,
+        Request::None => [NONE, 0],
+        Request::Receive(a) => [RECEIVE, a],
+        Request::Dequeue(a) => [DEQUEUE, a],
+        Request::Enqueue(a) => [ENQUEUE, a],
     }
 }
 
@@ -183,15 +134,15 @@ pub fn load(tables: &[u8], shape: Shape, t: u8) -> Task
     requires { Fits shape (length tables.now) × OneOf shape.tasks t }
     ensures { (result ≡ record_in shape tables.now t) × AsksFor shape.queues result.request }
 {
-    let b = crate::blocks::load(tables, shape, t);
+    let blocks = crate::blocks::load(tables, shape, t);
     let at = shape.recordat + (t as usize - 1) * 6;
     let end = at + 6;
-    let o = outcome_in(&tables[at..end]);
-    let q = request_in(&tables[at..end], shape.queues);
+    let outcome = outcome_in(&tables[at..end]);
+    let request = request_in(&tables[at..end], shape.queues);
     Task {
-        blocks: b,
-        outcome: o,
-        request: q,
+        blocks,
+        outcome,
+        request,
     }
 }
 
@@ -200,18 +151,19 @@ fn put_outcome(row: &mut [u8], o: Outcome)
     ensures { row.new ≡ splice row.old 0 (outcome_bytes o) }
 {
     let b = outcome_bytes(o);
-    row[0] = b.kind;
-    row[1] = b.first;
-    row[2] = b.second;
-    row[3] = b.third;
+    row[0] = b[0];
+    row[1] = b[1];
+    row[2] = b[2];
+    row[3] = b[3];
 }
 
 fn put_request(row: &mut [u8], q: Request)
     requires { length row.old ≡ 6 }
     ensures { row.new ≡ splice row.old 4 (request_bytes q) }
 {
-    row[4] = request_kind(q);
-    row[5] = request_argument(q);
+    let b = request_bytes(q);
+    row[4] = b[0];
+    row[5] = b[1];
 }
 
 // An entry is what the slot holds. The number of messages stays, and with it the room for one more.
@@ -240,11 +192,10 @@ pub fn running(tables: &[u8], shape: Shape) -> u8
     requires { Fits shape (length tables.now) }
     ensures { (result ≤ shape.tasks) × Tells shape tables.now (λ c L. ledger.running L) result }
 {
-    let i = first_free(&tables[PLANES_AT..RECORDS_AT]);
-    if i < shape.tasks {
-        return (i + 1) as u8;
-    }
-    0
+    let Some(i) = first_free(&tables[PLANES_AT..RECORDS_AT]) else {
+        return 0;
+    };
+    if i < shape.tasks { (i + 1) as u8 } else { 0 }
 }
 
 // Copies the entry that waits to be put out of the tables.

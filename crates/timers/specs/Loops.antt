@@ -1,11 +1,12 @@
 -- The turns and ends of the loops over the rows, in the form in which the needs ask them.
-use Rattle.std.specs.Prelude.{◌≡◌, List, ◌∷◌, map, Bool, true, false, ℕ, zero, suc, ◌+◌, ◌-◌, ◌*◌, ◌<◌, ◌≤◌, length, get_or, drop, set}
-use Rattle.std.proofs.Common.{sym, ap, ◌∙◌, add-one, arith, drop_of_length-le, drop-cons, lt-ltb, le-ltb}
-use Rattle.ledger.specs.Lists.{any}
+use Rattle.std.specs.Prelude.{◌≡◌, List, ◌∷◌, map, Bool, true, false, ℕ, zero, suc, ◌+◌, ◌-◌, ◌<◌, ◌≤◌, length, get_or, take, drop, set}
+use Rattle.std.proofs.Common.{refl, sym, ap, ◌∙◌, add-one, arith, drop_of_length-le, drop-cons, lt-ltb, le-ltb}
+use Rattle.std.proofs.Math.Seq.{drop_at, length-take-le}
+use Rattle.ledger.specs.Lists.{any, keep}
 use Rattle.ledger.specs.Ledger.{Timer}
 use Rattle.ledger.specs.Session.{TimerLeft}
 use Rattle.rows.specs.Rows.{map_upto, map_upto_at, map_upto_suc, map_upto_all, remove_at}
-use Rattle.rows.specs.First.{first_of, first_here, first_on, first_end, keep_from, keep_on, keep_out, keep_end, any_is}
+use Rattle.rows.specs.First.{first_of, first_here, first_on, first_end, keep_remove_other, any_is}
 use Rattle.rows.specs.Four.{le4}
 use Rattle.timers.specs.Timers.{left_at, until_due, records_in, record_at, timers_in, no_timer, no_entry, due_at, settled_by, AllFrom, LastBy, Leaves}
 use Rattle.timers.specs.Order.{from_none, from_fewer, from_cons}
@@ -42,25 +43,43 @@ module _ (p : TimerLeft → Bool) (same : Blind p) (n k : ℕ) (d : List ℕ) (s
       let q : k ≡ first_of p (timers_in n d) = first_end p (timers_in n d) k so_far (rw length_timers h) in
       sym (any_is p (timers_in n d) ∙ le-ltb (first_of p (timers_in n d)) (length (timers_in n d)) (omega (arith, length_timers n d)))
 
--- ---- a purge that has come to place k
+-- ---- a purge, from the last timer back to timer k: it keeps of these what it keeps of all, and each from k on stays
 
-module _ (p : TimerLeft → Bool) (same : Blind p) (m k : ℕ) (d : List ℕ) (l₀ : List TimerLeft) (so_far : keep_from p k (timers_in m d) ≡ l₀) where
-  pub purge_on : (r : Bool) → k < m → r ≡ p (left_at 0 (record_at d k)) → r ≡ true → keep_from p (k + 1) (timers_in m d) ≡ l₀
-  purge_on r h e t = keep_on p (timers_in m d) k no_timer (rw length_timers h) (blind_at p same m k d h ∙ sym e ∙ t) ∙ so_far
+abbrev pub Purged : (TimerLeft → Bool) → (m k : ℕ) (d : List ℕ) → List TimerLeft → Type 0
+Purged p m k d l = (k ≤ m) × (keep p (timers_in m d) ≡ keep p l) × (keep p (drop k (timers_in m d)) ≡ drop k (timers_in m d))
 
-  pub purge_out : (d' : List ℕ) → k < m → p (left_at 0 (record_at d k)) ≡ false → timers_in (m - 1) d' ≡ remove_at k (timers_in m d) → keep_from p k (timers_in (m - 1) d') ≡ l₀
-  purge_out d' h f x =
-      ap (keep_from p k) x
-      ∙ keep_out p (timers_in m d) k no_timer (rw length_timers h) (blind_at p same m k d h ∙ f)
-      ∙ so_far
+pub purge_start : (p : TimerLeft → Bool) (n : ℕ) (d : List ℕ) → Purged p n n d (timers_in n d)
+unfolding keep
+purge_start p n d = (omega arith, refl, rw (drop_of_length-le (timers_in n d) {i = n} (rw length_timers (omega arith))))
 
-  pub purge_end : m ≤ k → timers_in m d ≡ l₀
-  purge_end h = sym (keep_end p (timers_in m d) k (rw length_timers h)) ∙ so_far
+module _ (p : TimerLeft → Bool) (same : Blind p) (m i k : ℕ) (d : List ℕ) (l : List TimerLeft) (before : i ≡ suc k) (so_far : Purged p m i d l)
+    (r : Bool) (e : r ≡ p (left_at 0 (record_at d k))) where
+  here : k < m
+  here = omega (arith, so_far.0)
 
--- behind all of them none goes out
-pub purge_last : (p : TimerLeft → Bool) (m : ℕ) (d : List ℕ) (l₀ : List TimerLeft) (i : ℕ) → keep_from p i (timers_in m d) ≡ l₀ → m ≤ i → keep_from p m (timers_in m d) ≡ l₀
-purge_last p m d l₀ i e h =
-    keep_end p (timers_in m d) m (rw length_timers (omega arith)) ∙ sym (keep_end p (timers_in m d) i (rw length_timers h)) ∙ e
+  timer_here : p (get_or (timers_in m d) k no_timer) ≡ r
+  timer_here = blind_at p same m k d here ∙ sym e
+
+  behind : keep p (drop (suc k) (timers_in m d)) ≡ drop (suc k) (timers_in m d)
+  behind = rw before at so_far.2
+
+  pub purge_on : r ≡ true → Purged p m k d l
+  unfolding keep
+  purge_on t =
+      let c = drop-cons (timers_in m d) k no_timer (rw length_timers here) in
+      (omega (arith, here), so_far.1, rw (c, timer_here, t) (ap (◌∷◌ (get_or (timers_in m d) k no_timer)) behind))
+
+  pub purge_out : (d' : List ℕ) → r ≡ false → timers_in (m - 1) d' ≡ remove_at k (timers_in m d) → Purged p (m - 1) k d' l
+  purge_out d' f x =
+      let n : length (take k (timers_in m d)) ≡ k = length-take-le k (timers_in m d) (rw length_timers (omega (arith, here))) in
+      let b : drop k (timers_in (m - 1) d') ≡ drop (suc k) (timers_in m d) =
+      ap (drop k) x ∙ drop_at (take k (timers_in m d)) (drop (k + 1) (timers_in m d)) k n ∙ ap (λ (i : ℕ). drop i (timers_in m d)) (add-one k) in
+      (omega (arith, here), ap (keep p) x ∙ keep_remove_other p k (timers_in m d) no_timer (timer_here ∙ f) ∙ so_far.1, rw b behind)
+
+-- none is before the first
+pub purge_end : (p : TimerLeft → Bool) (m k : ℕ) (d : List ℕ) (l : List TimerLeft) → Purged p m k d l → k ≤ 0 → timers_in m d ≡ keep p l
+purge_end p m zero d l so_far h = sym so_far.2 ∙ so_far.1
+purge_end p m (suc k) d l so_far h = absurd (omega arith)
 
 -- ---- the first k records are settled
 
@@ -83,31 +102,21 @@ module _ (back floor n k : ℕ) (d₀ d : List ℕ) (so_far : Leaves n d₀ d (m
   pub settle_end : n ≤ k → Leaves n d₀ d (map (settled_by back floor) (records_in n d₀))
   settle_end h = (so_far.0, so_far.1, so_far.2 ∙ map_upto_all (settled_by back floor) k (records_in n d₀) (rw length_records h))
 
--- ---- from the last record back to record k, which lies in row k + 1
+-- ---- from the last record back to record k
 
 pub place_start : (x n : ℕ) (d : List ℕ) → AllFrom x (drop n (records_in n d))
 place_start x n d = rw (drop_of_length-le (records_in n d) {i = n} (rw length_records (omega arith))) (from_none x)
 
-module _ (n k x : ℕ) (d : List ℕ) (h : 0 < k) (f : k ≤ n) (e : x ≡ le4 d (k * 10 + 2)) where
-  time_here : (get_or (records_in n d) (k - 1) no_entry).due ≡ x
-  time_here =
-      let i : (k - 1) * 10 + 12 ≡ k * 10 + 2 = omega arith in
-      ap (λ (t : Timer). t.due) (record_at_lem n (k - 1) d (omega arith)) ∙ ap (le4 d) i ∙ sym e
+module _ (n k x : ℕ) (d : List ℕ) (h : k < n) (e : x ≡ (record_at d k).due) where
+  time_here : (get_or (records_in n d) k no_entry).due ≡ x
+  time_here = ap (λ (t : Timer). t.due) (record_at_lem n k d h) ∙ sym e
 
   -- one more that is not before z
-  pub place_on : (y z : ℕ) → z ≤ x → z ≤ y → AllFrom y (drop k (records_in n d)) → AllFrom z (drop (k - 1) (records_in n d))
+  pub place_on : (y z : ℕ) → z ≤ x → z ≤ y → AllFrom y (drop (suc k) (records_in n d)) → AllFrom z (drop k (records_in n d))
   place_on y z zx zy a =
       let l : List Timer = records_in n d in
-      let s : suc (k - 1) ≡ k = omega arith in
-      let c : drop (k - 1) l ≡ get_or l (k - 1) no_entry ∷ drop k l =
-      drop-cons l (k - 1) no_entry (rw length_records (omega arith)) ∙ ap (λ (i : ℕ). get_or l (k - 1) no_entry ∷ drop i l) s in
-      rw c (from_cons z (get_or l (k - 1) no_entry) (drop k l) (omega (arith, time_here)) (from_fewer y z (drop k l) a zy))
+      let c : drop k l ≡ get_or l k no_entry ∷ drop (suc k) l = drop-cons l k no_entry (rw length_records h) in
+      rw c (from_cons z (get_or l k no_entry) (drop (suc k) l) (omega (arith, time_here)) (from_fewer y z (drop (suc k) l) a zy))
 
-  pub place_here : (y : ℕ) → x ≤ y → LastBy y k (records_in n d)
-  place_here y xy = go k h time_here
-    where
-      go : (k : ℕ) → 0 < k → (get_or (records_in n d) (k - 1) no_entry).due ≡ x → LastBy y k (records_in n d)
-      go zero h e = absurd (omega arith)
-      go (suc k) h e =
-          let s : suc k - 1 ≡ k = omega arith in
-          omega (arith, rw s at e)
+  pub place_here : (y : ℕ) → x ≤ y → LastBy y (suc k) (records_in n d)
+  place_here y xy = omega (arith, time_here)

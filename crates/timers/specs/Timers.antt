@@ -1,12 +1,12 @@
 -- Timers in bytes: what the rows mean, and what the ledger's changes are on timers by the tocks left.
-use Rattle.std.specs.Prelude.{◌≡◌, List, [], ◌∷◌, ◌++◌, map, Bool, false, cond, not, ◌&&◌, ◌||◌, ℕ, zero, suc, ◌+◌, ◌-◌, ◌*◌, ◌<◌, ◌≤◌, min, max, length, get_or, drop, set, ltb, eqb}
+use Rattle.std.specs.Prelude.{◌≡◌, List, [], ◌∷◌, ◌++◌, map, Bool, cond, not, ◌&&◌, ◌||◌, ℕ, zero, suc, ◌+◌, ◌-◌, ◌*◌, ◌<◌, ◌≤◌, min, max, length, get_or, drop, set, ltb, eqb}
 use Rattle.ledger.specs.Lists.{keep, without, insert_by}
 use Rattle.ledger.specs.Ledger.{Timer}
 use Rattle.ledger.specs.Session.{TimerLeft}
 pub use Rattle.ledger.specs.Seen.{started_for}
 use Rattle.rows.specs.Four.{le4, bytes4}
 use Rattle.rows.specs.Rows.{rows_of}
-use Rattle.rows.specs.First.{first_of, keep_from}
+use Rattle.rows.specs.First.{first_of}
 
 -- ---- bytes
 
@@ -152,7 +152,3 @@ Placed n x d at first = (at ≤ n) × LastBy x at (records_in n d) × AllFrom (s
 -- the floor is lower, before every record, and n timers are as they were
 abbrev pub Lowered : (n floor : ℕ) (d d' : List ℕ) → Type 0
 Lowered n floor d d' = (le4 d' 2 ≡ le4 d 2) × (le4 d' 6 ≡ floor) × AllFrom (suc floor) (records_in n d') × (timers_in n d' ≡ timers_in n d)
-
--- the first of n timers, from timer k on, that does not stay, or n
-abbrev pub NextOut : (TimerLeft → Bool) → (n k : ℕ) (d : List ℕ) → ℕ → Type 0
-NextOut p n k d r = (r ≤ n) × (keep_from p r (timers_in n d) ≡ keep_from p k (timers_in n d)) × (r < n → p (left_at 0 (record_at d r)) ≡ false)

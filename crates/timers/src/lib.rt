@@ -4,13 +4,13 @@
 // Rests on the crates rows (rows moved in a slice) and ledger (the definitions).
 #![tactic(auto)]
 
-ghost use Rattle.std.specs.Prelude.{◌≡◌, map, ◌+◌, ◌-◌, ◌*◌, ◌^◌, ◌<◌, ◌≤◌, min, length};
+ghost use Rattle.std.specs.Prelude.{◌≡◌, map, ◌+◌, ◌-◌, ◌*◌, ◌^◌, ◌<◌, ◌≤◌, min, length, is_none, unwrap_or};
 ghost use Rattle.ledger.specs.Lists.{any, keep, insert_by};
 ghost use Rattle.rows.specs.Four.{le4};
 ghost use Rattle.rows.specs.Rows.{insert_at, remove_at};
 ghost use Rattle.timers.specs.Timers.{row_of, timer, entry, left_at, record_at, records_in, timers_in, until_due, StaysUpright};
 ghost use Rattle.timers.specs.Timers.{tocks_left, started_for, stays, tocked, due_in, first_due, taken_due};
-ghost use Rattle.timers.specs.Timers.{Leaves, SetDue, settled_by, handed_on, Placed, Lowered, NextOut};
+ghost use Rattle.timers.specs.Timers.{Leaves, SetDue, settled_by, handed_on, Placed, Lowered};
 
 use rows::{get4, put4};
 
@@ -30,7 +30,7 @@ fn set_due(b: &mut [u8], k: usize, x: u32)
     put4(b, k * 10 + 12, x);
 }
 
-// The difference, or 0.
+// The difference, or 0. Not std's `saturating_sub`: the theorems about runs know the code of the repository's own functions alone (`environment`, theorems/proofs/World).
 fn minus(x: u32, y: u32) -> u32
     ensures { result ≡ x - y }
 {
@@ -52,11 +52,9 @@ fn settle(b: &mut [u8], n: usize, floor: u32, back: u32)
     requires { n * 10 + 10 ≤ length b.old }
     ensures { Leaves n b.old b.new (map (settled_by back floor) (records_in n b.old)) }
 {
-    let mut k = 0;
-    while k < n {
+    for k in 0..n {
         let x = due_at(b, k);
         set_due(b, k, settled(x, floor, back));
-        k += 1;
     }
 }
 
@@ -67,7 +65,7 @@ fn time_before(b: &mut [u8], n: usize, left: u32) -> u32
     ensures upright { StaysUpright n b.old n b.new }
 {
     let time = get4(b, 2);
-    if left <= 4294967295 - time {
+    if left <= u32::MAX - time {
         return time;
     }
     settle(b, n, 0, time);
@@ -77,7 +75,7 @@ fn time_before(b: &mut [u8], n: usize, left: u32) -> u32
     0
 }
 
-// The lesser of two.
+// The lesser of two. Not std's `min`, for the same reason as `minus`.
 fn lesser(x: u32, y: u32) -> u32
     ensures { result ≡ min x y }
 {
@@ -96,23 +94,15 @@ fn place(b: &[u8], n: usize, due: u32) -> Found
     requires { n * 10 + 10 ≤ length b.now }
     ensures { Placed n due b.now result.at result.first }
 {
-    let mut k = n;
-    let mut first = 4294967295;
-    while 0 < k {
-        let time = get4(b, k * 10 + 2);
+    let mut first = u32::MAX;
+    for k in (0..n).rev() {
+        let time = due_at(b, k);
         if time <= due {
-            return Found {
-                at: k,
-                first: first,
-            };
+            return Found { at: k + 1, first };
         }
         first = lesser(time, first);
-        k -= 1;
     }
-    Found {
-        at: 0,
-        first: first,
-    }
+    Found { at: 0, first }
 }
 
 // Lowers the floor to a time before it. No timer that was due at the floor is due earlier.
@@ -176,44 +166,26 @@ pub fn has(b: &[u8], n: usize, task: u8, semaphore: u8) -> bool
     requires { n * 10 + 10 ≤ length b.now }
     ensures { result ≡ any (started_for task semaphore) (timers_in n b.now) }
 {
-    let mut k = 0;
-    while k < n {
+    for k in 0..n {
         if is_for(b, k, task, semaphore) {
             return true;
         }
-        k += 1;
     }
     false
 }
 
 // Whether a purge leaves timer k.
-fn is_left(b: &[u8], k: usize, task: u8, all: bool, semaphore: u8) -> bool
+fn is_left(b: &[u8], k: usize, task: u8, semaphore: Option<u8>) -> bool
     requires { k * 10 + 20 ≤ length b.now }
-    ensures { result ≡ stays task all semaphore (left_at 0 (record_at b.now k)) }
+    ensures { result ≡ stays task (is_none semaphore) (unwrap_or semaphore 0) (left_at 0 (record_at b.now k)) }
 {
     if b[k * 10 + 10] != task {
         return true;
     }
-    if all {
-        return false;
+    match semaphore {
+        None => false,
+        Some(semaphore) => b[k * 10 + 11] != semaphore,
     }
-    b[k * 10 + 11] != semaphore
-}
-
-// The first of n timers, from timer k on, that a purge takes out, or n.
-fn next_out(b: &[u8], n: usize, k: usize, task: u8, all: bool, semaphore: u8) -> usize
-    requires { (k ≤ n) × (n * 10 + 10 ≤ length b.now) }
-    ensures { NextOut (stays task all semaphore) n k b.now result }
-{
-    let mut i = k;
-    while i < n {
-        if is_left(b, i, task, all, semaphore) {
-            i += 1;
-        } else {
-            return i;
-        }
-    }
-    n
 }
 
 // Makes record k of n ready to be taken out: the one before it is due no later than it was.
@@ -239,20 +211,21 @@ fn remove(b: &mut [u8], n: usize, k: usize)
     rows::remove_at(b, n + 1, 10, k + 1);
 }
 
-// Takes out of n timers all of a task, or only those on a semaphore. Gives the number that is left.
-pub fn purge(b: &mut [u8], n: usize, task: u8, all: bool, semaphore: u8) -> usize
+// Takes out of n timers those of a task on a semaphore, or all of the task where none is named. Gives the number that is left.
+// From the last one back, so that the fewest rows are moved.
+pub fn purge(b: &mut [u8], n: usize, task: u8, semaphore: Option<u8>) -> usize
     requires { n * 10 + 10 ≤ length b.old }
-    ensures means { (result ≤ n) × (timers_in result b.new ≡ keep (stays task all semaphore) (timers_in n b.old)) }
+    ensures means { (result ≤ n) × (timers_in result b.new ≡ keep (stays task (is_none semaphore) (unwrap_or semaphore 0)) (timers_in n b.old)) }
     ensures upright { StaysUpright n b.old result b.new }
 {
-    let mut m = n;
-    let mut k = next_out(b, n, 0, task, all, semaphore);
-    while k < m {
-        remove(b, m, k);
-        m -= 1;
-        k = next_out(b, m, k, task, all, semaphore);
+    let mut left = n;
+    for k in (0..n).rev() {
+        if !is_left(b, k, task, semaphore) {
+            remove(b, left, k);
+            left -= 1;
+        }
     }
-    m
+    left
 }
 
 // A tock passes for each of n timers. Gives the number of those that are then due.
@@ -295,6 +268,7 @@ fn put_again(b: &mut [u8], n: usize, task: u8, semaphore: u8, period: u32)
 }
 
 // Takes the first of n timers, which is due, out, and puts it in again if it is cyclic.
+#[tactic(auto, using(crate::specs::Tocks::some_timer))]
 pub fn take_due(b: &mut [u8], n: usize) -> Due
     requires { (n * 10 + 10 ≤ length b.old) × (0 < due_in (timers_in n b.old)) }
     ensures means { (result.count ≤ n) × (result.semaphore ≡ (first_due (timers_in n b.old)).semaphore) × (timers_in result.count b.new ≡ taken_due (timers_in n b.old)) }
@@ -306,13 +280,13 @@ pub fn take_due(b: &mut [u8], n: usize) -> Due
     if period == 0 {
         remove(b, n, 0);
         return Due {
-            semaphore: semaphore,
+            semaphore,
             count: n - 1,
         };
     }
     put_again(b, n, task, semaphore, period);
     Due {
-        semaphore: semaphore,
+        semaphore,
         count: n,
     }
 }

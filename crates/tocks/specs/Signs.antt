@@ -1,6 +1,6 @@
 -- A signed number as a tock value, from its bits at every width: positive is one-shot, negative is cyclic with the opposite
 -- number as its period.
-use Rattle.std.specs.Prelude.{zero, suc, ◌*◌, ◌-◌, ◌^◌, ◌<◌, ◌≡◌, refl, ℤ, pos, negsuc}
+use Rattle.std.specs.Prelude.{ℕ, zero, suc, ◌*◌, ◌-◌, ◌^◌, ◌<◌, ◌≡◌, refl, ℤ, pos, negsuc, cond, ltb}
 use Rattle.std.proofs.Common.{sym, ◌∙◌, ap, arith}
 use Rattle.std.specs.Int.{Width, w8, w16, w32, w64, w128}
 use mir.Val.{bits, hbits, SFits, of_z}
@@ -11,6 +11,10 @@ abbrev pub asked : ℤ → TockValue
 asked (pos zero) = none
 asked (pos (suc n)) = one_shot (suc n)
 asked (negsuc k) = cyclic (suc k)
+
+-- the signed number of these bits, where half of all are `half`: as they are, or -1 less what they lack to all ones
+abbrev pub signed_of : (half bits : ℕ) → ℤ
+signed_of half bits = cond (ltb bits half) (pos bits) (negsuc (2 * half - suc bits))
 
 -- half of all values, twice
 pub halves : (w : Width) → 2 ^ bits w ≡ 2 * 2 ^ hbits w

@@ -15,7 +15,9 @@ use plain_executive::stretch::MOST_RECORDS;
 use plain_executive::tasks::SLOT_BYTES;
 use std::fs;
 use std::process::Command;
-use tools::{answers, built, frames_of, languages, of_caller, printed, repository, run, scratch, stories, text};
+use tools::{
+    answers, built, copied, frames_of, languages, of_caller, printed, repository, run, scratch, stories, text,
+};
 
 for_each_caller!(
     every_language_replays_the_stories_and_random_sessions,
@@ -203,9 +205,7 @@ fn the_examples_print_what_is_stored() {
 fn the_build_says_what_is_missing() {
     let folder = scratch("build").join("host");
     fs::create_dir(&folder).unwrap();
-    for file in ["build", "example.c"] {
-        fs::copy(repository().join("host").join(file), folder.join(file)).unwrap();
-    }
+    copied(&["build", "example.c"], &folder);
     for (name, advice) in
         [("example", "run './build archive' first"), ("exmaple", "name 'example', 'switching' or 'both'")]
     {

@@ -6,7 +6,7 @@ mod tools;
 use std::fs;
 use std::path::{Path, PathBuf};
 use std::process::Command;
-use tools::{printed, repository, run, scratch, text};
+use tools::{copied, printed, repository, run, scratch, text};
 
 /// An installed copy, moved behind the installation, and the example host as C and as C++ beside it.
 fn copy(name: &str) -> (PathBuf, PathBuf) {
@@ -117,9 +117,7 @@ fn hosts_are_built_with_cmake() {
 fn the_installation_says_what_is_missing() {
     let folder = scratch("not installed");
     fs::create_dir(folder.join("host")).unwrap();
-    for file in ["install", "mcx11.h"] {
-        fs::copy(repository().join("host").join(file), folder.join("host").join(file)).unwrap();
-    }
+    copied(&["install", "mcx11.h"], &folder.join("host"));
     let cases =
         [(vec![], "host/install PREFIX"), (vec!["there"], "run './build archive' first"), (vec!["a", "b"], "PREFIX")];
     for (arguments, advice) in cases {

@@ -15,7 +15,7 @@ use tools::{frames_of, stories, text};
 
 /// What the papers say, of a configuration or a frame and of a free start.
 const FEWER: usize = 700;
-const FEWER_IN_START: usize = 200;
+const FEWER_IN_START: usize = 100;
 
 fn story(name: String) -> Script {
     let lines = frames_of(&name);

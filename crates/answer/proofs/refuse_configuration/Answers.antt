@@ -4,4 +4,4 @@ use Rattle.answer.proofs.refuse_configuration.Goals as goal
 
 pub returns : goal.returns
 unfolding refused_configuration
-returns c = c.put_kind.ensures
+returns c = c.put.ensures

@@ -7,7 +7,7 @@ pub returns-then-running-eq0 : goal.returns-then-running-eq0
 returns-then-running-eq0 c =
     let a = c.args in
     λ g L w h r.
-    answer_null g a.shape L a.tables.now a.slots.now w h _ r a.answer.now _ c.if-running-eq0.true c.put_kind.ensures
+    answer_null g a.shape L a.tables.now a.slots.now w h _ r a.answer.now _ c.if-running-eq0.true c.put.ensures
 
 pub returns : goal.returns
 returns c =

@@ -1,14 +1,7 @@
 -- `pass` lends the records, and the count stays.
 use native.Mathlib.Omega.{arith}
-use Rattle.clock.specs.Held.{some_byte, records_in_lem}
 use Rattle.clock.specs.Changed.{pass_due, pass_does}
 use Rattle.clock.proofs.pass.Goals as goal
-
-pub slice_bounds-pass-count : goal.slice_bounds-pass-count
-slice_bounds-pass-count c = some_byte c.requires
-
-pub pass-requires : goal.pass-requires
-pass-requires c = records_in_lem c.args.timers.now c.requires c.count-n.result c.count-n.ensures.0
 
 pub returns : goal.returns
 returns c =

@@ -1,25 +1,15 @@
 -- `take_due` lends the records, and stores how many there are then.
 use native.Mathlib.Omega.{arith}
-use mathlib.Core.Path.{ap}
+use mathlib.Core.Path.{refl, ap}
 use Rattle.timers.specs.Timers.{due_in}
-use Rattle.clock.specs.Held.{few, some_byte, records_in_lem, lent}
+use Rattle.clock.specs.Held.{records_in_lem, lent}
 use Rattle.clock.specs.Changed.{due_tells, due_fewer, due_does}
 use Rattle.clock.proofs.take_due.Goals as goal
-
-pub slice_bounds-take_due-count : goal.slice_bounds-take_due-count
-slice_bounds-take_due-count c = some_byte c.requires.0
 
 pub take_due-due-requires : goal.take_due-due-requires
 take_due-due-requires c =
     let n = c.count-n in
     (records_in_lem c.args.timers.now c.requires.0 n.result n.ensures.0, omega (arith, c.requires.1, ap due_in (lent c.args.shape c.args.timers.now c.requires.0 n.result n.ensures.1)))
-
-pub byte-requires : goal.byte-requires
-byte-requires c =
-    omega (arith, c.take_due-due.ensures.means.0, c.count-n.ensures.0, few c.requires.0)
-
-pub bounds-timers-0 : goal.bounds-timers-0
-bounds-timers-0 c = omega (arith, c.timers-1.given.1, some_byte c.requires.0)
 
 pub returns : goal.returns
 returns c = let n = c.count-n in
@@ -29,7 +19,7 @@ returns c = let n = c.count-n in
     let w = c.args.timers.now in
     let f = p.result in
     let u = p.ensures.means in record {
-      fewer = due_fewer h w c.requires.0 n.result n.ensures.1 p.new.b k f.count c.byte.result (omega (arith, u.0, n.ensures.0)) c.byte.ensures p.ensures.upright u.2 c.requires.1;
+      fewer = due_fewer h w c.requires.0 n.result n.ensures.1 p.new.b k f.count f.count (omega (arith, u.0, n.ensures.0)) refl p.ensures.upright u.2 c.requires.1;
       tells = due_tells h w c.requires.0 n.result n.ensures.1 f.semaphore u.1;
-      does = due_does h w c.requires.0 n.result n.ensures.1 p.new.b k f.count c.byte.result (omega (arith, u.0, n.ensures.0)) c.byte.ensures p.ensures.upright u.2;
+      does = due_does h w c.requires.0 n.result n.ensures.1 p.new.b k f.count f.count (omega (arith, u.0, n.ensures.0)) refl p.ensures.upright u.2;
     }

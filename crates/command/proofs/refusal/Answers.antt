@@ -1,5 +1,6 @@
 -- `refusal`: each code's checks; a frame without a code of the table is refused before.
-use Rattle.command.specs.Codes.{no_code_left}
+use native.Mathlib.Omega.{arith}
+use Rattle.std.proofs.lemmas.Bool.Decides.{nat_tests}
 use Rattle.command.specs.Refused.{too_short, no_code}
 use Rattle.command.proofs.refusal.Goals as goal
 
@@ -7,4 +8,4 @@ pub returns-then-frame-lt5 : goal.returns-then-frame-lt5
 returns-then-frame-lt5 c = too_short c.args.frame.now c.if-frame-lt5.true
 
 pub returns-in_default : goal.returns-in_default
-returns-in_default c = let r = c.in_default.in_default-own.rest in no_code c.args.frame.now c.if-frame-lt5.false (no_code_left _ r.0.0.0.0.0.0.0.0.0.0.0.0.0.0.0.0.0.1 r.0.0.0.0.0.0.0.0.0.0.0.0.0.0.0.0.1 r.0.0.0.0.0.0.0.0.0.0.0.0.0.0.0.1 r.0.0.0.0.0.0.0.0.0.0.0.0.0.0.1 r.0.0.0.0.0.0.0.0.0.0.0.0.0.1 r.0.0.0.0.0.0.0.0.0.0.0.0.1 r.0.0.0.0.0.0.0.0.0.0.0.1 r.0.0.0.0.0.0.0.0.0.0.1 r.0.0.0.0.0.0.0.0.0.1 r.0.0.0.0.0.0.0.0.1 r.0.0.0.0.0.0.0.1 r.0.0.0.0.0.0.1 r.0.0.0.0.0.1 r.0.0.0.0.1 r.0.0.0.1 r.0.0.1 r.0.1 r.1)
+returns-in_default c = no_code c.args.frame.now c.if-frame-lt5.false (grind (arith, nat_tests))

@@ -6,7 +6,7 @@ use Rattle.feeding.proofs.answer_line.Goals as goal
 pub returns-in-First : goal.returns-in-First
 returns-in-First c =
     let p = c.print.ensures in
-    (p.0, says_first _ _ _ _ _ _ _ c.in-First.is c.reply_first-after.ensures p.1)
+    (p.0, says_first _ _ _ _ _ _ _ c.in-First.is c.reply_first-stage.ensures p.1)
 
 pub returns-in-Running : goal.returns-in-Running
 returns-in-Running c =

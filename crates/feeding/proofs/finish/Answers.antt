@@ -1,15 +1,10 @@
 -- With nothing held there is no line; else what is held is answered.
-use mathlib.Core.Path.{sym}
 use native.Mathlib.Omega.{arith}
-use lib.Seq.{length-take-le}
 use Rattle.feeding.specs.Feeds.{ends_none, ends_line}
 use Rattle.feeding.proofs.finish.Goals as goal
 
 pub returns-then-end-eq0 : goal.returns-then-end-eq0
 returns-then-end-eq0 c = (omega arith, ends_none _ _ c.if-end-eq0.true)
-
-pub slice_bounds-answer_line-end : goal.slice_bounds-answer_line-end
-slice_bounds-answer_line-end c = sym (length-take-le _ _ (omega (arith, c.requires.0, c.requires.2)))
 
 pub returns : goal.returns
 returns c =

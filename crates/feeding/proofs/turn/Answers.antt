@@ -1,22 +1,13 @@
--- The line is gathered; where its end was met, it is answered.
-use mathlib.Core.Path.{sym}
+-- A line is answered; of a part the bytes are held.
 use native.Mathlib.Omega.{arith}
-use borrow.Author.Tests.{not-true, not-false}
-use lib.Seq.{length-take-le}
-use Rattle.feeding.specs.Feeds.{turns_unended, turns_ended}
-use Rattle.std.proofs.lemmas.Bool.{not-true, not-false}
+use Rattle.feeding.specs.Feeds.{turns_part, turns_line}
 use Rattle.feeding.proofs.turn.Goals as goal
 
-pub returns-then-not-g : goal.returns-then-not-g
-returns-then-not-g c =
-    let g = c.gather-g.ensures in
-    (g.1.onward c.requires.0, g.1.within.1, g.0, omega arith, turns_unended _ _ _ _ _ g.1 _ _ (not-true _ c.if-not-g.true))
+pub returns-in-Part : goal.returns-in-Part
+returns-in-Part c = let g = c.in-Part.ensures in (c.requires.0, omega arith, g.few, omega arith, turns_part _ _ _ _ _ _ _ g)
 
-pub slice_bounds-answer_line-end-2 : goal.slice_bounds-answer_line-end-2
-slice_bounds-answer_line-end-2 c = sym (length-take-le _ _ (omega (arith, c.gather-g.ensures.0, c.gather-g.auto.line, c.requires.3)))
-
-pub returns : goal.returns
-returns c =
-    let g = c.gather-g.ensures in
+pub returns-in-Line : goal.returns-in-Line
+returns-in-Line c =
+    let g = c.in-Line.ensures in
     let a = c.answer_line-a in
-    (g.1.onward c.requires.0, g.1.within.1, omega arith, a.ensures.0, turns_ended _ _ _ _ _ g.1 _ _ (not-false _ c.if-not-g.false) _ _ _ a.ensures.1)
+    (g.onward, g.up_to, omega arith, a.ensures.0, turns_line _ _ _ _ _ _ _ _ g _ _ _ a.ensures.1)

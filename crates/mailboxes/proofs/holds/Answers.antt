@@ -10,10 +10,10 @@ pub slice_bounds-holds-count : goal.slice_bounds-holds-count
 slice_bounds-holds-count c = (lies c.requires).start
 
 pub holds-requires : goal.holds-requires
-holds-requires c = bytes_bounded c.args.tables.now c.requires c.count-n.ensures.1
+holds-requires c = bytes_bounded c.args.tables.now c.requires c.count_of-n.ensures.1
 
 pub returns : goal.returns
 returns c =
     let a = c.args in
-    let n = c.count-n in
+    let n = c.count_of-n in
     λ g L z w h. holds_told g a.shape L a.tables.now z w h n.result n.ensures.0 a.number c.holds.result c.holds.ensures

@@ -13,15 +13,15 @@ slice_bounds-insert-count c = (lies c.requires.0).start
 pub insert-requires : goal.insert-requires
 insert-requires c =
     let t = c.requires.1 in
-    (bytes_bounded c.args.tables.now c.requires.0 (omega (arith, c.count-n.ensures.0, c.requires.2)), omega (arith, t.0, t.1), omega (arith, t.0, t.1))
+    (bytes_bounded c.args.tables.now c.requires.0 (omega (arith, c.count_of-n.ensures.0, c.requires.2)), omega (arith, t.0, t.1), omega (arith, t.0, t.1))
 
 pub overflow_add-tables : goal.overflow_add-tables
 overflow_add-tables c =
-    omega (arith, (lies c.requires.0).most, c.count-n.ensures.1)
+    omega (arith, (lies c.requires.0).most, c.count_of-n.ensures.1)
 
 pub overflow_cast-tables : goal.overflow_cast-tables
 overflow_cast-tables c =
-    omega (arith, (lies c.requires.0).most, c.count-n.ensures.1)
+    omega (arith, (lies c.requires.0).most, c.count_of-n.ensures.1)
 
 pub bounds-tables-1-2 : goal.bounds-tables-1-2
 bounds-tables-1-2 c = omega (arith, (lies c.requires.0).counted)
@@ -29,6 +29,6 @@ bounds-tables-1-2 c = omega (arith, (lies c.requires.0).counted)
 pub returns : goal.returns
 returns c =
     let a = c.args in
-    let n = c.count-n in
+    let n = c.count_of-n in
     let i = c.insert in
     λ tidy g L z w h. insert_done g a.shape L a.tables.now z w h n.result n.ensures.0 a.to c.requires.1 a.number a.sender a.semaphore i.new.b (omega (arith, n.ensures.0, c.requires.2)) i.auto.b i.ensures

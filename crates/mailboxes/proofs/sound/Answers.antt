@@ -14,7 +14,7 @@ bounds-tables-1 c = (lies c.requires).counted
 pub returns-then-n-shape : goal.returns-then-n-shape
 returns-then-n-shape c =
     let a = c.args in
-    let n = c.count-n in
+    let n = c.count_of-n in
     sound_roomy a.shape a.tables.now n.result n.ensures.0 c.if-n-shape.true
 
 pub slice_bounds-complete-count : goal.slice_bounds-complete-count
@@ -24,12 +24,12 @@ pub complete-requires : goal.complete-requires
 complete-requires c =
     let l = lies c.requires in
     let b = bytes_length c.args.tables.now c.requires in
-    let n = c.count-n.ensures.1 in
+    let n = c.count_of-n.ensures.1 in
     (omega arith, omega arith, omega arith)
 
 pub returns : goal.returns
 returns c =
     let a = c.args in
-    let n = c.count-n in
+    let n = c.count_of-n in
     sound_full a.shape a.tables.now n.result n.ensures.0 c.if-n-shape.false c.complete.result
     (c.complete.ensures ∙ ap (λ (l : List ℕ). complete_in a.shape.messages (numbers_in n.result l)) (sym (bytes_are a.shape a.tables.now)))

@@ -1,19 +1,10 @@
 -- Each turn tests one number and sets its bit; as many bits as records are set just where none occurs twice.
-use Rattle.std.proofs.Common.{◌+◌, ◌*◌, arith}
+use Rattle.std.proofs.Common.{arith}
 use Rattle.messages.specs.Checks.{check_start, check_range, check_number, check_on, check_end}
 use Rattle.messages.proofs.complete.Goals as goal
 
 pub loop-k-init : goal.loop-k-init
 loop-k-init c = let a = c.args in check_start a.most a.n a.b.now
-
-pub overflow_mul-x : goal.overflow_mul-x
-overflow_mul-x c = omega arith
-
-pub overflow_add-x : goal.overflow_add-x
-overflow_add-x c = omega arith
-
-pub bounds-b-k : goal.bounds-b-k
-bounds-b-k c = omega arith
 
 pub returns-then-not-is_within : goal.returns-then-not-is_within
 returns-then-not-is_within c =
@@ -21,21 +12,12 @@ returns-then-not-is_within c =
     let l = c.loop-k in
     check_range a.most a.n a.b.now l.k l.seen l.invariant c.loop-k-test.true c.is_within.ensures c.if-not-is_within.true
 
-pub overflow_cast-x : goal.overflow_cast-x
-overflow_cast-x c = omega (arith, c.type_inv.b (c.loop-k.k * 4 + 1))
-
 pub with-seen-requires : goal.with-seen-requires
 with-seen-requires c =
     let a = c.args in
     let l = c.loop-k in
     let x = check_number a.most a.n a.b.now l.k l.seen l.invariant c.loop-k-test.true c.is_within.ensures c.if-not-is_within.false in
     (x.from, omega (arith, x.upto))
-
-pub overflow_add-k : goal.overflow_add-k
-overflow_add-k c = omega arith
-
-pub loop-k-smaller : goal.loop-k-smaller
-loop-k-smaller c = omega arith
 
 pub loop-k-preserved : goal.loop-k-preserved
 loop-k-preserved c =

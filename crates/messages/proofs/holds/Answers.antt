@@ -1,10 +1,10 @@
--- The search for the number stops before the end just where it occurs.
-use Rattle.std.proofs.Common.{sym}
+-- The search for the number gives a place just where it occurs.
+use Rattle.std.proofs.Common.{sym, ap, ◌∙◌, is_some}
 use Rattle.messages.specs.Records.{found_number}
 use Rattle.messages.proofs.holds.Goals as goal
 
-pub returns : goal.returns
-returns c =
-    let a = c.args in
-    let s = c.search-s in
-    sym (found_number a.n a.number s.result.place a.b.now s.ensures.searched.found)
+pub returns-in-Some : goal.returns-in-Some
+returns-in-Some c = sym (ap is_some c.in-Some.is) ∙ found_number c.args.n c.args.number c.args.b.now _ c.number.ensures.searched
+
+pub returns-in_default : goal.returns-in_default
+returns-in_default c = sym (ap is_some c.in_default.is) ∙ found_number c.args.n c.args.number c.args.b.now _ c.number.ensures.searched

@@ -3,10 +3,10 @@ use mathlib.Core.Path.{sym, ◌∙◌}
 use Rattle.parts.specs.Parts.{marked_by}
 use Rattle.parts.proofs.is_marked.Goals as goal
 
-pub returns-then-not-stands : goal.returns-then-not-stands
+pub returns-then-stands : goal.returns-then-stands
 unfolding marked_by
-returns-then-not-stands c = rw (sym c.stands.ensures ∙ c.if-not-stands.true)
+returns-then-stands c = rw (sym c.stands.ensures ∙ c.if-stands.true, c.stands-then-stands.ensures)
 
-pub returns : goal.returns
+pub returns-else-stands : goal.returns-else-stands
 unfolding marked_by
-returns c = rw (sym c.stands.ensures ∙ c.if-not-stands.false, c.stands-2.ensures)
+returns-else-stands c = rw (sym c.stands.ensures ∙ c.if-stands.false) c.if-stands.false

@@ -14,18 +14,6 @@ pub put-requires : goal.put-requires
 put-requires c =
     (omega (arith, c.head-first.ensures, head_low c.requires.1 c.args.tables.now (c.args.q - 1)), omega arith, c.requires.1.few, simp (length-take, length-drop) (omega (arith, room c.requires.0, c.requires.1.room)), c.requires.3)
 
-pub overflow_mul-at : goal.overflow_mul-at
-overflow_mul-at c = omega (arith, rings_in c.requires.0 c.args.q c.requires.2)
-
-pub overflow_add-at : goal.overflow_add-at
-overflow_add-at c = omega (arith, rings_in c.requires.0 c.args.q c.requires.2)
-
-pub overflow_add-at-2 : goal.overflow_add-at-2
-overflow_add-at-2 c = omega (arith, rings_in c.requires.0 c.args.q c.requires.2)
-
-pub bounds-tables-at : goal.bounds-tables-at
-bounds-tables-at c = omega (arith, rings_in c.requires.0 c.args.q c.requires.2)
-
 pub returns : goal.returns
 returns c = let a = c.args in
     λ tidy g L z w p h. put_done g a.shape L a.tables.now z w h a.q c.requires.2 a.ring p.0 a.entry.now _ _ _ c.requires.3 c.head-first.ensures c.count-many.ensures (omega arith) c.put.ensures.body_after

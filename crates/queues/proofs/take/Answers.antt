@@ -23,14 +23,8 @@ take_out-next-requires c = (
   simp (length-take, length-drop) (omega (arith, c.requires.1.narrow)),
 )
 
-pub overflow_cast-next : goal.overflow_cast-next
-overflow_cast-next c = omega (arith, c.take_out-next.ensures.upper_bound.0, c.requires.1.few)
-
 pub overflow_cast-many : goal.overflow_cast-many
 overflow_cast-many c = omega (arith, c.count-many.ensures, count_low c.requires.1 c.args.tables.now (c.args.q - 1), c.requires.1.few)
-
-pub store_outcome-requires : goal.store_outcome-requires
-store_outcome-requires c = (still_fits c.requires.0 (omega arith), c.requires.3, c.requires.1.narrow)
 
 pub returns : goal.returns
 unfolding body_in

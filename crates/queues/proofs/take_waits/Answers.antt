@@ -8,9 +8,6 @@ returns-then-count-ne0 c =
     let a = c.args in
     take_goes a.shape a.tables.now a.q c.requires.1 a.ring _ c.count.ensures c.if-count-ne0.true
 
-pub not_full-requires : goal.not_full-requires
-not_full-requires c = (fits_end c.requires.0, c.requires.1)
-
 pub returns : goal.returns
 returns c =
     let a = c.args in

@@ -1,12 +1,7 @@
--- `rows::copy_in` meets its contract: what is copied so far is `paste`. Assumes nothing.
+-- What is copied so far is `paste`.
 use mathlib.Core.Path.{◌≡◌}
-use Prim.Native.Nat.{◌≤◌, ◌-◌}
-use lib.ListN.{length}
 use lib.Seq.{paste}
 use Rattle.rows.proofs.copy_in.Given as goal
 
 abbrev pub invariant-loop-j : goal.invariant-loop-j
-invariant-loop-j l = (l.j ≤ length l.src) × (length l.dst ≡ length l.initial.dst) × (l.dst ≡ paste l.initial.dst l.at l.src l.j)
-
-abbrev pub decreases-loop-j : goal.decreases-loop-j
-decreases-loop-j l = length l.src - l.j
+invariant-loop-j l = l.dst ≡ paste l.initial.dst l.at l.src l.j

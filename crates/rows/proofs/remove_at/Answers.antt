@@ -5,12 +5,6 @@ use native.Mathlib.Omega.{arith}
 use Rattle.rows.specs.Rows.{rows_of, rows_remove}
 use Rattle.rows.proofs.remove_at.Goals as goal
 
-pub overflow_mul-from : goal.overflow_mul-from
-overflow_mul-from c = omega (arith, mul-le-mul_right c.args.w c.requires.0, suc-mul c.args.at c.args.w)
-
-pub shift_down-requires : goal.shift_down-requires
-shift_down-requires c = omega (arith, mul-le-mul_right c.args.w c.requires.0, suc-mul c.args.at c.args.w)
-
 pub returns : goal.returns
 returns c =
     let a = c.args in

@@ -1,12 +1,9 @@
--- `rows::shift_down` meets its contract. Assumes nothing.
+-- What is moved so far is `paste`.
 use mathlib.Core.Path.{◌≡◌}
-use Prim.Native.Nat.{◌≤◌, ◌+◌, ◌-◌}
-use lib.ListN.{length, drop}
+use Prim.Native.Nat.{◌+◌, ◌-◌}
+use lib.ListN.{drop}
 use lib.Seq.{paste}
 use Rattle.rows.proofs.shift_down.Given as goal
 
-abbrev pub invariant-loop-j : goal.invariant-loop-j
-invariant-loop-j l = (l.j ≤ l.n) × (length l.buf ≡ length l.initial.buf) × (l.buf ≡ paste l.initial.buf l.from (drop (l.from + l.w) l.initial.buf) l.j)
-
-abbrev pub decreases-loop-j : goal.decreases-loop-j
-decreases-loop-j l = l.n - l.j
+abbrev pub invariant-loop-i : goal.invariant-loop-i
+invariant-loop-i l = l.buf ≡ paste l.initial.buf l.from (drop (l.from + l.w) l.initial.buf) (l.i - l.from)

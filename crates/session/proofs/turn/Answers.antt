@@ -11,5 +11,5 @@ feed-r-requires c =
     let next = ap (λ (r : Reached). r.next) b in
     let held = ap (λ (r : Reached). r.held) b in
     let printed = ap (λ (r : Reached). r.printed) b in
-    let block = length-take c.in-Ok.n c.read-got.new.buf in
+    let block = length-take c.in-Ok.n c.read.new.buf in
     (omega (arith, next), omega (arith, held, c.requires), omega (arith, printed), omega (arith, block, c.in-Ok.ensures.bound), omega arith, search rules)

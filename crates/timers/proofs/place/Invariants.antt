@@ -1,11 +1,8 @@
 -- `place` goes from the last record back: all from record k on are due later than the time, and none before the first of them.
-use Prim.Native.Nat.{suc, ◌≤◌}
+use Prim.Native.Nat.{suc}
 use lib.ListN.{drop}
 use Rattle.timers.specs.Timers.{records_in, AllFrom}
 use Rattle.timers.proofs.place.Given as goal
 
 abbrev pub invariant-loop-k : goal.invariant-loop-k
-invariant-loop-k l = (l.k ≤ l.n) × AllFrom (suc l.due) (drop l.k (records_in l.n l.b)) × AllFrom l.first (drop l.k (records_in l.n l.b))
-
-abbrev pub decreases-loop-k : goal.decreases-loop-k
-decreases-loop-k l = l.k
+invariant-loop-k l = AllFrom (suc l.due) (drop l.k (records_in l.n l.b)) × AllFrom l.first (drop l.k (records_in l.n l.b))

@@ -5,11 +5,7 @@ use native.Mathlib.Omega.{arith}
 use Rattle.rows.specs.Splice.{splice}
 use Rattle.rows.specs.Four.{bytes4}
 use Rattle.timers.specs.Ends.{back_time, back_same, back_upright}
-use borrow.Author.Rules.{rules}
 use Rattle.timers.proofs.time_before.Goals as goal
-
-pub returns-then-left-time : goal.returns-then-left-time
-returns-then-left-time c = record { means = search rules; upright = λ u. u }
 
 pub returns : goal.returns
 returns c = let n = c.args.n in

@@ -1,32 +1,17 @@
--- `tocks::tock_value` meets its contract: the three cases of a signed number are those of its bits (`Signs`), and the opposite
--- of a negative one is computed in 32 bits, where -32,768 has one (`Opposite`). Assumes nothing.
-use mathlib.Core.Path.{sym}
-use mir.Syntax.{w16, w32}
-use Rattle.ledger.specs.Time.{tock_value}
-use Rattle.ledger.proofs.Theorems.TockValues.{none_at_0}
-use Rattle.tocks.proofs.Opposite.{widens, positive_cast, positive_asked, opposite_fits, opposite_cast, opposite_asked}
+-- `tocks::tock_value` meets its contract: a signed number asks for the same in more bits. Assumes nothing.
+use Rattle.std.proofs.Common.{sym, ◌∙◌, arith}
+use Rattle.std.specs.Int.{w16, w32}
+use Rattle.std.proofs.lemmas.Int.{to_z-of_z}
+use mir.Val.{SFits}
+use Rattle.ledger.specs.Time.{tock_value, long_tock_value}
+use Rattle.tocks.specs.Signs.{asked_by_bits}
 use Rattle.tocks.proofs.tock_value.Goals as goal
 
-pub returns-then-x-eq0 : goal.returns-then-x-eq0
-unfolding tock_value
-returns-then-x-eq0 c = rw c.if-x-eq0.true (sym (none_at_0 0x8000))
-
-pub overflow_cast-result : goal.overflow_cast-result
-overflow_cast-result c = positive_cast w16 w32 w32 tt tt c.args.x c.ranges.x c.if-x-gt0.true
-
-pub returns-then-x-gt0 : goal.returns-then-x-gt0
-unfolding tock_value
-returns-then-x-gt0 c = positive_asked w16 w32 w32 tt tt c.args.x c.ranges.x c.if-x-gt0.true
-
-pub overflow_cast-period : goal.overflow_cast-period
-overflow_cast-period c = widens w16 w32 w32 tt tt c.args.x c.ranges.x
-
-pub overflow_sub-period : goal.overflow_sub-period
-overflow_sub-period c = opposite_fits w16 w32 w32 tt tt c.args.x c.ranges.x c.if-x-gt0.false c.if-x-eq0.false
-
-pub overflow_cast-result-2 : goal.overflow_cast-result-2
-overflow_cast-result-2 c = opposite_cast w16 w32 w32 tt tt c.args.x c.ranges.x c.if-x-gt0.false c.if-x-eq0.false
-
 pub returns : goal.returns
-unfolding tock_value
-returns c = opposite_asked w16 w32 w32 tt tt c.args.x c.ranges.x c.if-x-gt0.false c.if-x-eq0.false
+unfolding tock_value long_tock_value
+returns c =
+    let x = c.args.x in
+    let wide : SFits w32 x = record { sfits = omega (arith, c.ranges.x.sfits) } in
+    let same = to_z-of_z w16 x c.ranges.x in
+    let kept = to_z-of_z w32 x wide in
+    c.long_tock_value.ensures ∙ rw (same, kept) (sym (asked_by_bits w32 x wide) ∙ asked_by_bits w16 x c.ranges.x)

@@ -63,6 +63,13 @@ pub fn scratch(name: &str) -> PathBuf {
     folder
 }
 
+/// Copies files of the repository's host/ into a folder, by a process of its own: a script that this process itself had written could be
+/// held open by the child of another thread, and could not be run then.
+pub fn copied(files: &[&str], folder: &Path) {
+    let sources = files.iter().map(|file| repository().join("host").join(file));
+    printed(Command::new("cp").args(sources).arg(folder), b"");
+}
+
 /// A folder of one's own that looks like the repository: a link to each of its files and folders. It lies outside of the repository, where
 /// `rt ci` refuses links, below target/ too, and is there as long as this value.
 pub struct Checkout(PathBuf);

@@ -27,28 +27,8 @@ slice_bounds-some_holds_back-start c = omega (arith, bytes c.requires.0)
 pub some_holds_back-requires : goal.some_holds_back-requires
 some_holds_back-requires c = c.requires.1
 
-pub returns-in-Unused : goal.returns-in-Unused
-unfolding meets26
-returns-in-Unused c = λ L z w h. rw c.in-Unused.is
-
-pub returns-in-Task : goal.returns-in-Task
-unfolding meets26
-returns-in-Task c = λ L z w h. rw c.in-Task.is
-
 pub returns-in-ToStart : goal.returns-in-ToStart
 unfolding meets26
 returns-in-ToStart c =
     let g = config_in c.args.config.now in
     λ L z w h. rw c.in-ToStart.is (c.some_holds_back.ensures g L z w h ∙ ap (λ (l : List Pair). any (holds_back L c.args.a) l) (pairs_behind c.requires.0))
-
-pub returns-in-SelfOrTask : goal.returns-in-SelfOrTask
-unfolding meets26
-returns-in-SelfOrTask c = λ L z w h. rw c.in-SelfOrTask.is
-
-pub returns-in-AnyOrTask : goal.returns-in-AnyOrTask
-unfolding meets26
-returns-in-AnyOrTask c = λ L z w h. rw c.in-AnyOrTask.is
-
-pub returns-in-Queue : goal.returns-in-Queue
-unfolding meets26
-returns-in-Queue c = λ L z w h. rw c.in-Queue.is

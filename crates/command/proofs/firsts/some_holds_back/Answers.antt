@@ -7,46 +7,22 @@ use Rattle.ledger.proofs.Theorems.Twos.{any_next, any_found, any_over}
 use Rattle.command.proofs.firsts.some_holds_back.Goals as goal
 
 pub loop-k-init : goal.loop-k-init
-loop-k-init c = (omega arith, λ g L z w h. refl)
-
-pub overflow_mul-k : goal.overflow_mul-k
-overflow_mul-k c = omega arith
-
-pub bounds-pairs-k : goal.bounds-pairs-k
-bounds-pairs-k c = omega arith
-
-pub overflow_mul-k-in-loop-k : goal.overflow_mul-k-in-loop-k
-overflow_mul-k-in-loop-k c = omega arith
-
-pub overflow_add-k : goal.overflow_add-k
-overflow_add-k c = omega arith
-
-pub bounds-pairs-k-in-loop-k : goal.bounds-pairs-k-in-loop-k
-bounds-pairs-k-in-loop-k c = omega arith
-
-pub holds_back-requires : goal.holds_back-requires
-holds_back-requires c = c.requires
+loop-k-init c = λ g L z w h. refl
 
 pub returns-then-holds_back : goal.returns-then-holds_back
 returns-then-holds_back c =
     let l = c.loop-k in
     let a = c.args in
-    λ g L z w h. sym (l.invariant.1 g L z w h ∙ any_found pair_of (holds_back L a.a) l.k a.pairs.now (omega arith) (sym (c.holds_back.ensures g L z w h) ∙ c.if-holds_back.true))
-
-pub overflow_add-k-in-loop-k : goal.overflow_add-k-in-loop-k
-overflow_add-k-in-loop-k c = omega arith
-
-pub loop-k-smaller : goal.loop-k-smaller
-loop-k-smaller c = omega arith
+    λ g L z w h. sym (l.invariant g L z w h ∙ any_found pair_of (holds_back L a.a) l.k a.pairs.now (omega arith) (sym (c.holds_back.ensures g L z w h) ∙ c.if-holds_back.true))
 
 pub loop-k-preserved : goal.loop-k-preserved
 loop-k-preserved c =
     let l = c.loop-k in
     let a = c.args in
-    (omega arith, λ g L z w h. l.invariant.1 g L z w h ∙ any_next pair_of (holds_back L a.a) l.k a.pairs.now (omega arith) (sym (c.holds_back.ensures g L z w h) ∙ c.if-holds_back.false))
+    λ g L z w h. l.invariant g L z w h ∙ any_next pair_of (holds_back L a.a) l.k a.pairs.now (omega arith) (sym (c.holds_back.ensures g L z w h) ∙ c.if-holds_back.false)
 
 pub returns : goal.returns
 returns c =
     let l = c.loop-k in
     let a = c.args in
-    λ g L z w h. sym (l.invariant.1 g L z w h ∙ any_over pair_of (holds_back L a.a) l.k a.pairs.now (omega arith))
+    λ g L z w h. sym (l.invariant g L z w h ∙ any_over pair_of (holds_back L a.a) l.k a.pairs.now (omega arith))

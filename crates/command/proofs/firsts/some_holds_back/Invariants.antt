@@ -1,5 +1,5 @@
 -- What is left to look at is the pairs from k on.
-use Prim.Native.Nat.{ℕ, ◌-◌, ◌*◌, ◌≤◌}
+use Prim.Native.Nat.{ℕ, ◌*◌}
 use mathlib.Core.Path.{◌≡◌}
 use mathlib.Core.List.{List}
 use lib.ListN.{drop}
@@ -11,7 +11,4 @@ use Rattle.tables.specs.Shows.{Shows}
 use Rattle.command.proofs.firsts.some_holds_back.Given as goal
 
 abbrev pub invariant-loop-k : goal.invariant-loop-k
-invariant-loop-k l = (l.k ≤ l.n) × ((g : Config) (L : Ledger) (z w : List ℕ) → Shows g l.shape L l.tables z w → any (holds_back L l.a) (pairs_in l.pairs) ≡ any (holds_back L l.a) (pairs_in (drop (2 * l.k) l.pairs)))
-
-abbrev pub decreases-loop-k : goal.decreases-loop-k
-decreases-loop-k l = l.n - l.k
+invariant-loop-k l = (g : Config) (L : Ledger) (z w : List ℕ) → Shows g l.shape L l.tables z w → any (holds_back L l.a) (pairs_in l.pairs) ≡ any (holds_back L l.a) (pairs_in (drop (2 * l.k) l.pairs))

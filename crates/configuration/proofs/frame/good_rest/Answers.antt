@@ -1,21 +1,31 @@
 -- The states, the queues and the pairs are parts of the frame, whose length was tested; each test is one of the ledger's.
-use native.Mathlib.Omega.{arith}
-use mathlib.Core.Path.{sym, ◌∙◌}
+use Rattle.std.proofs.Common.{sym, ◌∙◌, arith}
+use borrow.Author.Tests.{leb-true, leb-false}
+use Rattle.ledger.proofs.Theorems.Checks.{never}
 use Rattle.configuration.specs.Limits.{limits_of}
 use Rattle.configuration.specs.Refusal.{bad_states, bad_room, by_pairs}
-use borrow.Author.Rules.{rules}
 use Rattle.configuration.proofs.frame.good_rest.Goals as goal
-
-pub returns-then-not-good_states : goal.returns-then-not-good_states
-returns-then-not-good_states c = bad_states (limits_of c.args.limits) c.requires.0 c.args.frame.now _ _ c.wide-at.ensures c.wide-queues.ensures (sym c.if-not-good_states.true ∙ c.good_states.ensures)
-
-pub room-requires : goal.room-requires
-room-requires c = (search rules, omega (arith, c.wide-queues.ensures, c.type_inv.frame 2))
+use Rattle.configuration.proofs.frame.good_rest.Goals.{then-good_states, else-good_states}
 
 pub returns-then-room-limits : goal.returns-then-room-limits
-returns-then-room-limits c = bad_room (limits_of c.args.limits) c.requires.0 c.args.frame.now _ _ c.wide-at.ensures c.wide-queues.ensures (omega (arith, c.if-room-limits.true, c.room.ensures))
+returns-then-room-limits c =
+    let m = limits_of c.args.limits in
+    let s = c.states-states.ensures in
+    elim c.if-good_states.branch [
+      | then-good_states w ↦
+          let h = leb-true w.room.result m.bytes (sym w.value-is ∙ c.if-room-limits.true) in
+          c.good_pairs.ensures
+          ∙ by_pairs m c.args.frame.now _ s.part c.requires.0 _ w.shapes.ensures.part _ c.pairs.ensures s.whole (sym w.if-good_states.ensures) (omega (arith, h, w.room.ensures))
+      | else-good_states w ↦ never (sym w.if-good_states.false ∙ sym w.value-is ∙ c.if-room-limits.true)
+    ]
 
-pub returns : goal.returns
-returns c =
-    by_pairs (limits_of c.args.limits) c.requires.0 c.args.frame.now _ _ c.wide-at.ensures c.wide-queues.ensures (sym c.if-not-good_states.false ∙ c.good_states.ensures)
-    (omega (arith, c.if-room-limits.false, c.room.ensures)) _ (omega arith) _ c.good_pairs.ensures
+pub returns-else-room-limits : goal.returns-else-room-limits
+returns-else-room-limits c =
+    let m = limits_of c.args.limits in
+    let s = c.states-states.ensures in
+    elim c.if-good_states.branch [
+      | then-good_states w ↦
+          let h = leb-false w.room.result m.bytes (sym w.value-is ∙ c.if-room-limits.false) in
+          c.if-room-limits.false ∙ bad_room m c.args.frame.now _ s.part c.requires.0 _ w.shapes.ensures.part (omega (arith, h, w.room.ensures))
+      | else-good_states w ↦ c.if-room-limits.false ∙ bad_states m c.args.frame.now _ s.part (sym w.if-good_states.ensures)
+    ]

@@ -1,11 +1,6 @@
--- The bytes before i are v.
-use Prim.Native.Nat.{ℕ, ◌-◌, ◌<◌, ◌≤◌}
-use mathlib.Core.Path.{◌≡◌}
-use lib.ListN.{length, get_or}
+-- The bytes before this one are v.
+use Rattle.std.proofs.Common.{◌≡◌, ℕ, ◌<◌, get_or}
 use Rattle.configuration.proofs.fresh.fill.Given as goal
 
-abbrev pub invariant-loop-i : goal.invariant-loop-i
-invariant-loop-i l = (l.i ≤ length l.part) × (length l.part ≡ length l.initial.part) × ((k : ℕ) → k < l.i → get_or l.part k 0 ≡ l.v)
-
-abbrev pub decreases-loop-i : goal.decreases-loop-i
-decreases-loop-i l = length l.initial.part - l.i
+abbrev pub invariant-loop-byte : goal.invariant-loop-byte
+invariant-loop-byte l = (k : ℕ) → k < l.byte-index → get_or l.part k 0 ≡ l.v

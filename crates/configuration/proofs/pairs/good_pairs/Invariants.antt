@@ -1,13 +1,8 @@
 -- What is left to test is the pairs from k on.
-use Prim.Native.Nat.{◌-◌, ◌*◌, ◌≤◌}
-use mathlib.Core.Path.{◌≡◌}
-use lib.ListN.{length, drop}
+use Rattle.std.proofs.Common.{◌≡◌, ◌*◌, length, drop}
 use Rattle.ledger.specs.Lists.{all}
 use Rattle.ledger.specs.Config.{pairs_in, good_pair}
 use Rattle.configuration.proofs.pairs.good_pairs.Given as goal
 
 abbrev pub invariant-loop-k : goal.invariant-loop-k
-invariant-loop-k l = (l.k ≤ l.n) × (all (good_pair (length l.states) l.states) (pairs_in l.pairs) ≡ all (good_pair (length l.states) l.states) (pairs_in (drop (2 * l.k) l.pairs)))
-
-abbrev pub decreases-loop-k : goal.decreases-loop-k
-decreases-loop-k l = l.n - l.k
+invariant-loop-k l = all (good_pair (length l.states) l.states) (pairs_in l.pairs) ≡ all (good_pair (length l.states) l.states) (pairs_in (drop (2 * l.k) l.pairs))

@@ -1,10 +1,7 @@
--- `prepare` stores the plain outcome.
+-- `prepare` stores the plain outcome of a service.
 use Rattle.tables.specs.Decode.{view_outcome}
 use Rattle.executive.proofs.carrying.prepare.Goals as goal
 
-pub store_outcome-requires : goal.store_outcome-requires
-store_outcome-requires c = (c.requires.0, c.requires.1, tt)
-
-pub returns : goal.returns
+pub returns-then-service-clause-does : goal.returns-then-service-clause-does
 unfolding view_outcome
-returns c = record { does = c.store_outcome.ensures.does; count = c.store_outcome.ensures.count }
+returns-then-service-clause-does c = λ tidy g L z w h. rw c.if-service.true (c.store_outcome.ensures.does tidy g L z w h)

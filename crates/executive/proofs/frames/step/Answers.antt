@@ -1,7 +1,12 @@
 -- `step` asks for the number; refused, it answers for the task that runs; accepted, it acts, and answers for the task that then runs.
+use Prim.Native.Nat.{ℕ}
+use mathlib.Core.Path.{refl, ap, ◌∙◌}
 use native.Mathlib.Omega.{arith}
 use Rattle.ledger.specs.Config.{config_in}
 use Rattle.tables.specs.Layout.{still_fits, few}
+use Rattle.ledger.specs.Session.{answer}
+use Rattle.answer.specs.Written.{written}
+use Rattle.command.specs.Numbers.{refused}
 use Rattle.command.specs.Configured.{of}
 use Rattle.executive.specs.Suits.{configuration, tables, slots, timers}
 use Rattle.executive.specs.Stepped.{room_found, step_refused, step_accepted}
@@ -10,27 +15,30 @@ use Rattle.executive.proofs.frames.step.Goals as goal
 pub running-me-requires : goal.running-me-requires
 running-me-requires c = tables c.requires.0
 
-pub refusal-number-requires : goal.refusal-number-requires
-refusal-number-requires c = let l = c.requires.0 in (configuration l, tables l, timers l, c.running-me.ensures.0)
+pub refusal-requires : goal.refusal-requires
+refusal-requires c = let l = c.requires.0 in (configuration l, tables l, timers l, c.running-me.ensures.0)
 
 pub write-requires : goal.write-requires
 write-requires c = let l = c.requires.0 in (tables l, slots l, c.requires.1, c.running-me.ensures.0)
 
-pub returns-then-number-ne0 : goal.returns-then-number-ne0
-returns-then-number-ne0 c = let a = c.args in let g = config_in a.config.now in step_refused g a.shape a.frame.now a.tables.now a.slots.now a.timers.now a.answer.now _ _ c.running-me.ensures.1 c.refusal-number.ensures _ c.if-number-ne0.true (λ L h r. c.write.ensures g L _ h r)
+pub returns-in-Err : goal.returns-in-Err
+returns-in-Err c =
+    let a = c.args in
+    let g = config_in a.config.now in
+    step_refused g a.shape a.frame.now a.tables.now a.slots.now a.timers.now a.answer.now _ _ c.running-me.ensures.1 c.in-Err.ensures _ (refused _)
+    (λ L h r. c.write.ensures g L _ h r ∙ ap (λ (n : ℕ). written (answer n 0 L) a.answer.now) c.from.ensures)
 
 pub act-settled-requires : goal.act-settled-requires
 act-settled-requires c =
     let a = c.args in
     let l = c.requires.0 in
     let me = c.running-me in
-    let r = c.refusal-number in
-    let z = c.if-number-ne0.false in (
+    let r = c.in_default.ensures in (
       l,
       record {
         low = me.ensures.0;
-        input = r.ensures.good z;
-        room = room_found (config_in a.config.now) a.shape a.frame.now a.tables.now a.slots.now a.timers.now a.answer.now _ _ me.ensures.1 r.ensures z (of (configuration l)) (tables l) (slots l) (timers l) c.requires.2;
+        input = r.good refl;
+        room = room_found (config_in a.config.now) a.shape a.frame.now a.tables.now a.slots.now a.timers.now a.answer.now _ _ me.ensures.1 r refl (of (configuration l)) (tables l) (slots l) (timers l) c.requires.2;
       },
     )
 
@@ -41,4 +49,4 @@ pub write-requires-2 : goal.write-requires-2
 write-requires-2 c = let l = c.requires.0 in let t = c.act-settled in (still_fits (tables l) (omega (arith, t.auto.tables)), omega (arith, slots l, t.auto.slots), c.requires.1, t.ensures.low)
 
 pub returns : goal.returns
-returns c = let a = c.args in let g = config_in a.config.now in step_accepted g a.shape a.frame.now a.tables.now a.slots.now a.timers.now a.answer.now _ _ c.running-me.ensures.1 c.refusal-number.ensures _ _ _ _ _ c.if-number-ne0.false c.act-settled.ensures (λ M h r. c.write-2.ensures g M _ h r)
+returns c = let a = c.args in let g = config_in a.config.now in step_accepted g a.shape a.frame.now a.tables.now a.slots.now a.timers.now a.answer.now _ _ c.running-me.ensures.1 c.in_default.ensures _ _ _ _ _ refl c.act-settled.ensures (λ M h r. c.write-2.ensures g M _ h r)

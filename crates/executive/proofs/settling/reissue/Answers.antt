@@ -7,12 +7,12 @@ use Rattle.executive.proofs.settling.reissue.Goals as goal
 
 pub dequeue_again-requires : goal.dequeue_again-requires
 dequeue_again-requires c =
-    let v = asked c.in-Dequeue.is c.load-task.ensures.1 in
+    let v = asked c.in-Dequeue.is c.load.ensures.1 in
     (c.requires.0, c.requires.1, c.requires.2, c.requires.3, v)
 
 pub enqueue_again-requires : goal.enqueue_again-requires
 enqueue_again-requires c =
-    let v = asked_put c.in-Enqueue.is c.load-task.ensures.1 in
+    let v = asked_put c.in-Enqueue.is c.load.ensures.1 in
     (c.requires.0, c.requires.1, c.requires.3, v)
 
 pub returns-in-None : goal.returns-in-None
@@ -20,25 +20,25 @@ unfolding view_request
 returns-in-None c =
     let a = c.args in
     λ tidy L w h e o. let g = config_in a.config.now in
-    turn_none g a.shape L a.tables.now a.slots.now w h a.running _ _ c.requires.3 (ap (λ k. k.request) c.load-task.ensures.0) c.in-None.is e refl o
+    turn_none g a.shape L a.tables.now a.slots.now w h a.running _ _ c.requires.3 (ap (λ k. k.request) c.load.ensures.0) c.in-None.is e refl o
 
 pub returns-in-Receive : goal.returns-in-Receive
 unfolding view_request
 returns-in-Receive c =
     let a = c.args in
     λ tidy L w h e o. let g = config_in a.config.now in
-    turn_open g a.shape L a.tables.now a.slots.now w h a.running _ _ c.requires.3 (ap (λ k. k.request) c.load-task.ensures.0) c.in-Receive.is e (c.receive_again.ensures tidy g L a.slots.now w h)
+    turn_open g a.shape L a.tables.now a.slots.now w h a.running _ _ c.requires.3 (ap (λ k. k.request) c.load.ensures.0) c.in-Receive.is e (c.receive_again.ensures tidy g L a.slots.now w h)
 
 pub returns-in-Dequeue : goal.returns-in-Dequeue
 unfolding view_request
 returns-in-Dequeue c =
     let a = c.args in
     λ tidy L w h e o. let g = config_in a.config.now in
-    turn_open g a.shape L a.tables.now a.slots.now w h a.running _ _ c.requires.3 (ap (λ k. k.request) c.load-task.ensures.0) c.in-Dequeue.is e (c.dequeue_again.ensures tidy L w h)
+    turn_open g a.shape L a.tables.now a.slots.now w h a.running _ _ c.requires.3 (ap (λ k. k.request) c.load.ensures.0) c.in-Dequeue.is e (c.dequeue_again.ensures tidy L w h)
 
 pub returns-in-Enqueue : goal.returns-in-Enqueue
 unfolding view_request
 returns-in-Enqueue c =
     let a = c.args in
     λ tidy L w h e o. let g = config_in a.config.now in
-    turn_open g a.shape L a.tables.now a.slots.now w h a.running _ _ c.requires.3 (ap (λ k. k.request) c.load-task.ensures.0) c.in-Enqueue.is e (c.enqueue_again.ensures tidy L a.slots.now w h)
+    turn_open g a.shape L a.tables.now a.slots.now w h a.running _ _ c.requires.3 (ap (λ k. k.request) c.load.ensures.0) c.in-Enqueue.is e (c.enqueue_again.ensures tidy L a.slots.now w h)

@@ -10,18 +10,18 @@ use Rattle.line.proofs.Pairs.{none_there, length_pairs, frame_is_pairs}
 use Rattle.line.proofs.Giving.{gives_1, gives_11, gives_result}
 use Rattle.line.proofs.reading.read.Goals as goal
 
-pub returns-then-not-good : goal.returns-then-not-good
+pub returns-then-not-is_line : goal.returns-then-not-is_line
 unfolding read_line
-returns-then-not-good c =
+returns-then-not-is_line c =
     let a = c.args in
-    let e = none_there (frame_of a.line.now) (sym c.is_line-good.ensures ∙ c.if-not-good.true) in
+    let e = none_there (frame_of a.line.now) (sym c.is_line.ensures ∙ c.if-not-is_line.true) in
     gives_1 (frame_of a.line.now) a.frame.now e
 
 pub returns-then-frame-bytes : goal.returns-then-frame-bytes
 unfolding read_line
 returns-then-frame-bytes c =
     let a = c.args in
-    let e = frame_is_pairs a.line.now (sym c.is_line-good.ensures ∙ c.if-not-good.false) in
+    let e = frame_is_pairs a.line.now (sym c.is_line.ensures ∙ c.if-not-is_line.false) in
     let n = length_pairs a.line.now in
     gives_11 (frame_of a.line.now) a.frame.now (pairs a.line.now) e (omega arith)
 
@@ -29,7 +29,7 @@ pub returns : goal.returns
 unfolding read_line
 returns c =
     let a = c.args in
-    let e = frame_is_pairs a.line.now (sym c.is_line-good.ensures ∙ c.if-not-good.false) in
+    let e = frame_is_pairs a.line.now (sym c.is_line.ensures ∙ c.if-not-is_line.false) in
     let n = length_pairs a.line.now in
     gives_result (frame_of a.line.now) a.frame.now (pairs a.line.now) e _ (length a.line.now / 2) (omega arith) n
     c.put_bytes.ensures

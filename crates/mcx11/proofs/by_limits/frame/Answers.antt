@@ -1,21 +1,42 @@
--- The rest of the test for 11, then the step over the parts.
+-- What the limits are asked for, then the executive over the blocks.
+use Rattle.std.proofs.Common.{refl, ap, ◌∙◌, arith}
 use Rattle.configuration.specs.Limits.{limits_of}
-use Rattle.mcx11.specs.Tested.{tested_bad, tested_good}
-use Rattle.mcx11.specs.Inside.{inside_bad, room_here, inside_fed}
+use Rattle.configuration.specs.Block.{counts_rule}
+use Rattle.mcx11.specs.Framed.{frame_is}
+use Rattle.mcx11.proofs.Inside.{counts_here, kept_inside, sized_here, frame_met, frame_unmet}
 use Rattle.mcx11.proofs.by_limits.frame.Goals as goal
 
-pub test-l-requires : goal.test-l-requires
-test-l-requires c = (c.requires.0, c.requires.1, c.requires.2.tables)
+pub returns-then-not-meets_limits : goal.returns-then-not-meets_limits
+returns-then-not-meets_limits c =
+    let a = c.args in
+    frame_unmet (limits_of a.limits) a.frame.now a.config.now a.tables.now a.slots.now a.timers.now a.answer.now (λ x e. c.meets_limits.ensures x e ∙ c.if-not-meets_limits.true)
 
-pub feed-requires : goal.feed-requires
-feed-requires c =
-    let t = tested_good (limits_of c.args.limits) c.args.kept.now c.args.tables.now c.test-l.ensures c.in-Good.is in
-    room_here (limits_of c.args.limits) c.args.frame.now c.args.kept.now c.args.tables.now c.args.slots.now c.args.timers.now c.args.answer.now _ t.0 t.1 c.requires.0 c.requires.2
+pub frame_length-end-requires : goal.frame_length-end-requires
+frame_length-end-requires c =
+    let a = c.args in
+    let met = c.meets_limits.ensures a.answer.now refl ∙ c.if-not-meets_limits.false in
+    omega (arith, kept_inside (limits_of a.limits) a.frame.now a.config.now a.tables.now a.slots.now a.timers.now a.answer.now met)
 
-pub returns-in-Bad : goal.returns-in-Bad
-returns-in-Bad c = inside_bad (limits_of c.args.limits) c.args.frame.now c.args.kept.now c.args.tables.now c.args.slots.now c.args.timers.now c.args.answer.now (tested_bad (limits_of c.args.limits) c.args.kept.now c.args.tables.now c.test-l.ensures c.in-Bad.is)
+pub slice_bounds-inside-end : goal.slice_bounds-inside-end
+slice_bounds-inside-end c =
+    let a = c.args in
+    let met = c.meets_limits.ensures a.answer.now refl ∙ c.if-not-meets_limits.false in
+    omega (arith, kept_inside (limits_of a.limits) a.frame.now a.config.now a.tables.now a.slots.now a.timers.now a.answer.now met, c.frame_length-end.ensures.0)
 
-pub returns-in-Good : goal.returns-in-Good
-returns-in-Good c =
-    let t = tested_good (limits_of c.args.limits) c.args.kept.now c.args.tables.now c.test-l.ensures c.in-Good.is in
-    inside_fed (limits_of c.args.limits) c.args.frame.now c.args.kept.now c.args.tables.now c.args.slots.now c.args.timers.now c.args.answer.now _ t.0 t.1 _ _ _ _ _ c.feed.ensures
+pub inside-requires : goal.inside-requires
+inside-requires c =
+    let a = c.args in
+    let k = limits_of a.limits in
+    let met = c.meets_limits.ensures a.answer.now refl ∙ c.if-not-meets_limits.false in (
+      c.requires,
+      ap (counts_rule k) (frame_is a.config.now _ c.frame_length-end.ensures.0) ∙ counts_here k a.frame.now a.config.now a.tables.now a.slots.now a.timers.now a.answer.now met,
+      sized_here k a.frame.now a.config.now a.tables.now a.slots.now a.timers.now a.answer.now met,
+    )
+
+pub returns : goal.returns
+returns c =
+    let a = c.args in
+    let k = c.inside.auto in
+    let met = c.meets_limits.ensures a.answer.now refl ∙ c.if-not-meets_limits.false in
+    frame_met (limits_of a.limits) a.frame.now a.config.now a.tables.now a.slots.now a.timers.now a.answer.now met _ (frame_is a.config.now _ c.frame_length-end.ensures.0) _ _ _ _ _
+    record { config = refl; tables = k.tables; slots = k.slots; timers = k.timers; answer = k.answer } c.inside.ensures

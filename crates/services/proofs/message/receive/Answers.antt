@@ -14,14 +14,14 @@ store_request-requires c = (still_fits c.requires.0 (omega arith), c.requires.1,
 pub store_outcome-requires : goal.store_outcome-requires
 store_outcome-requires c = (still_fits c.requires.0 (omega arith), c.requires.1, tt)
 
-pub returns-in-Nothing : goal.returns-in-Nothing
+pub returns-in-None : goal.returns-in-None
 unfolding view_request
-returns-in-Nothing c =
+returns-in-None c =
     let a = c.args in
-    λ tidy g L z w h. received_none g a.shape L a.tables.now z w h a.t a.from _ c.in-Nothing.is (c.take-r.ensures.tells, c.take-r.ensures.does) c.set.ensures c.store_request.ensures
+    λ tidy g L z w h. received_none g a.shape L a.tables.now z w h a.t a.from _ c.in-None.is (c.take.ensures.tells, c.take.ensures.does) c.set.ensures c.store_request.ensures
 
-pub returns-in-Message : goal.returns-in-Message
+pub returns-in-Some : goal.returns-in-Some
 unfolding view_outcome
-returns-in-Message c =
+returns-in-Some c =
     let a = c.args in
-    λ tidy g L z w h. received_one g a.shape L a.tables.now z w h a.t a.from _ _ _ _ c.in-Message.is (c.take-r.ensures.tells, c.take-r.ensures.does) c.store_outcome.ensures.does
+    λ tidy g L z w h. received_one g a.shape L a.tables.now z w h a.t a.from _ _ c.in-Some.is (c.take.ensures.tells, c.take.ensures.does) c.store_outcome.ensures.does

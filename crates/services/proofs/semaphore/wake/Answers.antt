@@ -8,19 +8,19 @@ pub returns-in-Pending : goal.returns-in-Pending
 unfolding woken view_semaphore
 returns-in-Pending c =
     let a = c.args in
-    let l = c.load-s in
+    let l = c.load in
     wake_arm a.shape a.tables.now a.b _ _ l.ensures.tells c.in-Pending.is (λ tidy g L z w h. h)
 
 pub returns-in-Done : goal.returns-in-Done
 unfolding woken view_semaphore
 returns-in-Done c =
     let a = c.args in
-    let l = c.load-s in
+    let l = c.load in
     wake_arm a.shape a.tables.now a.b _ _ l.ensures.tells c.in-Done.is (λ tidy g L z w h. h)
 
 pub returns-in-Waiting : goal.returns-in-Waiting
 unfolding woken view_semaphore
 returns-in-Waiting c =
     let a = c.args in
-    let l = c.load-s in
+    let l = c.load in
     wake_arm a.shape a.tables.now a.b _ _ l.ensures.tells c.in-Waiting.is c.signal_one.ensures.does

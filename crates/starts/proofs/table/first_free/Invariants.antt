@@ -1,10 +1,7 @@
--- The invariant: every start before s is hit.
-use Prim.Native.Nat.{ℕ, ◌≤◌, ◌<◌, ◌-◌}
+-- Every start so far is hit.
+use Rattle.std.proofs.Common.{ℕ, ◌<◌}
 use Rattle.starts.specs.Table.{Hit}
 use Rattle.starts.proofs.table.first_free.Given as goal
 
-abbrev pub invariant-loop-s : goal.invariant-loop-s
-invariant-loop-s l = (l.s ≤ l.upto) × ((e : ℕ) → e < l.s → Hit l.t e)
-
-abbrev pub decreases-loop-s : goal.decreases-loop-s
-decreases-loop-s l = l.upto - l.s
+abbrev pub invariant-loop-start : goal.invariant-loop-start
+invariant-loop-start l = (e : ℕ) → e < l.start → Hit l.residues e

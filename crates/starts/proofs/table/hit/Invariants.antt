@@ -1,12 +1,7 @@
--- The invariant: no timer before k is hit.
-use Prim.Native.Nat.{ℕ, ◌≤◌, ◌<◌, ◌-◌, ◌%◌}
-use mathlib.Core.Path.{◌≡◌}
-use lib.ListN.{get_or}
+-- No timer so far is hit.
+use Rattle.std.proofs.Common.{◌≡◌, ℕ, ◌<◌, ◌%◌}
+use Rattle.starts.specs.Table.{residue_at}
 use Rattle.starts.proofs.table.hit.Given as goal
 
-abbrev pub invariant-loop-k : goal.invariant-loop-k
-invariant-loop-k l =
-    (l.k ≤ l.t.upto) × ((j : ℕ) → j < l.k → l.start % get_or l.t.divisors j 0 ≡ get_or l.t.rests j 0 → ⊥)
-
-abbrev pub decreases-loop-k : goal.decreases-loop-k
-decreases-loop-k l = l.t.upto - l.k
+abbrev pub invariant-loop-residue : goal.invariant-loop-residue
+invariant-loop-residue l = (j : ℕ) → j < l.residue-index → l.start % (residue_at l.residues j).divisor ≡ (residue_at l.residues j).rest → ⊥

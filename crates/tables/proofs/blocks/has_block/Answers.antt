@@ -9,9 +9,6 @@ use Rattle.tables.specs.Planes.{has}
 use Rattle.tables.specs.Blocks.{block_in, block_read}
 use Rattle.tables.proofs.blocks.has_block.Goals as goal
 
-pub bounds-tables-at : goal.bounds-tables-at
-bounds-tables-at c = omega (arith, block_in c.requires.0 c.args.t c.requires.1 c.args.k, c.plane_of.ensures.0)
-
 pub returns : goal.returns
 unfolding has
 returns c =

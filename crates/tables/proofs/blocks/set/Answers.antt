@@ -3,12 +3,6 @@ use native.Mathlib.Omega.{arith}
 use Rattle.tables.specs.Blocks.{block_in, block_stored}
 use Rattle.tables.proofs.blocks.set.Goals as goal
 
-pub bounds-tables-at : goal.bounds-tables-at
-bounds-tables-at c = omega (arith, block_in c.requires.0 c.args.t c.requires.1 c.args.k, c.plane_of.ensures.0)
-
-pub bounds-tables-at-2 : goal.bounds-tables-at-2
-bounds-tables-at-2 c = omega (arith, block_in c.requires.0 c.args.t c.requires.1 c.args.k, c.plane_of.ensures.0)
-
 pub returns : goal.returns
 returns c =
     let a = c.args in

@@ -1,12 +1,10 @@
 -- The zeros below the lowest bit of the complement.
-use Prim.Native.Nat.{◌-◌, ◌^◌}
-use Rattle.tables.specs.Bits.{first_clear}
-use lib.Count.{trailing_le}
 use native.Mathlib.Omega.{arith}
+use Rattle.tables.specs.Bits.{first_clear, none_clear}
 use Rattle.tables.proofs.planes.first_clear.Goals as goal
 
-pub overflow_cast-result : goal.overflow_cast-result
-overflow_cast-result c = omega (arith, trailing_le 64 ((2 ^ 64 - 1) - c.args.x))
+pub returns-then-x-eq18446744073709551615 : goal.returns-then-x-eq18446744073709551615
+returns-then-x-eq18446744073709551615 c = none_clear c.args.x c.if-x-eq18446744073709551615.true
 
 pub returns : goal.returns
-returns c = first_clear c.args.x (omega arith)
+returns c = first_clear c.args.x (omega arith) c.if-x-eq18446744073709551615.false

@@ -4,12 +4,6 @@ use native.Mathlib.Omega.{arith}
 use Rattle.tables.specs.Semaphores.{semaphore_stored}
 use Rattle.tables.proofs.semaphores.store.Goals as goal
 
-pub overflow_add-at : goal.overflow_add-at
-overflow_add-at c = omega (arith, semaphore_in c.requires.0 c.args.b c.requires.1)
-
-pub bounds-tables-at : goal.bounds-tables-at
-bounds-tables-at c = semaphore_in c.requires.0 c.args.b c.requires.1
-
 pub returns : goal.returns
 returns c =
     let a = c.args in

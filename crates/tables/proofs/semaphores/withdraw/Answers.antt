@@ -4,9 +4,6 @@ use Rattle.tables.specs.Layout.{semaphores_in_lem}
 use Rattle.tables.specs.Withdrawn.{withdrawn}
 use Rattle.tables.proofs.semaphores.withdraw.Goals as goal
 
-pub slice_bounds-clear_all-count : goal.slice_bounds-clear_all-count
-slice_bounds-clear_all-count c = omega (arith, semaphores_in_lem c.requires.0)
-
 pub returns : goal.returns
 returns c =
     let a = c.args in

@@ -1,0 +1,2 @@
+-- Its functions in the world of a build.
+pub mod Linked
