@@ -16,7 +16,7 @@ use tables::counts::count_of;
 use tables::shape::Shape;
 use tables::tasks::Outcome;
 
-// What stands before the outcome.
+// What stands before the outcome. The number is a byte, and no `Refusal`: `write` says what it writes for every number.
 #[derive(Clone, Copy)]
 struct Head {
     number: u8,
@@ -34,7 +34,7 @@ fn put(answer: &mut [u8], head: Head, kind: u8, value: &[u8])
     answer[2] = head.running;
     answer[3] = head.reissues;
     answer[4] = kind;
-    rows::copy_in(value, answer, 5);
+    rows::copy_short(value, answer, 5);
 }
 
 // The entry in the slot of task t: 16 bytes at most.
@@ -47,7 +47,8 @@ fn put_entry(answer: &mut [u8], head: Head, width: u8, slots: &[u8], t: u8)
     put(answer, head, 3, &slots[at..end]);
 }
 
-// An outcome of task t.
+// An outcome of task t. It is compiled into its caller, so that neither the head nor the outcome is handed over through memory.
+#[inline(always)]
 fn put_outcome(answer: &mut [u8], head: Head, o: Outcome, slots: &[u8], t: u8)
     requires { (answer_bytes ≤ length answer.old) × (1 ≤ t) × (16 * t ≤ length slots.now) }
     ensures { answer.new ≡ written (line head (view_outcome o (row_at 16 (t - 1) slots.now))) answer.old }

@@ -1,5 +1,5 @@
 -- What it is for a function over the timers' block to do what the ledger does, and how a change of the block is lifted.
-use Rattle.std.specs.Prelude.{◌≡◌, refl, Bool, true, false, not, cond, ◌&&◌, ◌||◌, List, map, ℕ, ◌%◌, ◌<◌, ◌≤◌, eqb, length, get_or, drop, Option, Some, None, is_none, unwrap_or}
+use Rattle.std.specs.Prelude.{◌≡◌, refl, Bool, true, false, not, cond, ◌&&◌, ◌||◌, List, map, ℕ, ◌%◌, ◌<◌, ◌≤◌, eqb, length, get_or, drop, Some, None, is_none, unwrap_or}
 use Rattle.std.proofs.Common.{sym, ap, ◌∙◌, arith}
 use Rattle.ledger.specs.Lists.{keep}
 use Rattle.ledger.specs.Config.{Config}

@@ -1,6 +1,8 @@
 // The clock: ticks, tocks and timers, in place in the lent memory.
 // Promises: each operation is the ledger's own change, for every ledger that the memory shows.
 // Rests on tables (what the memory shows) and timers (rows of ten bytes in a slice), and on the ledger's definitions.
+// The block `timers` and the shape stay two parameters: a struct of both would be no plainer, since the functions that are lent the tables
+// too would have to ask that both have one shape.
 #![tactic(auto, using(crate::specs::Held::some_byte, crate::specs::Held::records_in_lem, crate::specs::Ticks::clock_in, crate::specs::Ticks::most_ticks))]
 
 ghost use Rattle.std.specs.Prelude.{◌≡◌, cond, not, suc, ◌+◌, ◌-◌, ◌<◌, ◌≤◌, ltb, length, get_or, is_none, unwrap_or};
@@ -9,15 +11,20 @@ ghost use Rattle.ledger.specs.Refusals.{have_timer};
 ghost use Rattle.timers.specs.Timers.{due_in};
 ghost use Rattle.timers.specs.Drained.{next_due, take_due};
 ghost use Rattle.tables.specs.Decode.{count_of, left_of};
-ghost use Rattle.tables.specs.Layout.{ticks_at, Fits};
-ghost use Rattle.tables.specs.Shows.{Does, Tells};
+ghost use Rattle.tables.specs.Layout.{ticks_at};
+ghost use Rattle.tables.specs.Lent.{Step, Goes};
+ghost use Rattle.tables.specs.Shows.{Tells};
 ghost use Rattle.clock.specs.Held.{Holds, held_in};
 ghost use Rattle.clock.specs.Does.{DoesTimers, TellsTimers, Starts, purged};
 ghost use Rattle.clock.specs.Ticks.{AfterTick};
 ghost use Rattle.clock.specs.Tocks.{Advanced};
 
 use tables::counts::count_of;
+use tables::lent::Tables;
 use tables::shape::{Shape, TICKS_AT};
+use timers::Timer;
+
+mod lending;
 
 // The block `timers`: the number of timers, and behind it their rows with their clock.
 const NUMBER_AT: usize = 0;
@@ -41,7 +48,7 @@ pub fn has(timers: &[u8], shape: Shape, task: u8, semaphore: u8) -> bool
     timers::has(&timers[ROWS_AT..], n, task, semaphore)
 }
 
-// Starts a timer, where a record is left for it.
+// Starts a timer, where a record is left for it. Period 0 is that of one that is not cyclic, as in the ledger.
 // It is compiled into its callers, since each call would take a copy of the shape on the stack.
 #[inline(always)]
 pub fn start(timers: &mut [u8], shape: Shape, task: u8, semaphore: u8, left: u32, period: u32)
@@ -52,7 +59,12 @@ pub fn start(timers: &mut [u8], shape: Shape, task: u8, semaphore: u8, left: u32
     if n >= shape.timers {
         return;
     }
-    timers::insert(&mut timers[ROWS_AT..], n, task, semaphore, left, period);
+    let timer = Timer {
+        task,
+        semaphore,
+        period,
+    };
+    lending::insert(&mut timers[ROWS_AT..], n, timer, left);
     timers[NUMBER_AT] = (n + 1) as u8;
 }
 
@@ -62,7 +74,7 @@ pub fn purge(timers: &mut [u8], shape: Shape, task: u8, semaphore: Option<u8>)
     ensures { DoesTimers shape timers.old timers.new (λ c L. purged task (is_none semaphore) (unwrap_or semaphore 0) L) }
 {
     let n = count(timers, shape);
-    let left = timers::purge(&mut timers[ROWS_AT..], n, task, semaphore);
+    let left = lending::purge(&mut timers[ROWS_AT..], n, task, semaphore);
     timers[NUMBER_AT] = left as u8;
 }
 
@@ -74,7 +86,7 @@ pub fn take_due(timers: &mut [u8], shape: Shape) -> u8
     ensures does { DoesTimers shape timers.old timers.new (λ c L. take_due L) }
 {
     let n = count(timers, shape);
-    let due = timers::take_due(&mut timers[ROWS_AT..], n);
+    let due = lending::take_due(&mut timers[ROWS_AT..], n);
     timers[NUMBER_AT] = due.count as u8;
     due.semaphore
 }
@@ -85,7 +97,7 @@ fn pass(timers: &mut [u8], shape: Shape) -> usize
     ensures { (result ≤ shape.timers) × (result ≡ due_in (held_in shape timers.new)) × DoesTimers shape timers.old timers.new (λ c L. set_clock (suc L.N) L.ticks L) }
 {
     let n = count(timers, shape);
-    timers::pass(&mut timers[ROWS_AT..], n)
+    lending::pass(&mut timers[ROWS_AT..], n)
 }
 
 // The tick's record: the ticks left in the tock, and the ticks per tock.
@@ -122,36 +134,34 @@ fn left_of(ticks: usize, x: u8) -> usize
 }
 
 // The ticks left in the tock.
-fn ticks_left(tables: &[u8], shape: Shape) -> usize
-    requires { Fits shape (length tables.now) }
-    ensures { (1 ≤ result) × (result ≤ shape.ticks) × (result ≡ left_of shape.ticks (get_or tables.now ticks_at 0)) }
+fn ticks_left(tables: &Tables<'_>) -> usize
+    ensures { (1 ≤ result) × (result ≤ tables.now.shape.ticks) × (result ≡ left_of tables.now.shape.ticks (get_or tables.now.bytes.now ticks_at 0)) }
 {
-    left_of(shape.ticks, tables[TICKS_AT])
+    left_of(tables.shape.ticks, tables.bytes[TICKS_AT])
 }
 
 // One tick in the tables. Gives whether a tock passed.
-fn tick(tables: &mut [u8], shape: Shape) -> bool
-    requires { Fits shape (length tables.old) }
-    ensures tells { Tells shape tables.old (λ c L. not (ltb (suc L.ticks) c.K)) result }
-    ensures does { Does shape tables.old tables.new (λ c L. set_clock L.N (cond result 0 (suc L.ticks)) L) }
+fn tick(tables: &mut Tables<'_>) -> bool
+    ensures tells { Tells tables.old.shape tables.old.bytes.now (λ c L. not (ltb (suc L.ticks) c.K)) result }
+    ensures does { Goes tables.old tables.new (λ c L. set_clock L.N (cond result 0 (suc L.ticks)) L) }
 {
-    let left = ticks_left(tables, shape);
+    let left = ticks_left(tables);
     let mut ticks = Ticks {
         left,
-        pertock: shape.ticks,
+        pertock: tables.shape.ticks,
     };
     let tock = count_tick(&mut ticks);
-    tables[TICKS_AT] = ticks.left as u8;
+    tables.bytes[TICKS_AT] = ticks.left as u8;
     tock
 }
 
 // One tick. Gives how often a caller has to take a due timer and signal its semaphore.
-pub fn advance(tables: &mut [u8], timers: &mut [u8], shape: Shape) -> usize
-    requires { Fits shape (length tables.old) × Holds shape (length timers.old) }
-    ensures { Advanced shape tables.old timers.old tables.new timers.new result }
+pub fn advance(tables: &mut Tables<'_>, timers: &mut [u8]) -> usize
+    requires { Holds tables.old.shape (length timers.old) }
+    ensures { Step tables.old tables.new (λ s d d'. Advanced s d timers.old d' timers.new result) }
 {
-    if tick(tables, shape) {
-        return pass(timers, shape);
+    if tick(tables) {
+        return pass(timers, tables.shape);
     }
     0
 }

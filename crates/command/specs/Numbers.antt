@@ -1,7 +1,9 @@
 -- A check that fails, and one that doesn't; a refusal's number.
-use Rattle.std.specs.Prelude.{ℕ, ◌≡◌, Bool, true, false, List, ◌∷◌}
+use Rattle.std.specs.Prelude.{ℕ, ◌+◌, ◌≤◌, ◌≡◌, Bool, true, false, List, ◌∷◌}
 use Rattle.std.proofs.Common.{arith}
 use Rattle.ledger.specs.Lists.{Check, first, ◌⇒◌}
+use Rattle.tables.specs.declared.shape.Shape.{Shape}
+use Rattle.tables.specs.Layout.{Fits, fitting}
 use Rattle.refusals.specs.declared.Refusal.{Refusal}
 use Rattle.refusals.specs.declared.Refusal.TheVariants as refusal
 use Rattle.refusals.specs.Numbers.{number_of}
@@ -37,3 +39,10 @@ here b n ks e = rw e
 pub next : (b : Bool) (n : ℕ) (ks : List Check) → b ≡ false → first (b ⇒ n ∷ ks) ≡ first ks
 unfolding first
 next b n ks e = rw e
+
+-- ---- numbers of semaphores
+pub named_few : {s : Shape} {n : ℕ} → Fits s n → s.named + s.tasks ≤ 255
+named_few (fitting l r) = omega arith
+
+pub owned : {s : Shape} {n : ℕ} → Fits s n → (t : ℕ) → t ≤ s.tasks → s.named + t ≤ 255
+owned (fitting l r) t h = omega arith

@@ -13,20 +13,6 @@ use crate::codes::{FieldA, FieldB, FieldX, Follows};
 use refusals::Refusal;
 use tables::shape::Shape;
 
-// Two bytes, high first. Not by `from_be_bytes`, a function of std, whose code the theorems about runs (crates/theorems, World) cannot have.
-fn word(high: u8, low: u8) -> usize
-    ensures { result ≡ 256 * high + low }
-{
-    256 * (high as usize) + low as usize
-}
-
-// And four.
-fn long_word(b0: u8, b1: u8, b2: u8, b3: u8) -> usize
-    ensures { result ≡ 65536 * (256 * b0 + b1) + (256 * b2 + b3) }
-{
-    65536 * word(b0, b1) + word(b2, b3)
-}
-
 // Whether a number is none of those from 1 on.
 pub fn outside(most: usize, n: usize) -> bool
     ensures { result ≡ not (within 1 most n) }
@@ -61,8 +47,8 @@ pub fn value(follows: Follows, frame: &[u8]) -> usize
     ensures { result ≡ value_x (view_follows follows) frame.now }
 {
     match follows {
-        Follows::X | Follows::XAndEntry => word(frame[3], frame[4]),
-        Follows::LongX => long_word(frame[3], frame[4], frame[5], frame[6]),
+        Follows::X | Follows::XAndEntry => rows::word(frame[3], frame[4]) as usize,
+        Follows::LongX => rows::long_word(frame[3], frame[4], frame[5], frame[6]) as usize,
     }
 }
 

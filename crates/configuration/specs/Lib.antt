@@ -4,6 +4,8 @@ pub mod Head
 pub mod States
 pub mod Room
 pub mod Refusal
+pub mod Ways
+pub mod Pairs
 pub mod Layout
 pub mod Lent
 pub mod Kept

@@ -1,7 +1,7 @@
 -- The bytes of all queues, added up queue by queue; a queue that there is not counts 4,097, more than all may have.
-use Rattle.std.specs.Prelude.{◌≡◌, refl, Bool, true, false, cond, ◌&&◌, ℕ, ◌+◌, ◌*◌, ◌/◌, ◌%◌, ◌<◌, ◌≤◌, length, drop}
+use Rattle.std.specs.Prelude.{◌≡◌, refl, Bool, true, false, cond, ◌&&◌, ℕ, zero, suc, ◌+◌, ◌*◌, ◌/◌, ◌%◌, ◌<◌, ◌≤◌, length, drop}
 use Rattle.std.proofs.Math.Path.{sym, ap}
-use Rattle.std.proofs.Common.{◌∙◌, mul-le-mul, length-drop}
+use Rattle.std.proofs.Common.{◌∙◌, mul-le-mul, mul-zero, zero-mul, length-drop}
 use mathlib.Core.List.{List, [], ◌∷◌, map}
 use native.Mathlib.Omega.{arith}
 use Rattle.std.proofs.Math.ListN.{get_or}
@@ -29,15 +29,36 @@ pub record Sized (w d : ℕ) : Type 0 where
   pub shallow : d ≤ 255
 
 module _ (w d : ℕ) where
+  sized_is : Sized w d → (within 1 16 w && within 1 255 d) ≡ true
+  sized_is h = rw (le-leb 1 w h.wide, le-leb w 16 h.narrow, le-leb 1 d h.deep, le-leb d 255 h.shallow)
+
   pub sized : (within 1 16 w && within 1 255 d) ≡ true → Sized w d
   sized e =
       let a = within_numbered 16 w (and_left (within 1 16 w) (within 1 255 d) e) in
       let b = within_numbered 255 d (and_right (within 1 16 w) (within 1 255 d) e) in
       record { wide = a.from; narrow = a.upto; deep = b.from; shallow = b.upto }
 
-  -- no product of such numbers is 0
+  -- no product of such numbers is 0, and one that is not 0 has no factor 0
   some : Sized w d → w * d ≡ 0 → ⊥
   some h e = omega (arith, mul-le-mul h.wide h.deep)
+
+  small : w ≤ 16 → d ≤ 255 → (w * d ≡ 0 → ⊥) → Sized w d
+  small a b n = record { wide = go w n; narrow = a; deep = deep d n; shallow = b }
+    where
+      go : (x : ℕ) → (x * d ≡ 0 → ⊥) → 1 ≤ x
+      go zero k = absurd (k (zero-mul d))
+      go (suc x) k = omega arith
+
+      deep : (y : ℕ) → (w * y ≡ 0 → ⊥) → 1 ≤ y
+      deep zero k = absurd (k (mul-zero w))
+      deep (suc y) k = omega arith
+
+  pub bytes_some : Sized w d → bytes_or_none w d ≡ w * d
+  unfolding bytes_or_none
+  bytes_some h = rw (sized_is h)
+
+  pub some_bytes : w ≤ 16 → d ≤ 255 → (w * d ≡ 0 → ⊥) → (w * d ≡ bytes_or_none w d) × (w * d ≤ 4097)
+  some_bytes a b n = let k = small a b n in (sym (bytes_some k), omega (arith, mul-le-mul a b))
 
   pub bytes_none : (Sized w d → ⊥) → bytes_or_none w d ≡ 4097
   unfolding bytes_or_none

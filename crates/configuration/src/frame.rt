@@ -99,7 +99,7 @@ fn size(shapes: &[u8], i: usize) -> u16
     requires { i + 2 ≤ length shapes.now }
     ensures { (result % 256 ≡ get_or shapes.now i 0) × (result / 256 ≡ get_or shapes.now (i + 1) 0) }
 {
-    256 * (shapes[i + 1] as u16) + shapes[i] as u16
+    rows::word(shapes[i + 1], shapes[i])
 }
 
 // The bytes of one queue.
@@ -121,7 +121,8 @@ fn bytes_or_none(size: u16) -> u32
     bytes
 }
 
-// The bytes of all queues, each by `bytes`. No test ends the sum early.
+// The bytes of all queues, each by `bytes`. No test ends the sum early. By pairs of bytes, and not by std's `chunks_exact` and `sum`, whose
+// code the theorems about runs (theorems/proofs/World) cannot name.
 fn total<F: Fn(u16) -> u32>(shapes: &[u8], bytes: F) -> u32
     requires callable { F.IsAlwaysCallable bytes }
     requires few { length shapes.now ≤ 510 }

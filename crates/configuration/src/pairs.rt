@@ -31,6 +31,7 @@ fn good_pair(states: &[u8], first: u8, then: u8) -> bool
 pub fn good_pairs(states: &[u8], pairs: &[u8]) -> bool
     ensures { result ≡ all (good_pair (length states.now) states.now) (pairs_in pairs.now) }
 {
+    // by pairs of bytes, for which std has `chunks_exact`, whose code the theorems about runs (theorems/proofs/World) cannot name
     for k in 0..pairs.len() / 2 {
         if !good_pair(states, pairs[2 * k], pairs[2 * k + 1]) {
             return false;

@@ -5,6 +5,7 @@
 
 pub mod carrying;
 pub mod frames;
+pub mod lent;
 pub mod queue;
 pub mod settling;
 pub mod timer;

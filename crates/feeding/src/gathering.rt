@@ -19,6 +19,7 @@ pub fn gather(input: &[u8], from: usize, line: &mut [u8], held: usize) -> Gather
     ensures { Gathers input.now from line.old held line.new result }
 {
     let mut held = held;
+    // by index, which is what it gives
     for i in from..input.len() {
         let b = input[i];
         if b == 0x0A {

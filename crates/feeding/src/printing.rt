@@ -3,16 +3,14 @@ ghost use Rattle.std.specs.Prelude.{◌≡◌, ◌++◌, ◌+◌, ◌≤◌, len
 ghost use Rattle.rows.specs.Splice.{cut};
 ghost use Rattle.feeding.specs.Input as input;
 
+use tables::counts::count_of;
+
 // The length of the answer, 20 at most.
 fn length_of(answer: &[u8]) -> usize
     requires { 21 ≤ length answer.now }
     ensures { (result ≤ 20) × (get_or answer.now 0 0 ≤ 20 → result ≡ get_or answer.now 0 0) }
 {
-    let n = answer[0];
-    if n > 20 {
-        return 20;
-    }
-    n as usize
+    count_of(20, answer[0])
 }
 
 // Prints the answer of the answer block behind what is printed. Gives how many bytes are printed then.

@@ -12,7 +12,6 @@ ghost use Rattle.feeding.specs.Replies.{FirstReply, RefusesLine, GoesOn};
 use super::Stage;
 use configuration::limits::controller;
 use line::LONGEST_FRAME;
-use parts::FRAME_AT;
 use tables::shape::Shape;
 
 // The answer to the first line: it is to be a configuration.
@@ -56,8 +55,7 @@ fn by_frame(config: &[u8]) -> Option<Shape>
     if !mcx11::lent::counts(limits, config) {
         return None;
     }
-    let end = FRAME_AT + parts::frame_length(config);
-    configuration::block::lent(limits, &config[FRAME_AT..end])
+    configuration::block::lent(limits, parts::kept_frame(config))
 }
 
 // The answer to a line that is no frame.

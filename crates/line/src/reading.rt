@@ -27,13 +27,15 @@ fn all_digits(line: &[u8]) -> bool
     good
 }
 
-// A digit's value: the low four bits, and 9 more for a letter. Of another byte, some number below 16.
+// A digit's value: the low four bits, and 9 more for a letter. Of another byte, some number below 16. By sums, as its clause has it, and
+// not by a match: the bytes of a line are written without a branch.
 fn value(d: u8) -> u8
     ensures { result ≡ nibble d }
 {
     (d % 16 + d / 64 * 9) % 16
 }
 
+// No conversion of one value: a byte from two digits.
 fn byte_of(high: u8, low: u8) -> u8
     ensures { result ≡ 16 * nibble high + nibble low }
 {
@@ -45,6 +47,7 @@ fn put_bytes(line: &[u8], frame: &mut [u8])
     requires { length line.now / 2 ≤ length frame.old }
     ensures { frame.new ≡ pairs line.now ++ drop (length line.now / 2) frame.old }
 {
+    // by pairs of bytes, for which std has `chunks_exact`, whose code the theorems about runs (theorems/proofs/World) cannot name
     for i in 0..line.len() / 2 {
         frame[i] = byte_of(line[2 * i], line[2 * i + 1]);
     }

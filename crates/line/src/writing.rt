@@ -7,6 +7,7 @@ use super::LONGEST_FRAME;
 use refusals::Refusal;
 
 #[tactic(auto, unfolding(ledger::specs::Lines::digit_of))]
+// A digit of a value below 16, which no type says: not a `From`.
 fn digit(v: u8) -> u8
     requires { v < 16 }
     ensures { result ≡ digit_of v }

@@ -12,6 +12,7 @@ use Rattle.messages.specs.Pending.{Pending, addressed, pending_in, mailbox_of}
 use Rattle.messages.specs.Searches.{record_room, Bounded}
 use Rattle.messages.specs.Records.{pending_length}
 use Rattle.messages.specs.Mailboxes.{mailbox_few}
+use Rattle.messages.specs.declared.lent.Messages.{Messages}
 use Rattle.tables.specs.declared.shape.Shape.{Shape}
 use Rattle.tables.specs.Layout.{OneOf, count_at, Laid, Fits, fitting, bound, region, Regions, named, regions, but, written, byte_written, region_at, region_length}
 use Rattle.tables.specs.Decode.{count_of}
@@ -39,6 +40,13 @@ bytes s d = cut d s.messageat s.bodyat
 
 abbrev pub mail : Shape → List ℕ → List Pending
 mail s d = pending_in s.tasks (count_of s.messages (get_or d count_at 0)) (bytes s d)
+
+-- m is the messages that are pending in d, as they are lent
+pub record PendingIn (s : Shape) (d : List ℕ) (m : Messages) : Type 0 where
+  pub records : m.records.now ≡ bytes s d
+  pub count : m.count ≡ count_of s.messages (get_or d count_at 0)
+  pub few : m.count ≤ s.messages
+  pub tasks : m.tasks ≡ s.tasks
 
 pub bytes_are : (s : Shape) (d : List ℕ) → (regions s d).messages ≡ bytes s d
 unfolding regions named region bound

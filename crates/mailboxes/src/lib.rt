@@ -3,73 +3,97 @@
 // Rests on tables, for what the memory shows, and on messages, for what a change of the records makes of every mailbox.
 #![tactic(auto)]
 
-ghost use Rattle.std.specs.Prelude.{◌≡◌, ◌≤◌, length};
+ghost use Rattle.std.specs.Prelude.{◌≡◌, length};
 ghost use Rattle.tables.specs.Layout.{OneOf, Fits};
-ghost use Rattle.tables.specs.Shows.{Does, Tells};
+ghost use Rattle.tables.specs.Lent.{Goes};
+ghost use Rattle.tables.specs.Shows.{Tells};
 ghost use Rattle.ledger.specs.Lists.{find};
 ghost use Rattle.ledger.specs.Ledger.{mailbox};
 ghost use Rattle.ledger.specs.Services.{wanted};
 ghost use Rattle.ledger.specs.Refusals.{inamailbox};
+ghost use Rattle.mailboxes.specs.Mail.{PendingIn};
 ghost use Rattle.mailboxes.specs.Room.{Roomy, sound_in};
 ghost use Rattle.mailboxes.specs.Received.{view_received, inserted, taken};
 
 use messages::Message;
+use messages::lent::Messages;
 use tables::counts::count_of;
+use tables::lent::Tables;
 use tables::shape::{COUNT_AT, Shape};
 
-// Whether the message of a number lies in a mailbox.
-pub fn holds(tables: &[u8], shape: Shape, number: u8) -> bool
-    requires { Fits shape (length tables.now) }
-    ensures { Tells shape tables.now (λ c L. inamailbox L number) result }
+// The messages that are pending in the tables, as they are lent to be read. It is compiled into its callers, as `pending_in` is.
+#[inline(always)]
+fn pending<'a>(tables: &'a Tables<'_>) -> Messages<'a>
+    ensures { PendingIn tables.now.shape tables.now.bytes.now result }
 {
-    let n = count_of(shape.messages, tables[COUNT_AT]);
+    pending_in(tables.bytes, tables.shape)
+}
+
+// The same in bytes beside their shape, as `sound` is lent them.
+#[inline(always)]
+fn pending_in<'a>(bytes: &'a [u8], shape: Shape) -> Messages<'a>
+    requires { Fits shape (length bytes.now) }
+    ensures { PendingIn shape bytes.now result }
+{
     let at = shape.messageat;
     let end = shape.bodyat;
-    messages::holds(&tables[at..end], n, number)
+    Messages {
+        records: &bytes[at..end],
+        count: count_of(shape.messages, bytes[COUNT_AT]),
+        tasks: shape.tasks,
+    }
+}
+
+// Whether the message of a number lies in a mailbox.
+pub fn holds(tables: &Tables<'_>, number: u8) -> bool
+    ensures { Tells tables.now.shape tables.now.bytes.now (λ c L. inamailbox L number) result }
+{
+    pending(tables).holds(number)
 }
 
 // Puts a message into the mailbox of task `to`, where there is room for one more.
-pub fn insert(tables: &mut [u8], shape: Shape, to: u8, number: u8, sender: u8, semaphore: u8)
-    requires { Fits shape (length tables.old) × OneOf shape.tasks to × Roomy shape tables.old }
-    ensures { Does shape tables.old tables.new (λ c L. inserted to number sender semaphore L) }
+pub fn insert(tables: &mut Tables<'_>, to: u8, message: Message)
+    requires { OneOf tables.old.shape.tasks to × Roomy tables.old.shape tables.old.bytes.now }
+    ensures { Goes tables.old tables.new (λ c L. inserted to message.number message.sender message.semaphore L) }
 {
-    let n = count_of(shape.messages, tables[COUNT_AT]);
-    let at = shape.messageat;
-    let end = shape.bodyat;
+    let n = count_of(tables.shape.messages, tables.bytes[COUNT_AT]);
+    let at = tables.shape.messageat;
+    let end = tables.shape.bodyat;
     messages::insert(
-        &mut tables[at..end],
+        &mut tables.bytes[at..end],
         n,
-        shape.tasks,
+        tables.shape.tasks,
         to,
-        number,
-        sender,
-        semaphore,
+        message,
     );
-    tables[COUNT_AT] = (n + 1) as u8;
+    tables.bytes[COUNT_AT] = (n + 1) as u8;
 }
 
-// Takes the first message for task t that is from `from`, or from any if that is 0, if there is one.
-// It is compiled into its callers, since each call would take a copy of the shape on the stack.
+// Takes the first message for task t that is from `from`, or from any if that is 0 (as in document 01's byte), if there is one.
+// It is compiled into its callers, which saves each a call and the stack for it.
 #[inline(always)]
-pub fn take(tables: &mut [u8], shape: Shape, t: u8, from: u8) -> Option<Message>
-    requires { Fits shape (length tables.old) × OneOf shape.tasks t }
-    ensures tells { Tells shape tables.old (λ c L. find (wanted from) (mailbox L t)) (view_received result) }
-    ensures does { Does shape tables.old tables.new (λ c L. taken result t from L) }
+pub fn take(tables: &mut Tables<'_>, t: u8, from: u8) -> Option<Message>
+    requires { OneOf tables.old.shape.tasks t }
+    ensures tells { Tells tables.old.shape tables.old.bytes.now (λ c L. find (wanted from) (mailbox L t)) (view_received result) }
+    ensures does { Goes tables.old tables.new (λ c L. taken result t from L) }
 {
-    let n = count_of(shape.messages, tables[COUNT_AT]);
-    let at = shape.messageat;
-    let end = shape.bodyat;
+    let pending = pending(tables);
+    let n = pending.count;
     // No `?`, which calls code of std that the theorems about runs can't name.
-    let Some(k) = messages::find(&tables[at..end], n, shape.tasks, t, from) else {
+    let Some(k) = pending.find(t, from) else {
         return None;
     };
-    let message = messages::load(&tables[at..end], k);
-    messages::remove(&mut tables[at..end], n, k);
-    tables[COUNT_AT] = (n - 1) as u8;
+    let message = pending.load(k);
+    let at = tables.shape.messageat;
+    let end = tables.shape.bodyat;
+    messages::remove(&mut tables.bytes[at..end], n, k);
+    tables.bytes[COUNT_AT] = (n - 1) as u8;
     Some(message)
 }
 
 // Whether there is room for one more message, or else each that lies in the memory is one of those that there are, and lies there once.
+// It stays over bytes beside a shape, as what may not change needs it: `mcx11::lent::test` is lent `&[u8]`, and a `&mut` would ask more.
+// Each frame asks it, so the number is read by itself: off `pending_in`'s answer a frame took 17 instructions more.
 pub fn sound(tables: &[u8], shape: Shape) -> bool
     requires { Fits shape (length tables.now) }
     ensures { result ≡ sound_in shape tables.now }
@@ -78,7 +102,5 @@ pub fn sound(tables: &[u8], shape: Shape) -> bool
     if n < shape.messages {
         return true;
     }
-    let at = shape.messageat;
-    let end = shape.bodyat;
-    messages::complete(&tables[at..end], n, shape.messages)
+    pending_in(tables, shape).complete(shape.messages)
 }

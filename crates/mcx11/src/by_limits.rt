@@ -18,7 +18,7 @@ ghost use Rattle.mcx11.specs.Begun.{TellsNow, Places};
 use crate::lent::{CONFIG_MARK, SLOTS_MARK, Sizes, TABLES_MARK, TIMERS_MARK};
 use configuration::limits::Limits;
 use executive::frames::step;
-use parts::{FRAME_AT, PART_AT};
+use parts::PART_AT;
 use refusals::Refusal;
 use tables::shape::Shape;
 
@@ -51,8 +51,8 @@ fn feed(
 }
 
 // A frame to blocks that meet the limits, with the configuration's frame that is kept. Where the rest of the rules is broken nothing is
-// written.
-fn inside(
+// written. No `?` and no `ok_or`, here and below: no code of std runs below an exported function (theorems/proofs/World).
+pub fn inside(
     limits: Limits,
     frame: &[u8],
     kept: &[u8],
@@ -91,16 +91,8 @@ pub fn frame(
     if !crate::lent::meets_limits(limits, n, config, tables, slots, timers, answer.len()) {
         return Err(Refusal::Memory);
     }
-    let end = FRAME_AT + parts::frame_length(config);
-    inside(
-        limits,
-        frame,
-        &config[FRAME_AT..end],
-        tables,
-        slots,
-        timers,
-        answer,
-    )
+    let kept = parts::kept_frame(config);
+    inside(limits, frame, kept, tables, slots, timers, answer)
 }
 
 // Sets the marks of all blocks.

@@ -53,7 +53,7 @@ pub fn sizes_of(limits: Limits) -> Sizes
     }
 }
 
-// Whether blocks of these lengths have their sizes.
+// Whether blocks of these lengths have their sizes. The lengths come one by one: a second `Sizes` would only be made to be taken apart.
 pub fn has_sizes(
     n: Sizes,
     config: usize,
@@ -129,7 +129,7 @@ fn by_messages(tables: &[u8], shape: Shape) -> Option<Shape>
     None
 }
 
-// The rest: the shape of the frame that is kept, where it and the messages keep the rules.
+// The rest: the shape of the frame that is kept, where it and the messages keep the rules. No `?`, which calls code of std.
 pub fn test(limits: Limits, kept: &[u8], tables: &[u8]) -> Option<Shape>
     requires { Made (limits_of limits) × (counts_rule (limits_of limits) kept.now ≡ true) × ((sizes_of (limits_of limits)).tables ≤ length tables.now) }
     ensures { Tested (limits_of limits) kept.now tables.now result }

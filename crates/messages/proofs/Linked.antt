@@ -4,11 +4,11 @@ use prog.Linked.{Tree, World, Holds, in_world}
 use prog.LinkedThreads.{HasT}
 use mathlib.Core.Bool.{true}
 use Rattle.messages.proofs.TheLink as link
-use Rattle.messages.proofs.complete.Symbol as complete
-use Rattle.messages.proofs.find.Symbol as find
-use Rattle.messages.proofs.holds.Symbol as holds
 use Rattle.messages.proofs.insert.Symbol as insert
-use Rattle.messages.proofs.load.Symbol as load
+use Rattle.messages.proofs.lent.Messages.complete.Symbol as lent_Messages_complete
+use Rattle.messages.proofs.lent.Messages.find.Symbol as lent_Messages_find
+use Rattle.messages.proofs.lent.Messages.holds.Symbol as lent_Messages_holds
+use Rattle.messages.proofs.lent.Messages.load.Symbol as lent_Messages_load
 use Rattle.messages.proofs.remove.Symbol as remove
 
 pub the_table : Tree
@@ -17,25 +17,25 @@ the_table = link.table
 abbrev pub Below : World → Type 0
 Below = link.Below
 
-pub complete_linked : (W : World) → Holds W "messages" the_table → Below W → HasT (in_world W) true complete.code
-unfolding the_table
-complete_linked = link.linked-messages::complete
-
-pub find_linked : (W : World) → Holds W "messages" the_table → Below W → HasT (in_world W) true find.code
-unfolding the_table
-find_linked = link.linked-messages::find
-
-pub holds_linked : (W : World) → Holds W "messages" the_table → Below W → HasT (in_world W) true holds.code
-unfolding the_table
-holds_linked = link.linked-messages::holds
-
 pub insert_linked : (W : World) → Holds W "messages" the_table → Below W → HasT (in_world W) true insert.code
 unfolding the_table
 insert_linked = link.linked-messages::insert
 
-pub load_linked : (W : World) → Holds W "messages" the_table → Below W → HasT (in_world W) true load.code
+pub lent_Messages_complete_linked : (W : World) → Holds W "messages" the_table → Below W → HasT (in_world W) true lent_Messages_complete.code
 unfolding the_table
-load_linked = link.linked-messages::load
+lent_Messages_complete_linked = link.linked-messages::lent::Messages::complete
+
+pub lent_Messages_find_linked : (W : World) → Holds W "messages" the_table → Below W → HasT (in_world W) true lent_Messages_find.code
+unfolding the_table
+lent_Messages_find_linked = link.linked-messages::lent::Messages::find
+
+pub lent_Messages_holds_linked : (W : World) → Holds W "messages" the_table → Below W → HasT (in_world W) true lent_Messages_holds.code
+unfolding the_table
+lent_Messages_holds_linked = link.linked-messages::lent::Messages::holds
+
+pub lent_Messages_load_linked : (W : World) → Holds W "messages" the_table → Below W → HasT (in_world W) true lent_Messages_load.code
+unfolding the_table
+lent_Messages_load_linked = link.linked-messages::lent::Messages::load
 
 pub remove_linked : (W : World) → Holds W "messages" the_table → Below W → HasT (in_world W) true remove.code
 unfolding the_table

@@ -7,6 +7,7 @@ use Rattle.parts.proofs.TheLink as link
 use Rattle.parts.proofs.frame_length.Symbol as frame_length
 use Rattle.parts.proofs.is_marked.Symbol as is_marked
 use Rattle.parts.proofs.keep_frame.Symbol as keep_frame
+use Rattle.parts.proofs.kept_frame.Symbol as kept_frame
 use Rattle.parts.proofs.mark_ends.Symbol as mark_ends
 
 pub the_table : Tree
@@ -26,6 +27,10 @@ is_marked_linked = link.linked-parts::is_marked
 pub keep_frame_linked : (W : World) → Holds W "parts" the_table → Below W → HasT (in_world W) true keep_frame.code
 unfolding the_table
 keep_frame_linked = link.linked-parts::keep_frame
+
+pub kept_frame_linked : (W : World) → Holds W "parts" the_table → Below W → HasT (in_world W) true kept_frame.code
+unfolding the_table
+kept_frame_linked = link.linked-parts::kept_frame
 
 pub mark_ends_linked : (W : World) → Holds W "parts" the_table → Below W → HasT (in_world W) true mark_ends.code
 unfolding the_table

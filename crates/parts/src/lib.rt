@@ -7,7 +7,7 @@ ghost use Rattle.std.specs.Prelude.{◌≡◌, ◌+◌, ◌*◌, ◌≤◌, eqb,
 ghost use Rattle.ledger.specs.Lists as lists;
 ghost use Rattle.rows.specs.Splice.{splice};
 ghost use Rattle.rows.specs.Four.{le4};
-ghost use Rattle.parts.specs.Parts.{part_at, frame_at, marked_by, ends, kept};
+ghost use Rattle.parts.specs.Parts.{part_at, frame_at, marked_by, ends, kept, kept_frame};
 
 // Where the part begins; in the block of the configuration the frame's length lies there, and the frame behind it.
 pub const PART_AT: usize = 4;
@@ -47,7 +47,17 @@ pub fn frame_length(config: &[u8]) -> usize
     rows::word(config[PART_AT], config[PART_AT + 1]) as usize
 }
 
-// Keeps a frame in the block, its length before it.
+// The frame that the block keeps.
+pub fn kept_frame(config: &[u8]) -> &[u8]
+    requires { (frame_at ≤ length config.now) × (frame_at + lists.word part_at config.now ≤ length config.now) }
+    ensures { result.now ≡ kept_frame config.now }
+{
+    let end = FRAME_AT + frame_length(config);
+    &config[FRAME_AT..end]
+}
+
+// Keeps a frame in the block, its length before it: high byte first, by a quotient and a rest, as std's `to_be_bytes` is no code that
+// the theorems about runs know.
 pub fn keep_frame(frame: &[u8], config: &mut [u8])
     requires { (length frame.now ≤ 65535) × (frame_at + length frame.now ≤ length config.old) }
     ensures { config.new ≡ splice config.old part_at (kept frame.now) }

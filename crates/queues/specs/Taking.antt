@@ -33,6 +33,11 @@ use Rattle.queues.specs.Rings.{ring_of, RingFits, head_in, count_in, body_in, bo
 use Rattle.queues.specs.Holding.{take_shown}
 use Rattle.queues.specs.Putting.{rings_length, bodies_length}
 
+-- the oldest of `many` entries was copied to the front of out, and the next one lies at `next`
+pub record Copied (r : Ring) (d : List ℕ) (first many : ℕ) (out out' : List ℕ) (next : ℕ) : Type 0 where
+  pub out_after : out' ≡ splice out 0 (get_or (holds r.width r.depth first many (body_in r d)) 0 [])
+  pub upper_bound : (next < r.depth) × (holds r.width r.depth next (many - 1) (body_in r d) ≡ drop 1 (holds r.width r.depth first many (body_in r d))) × (next ≡ wrap_of r.depth (first + 1))
+
 -- the queue that the ledger's dequeue leaves
 abbrev pub taken : Config → (t q : ℕ) → List ℕ → Ledger → Queue
 taken c t q e L =

@@ -3,17 +3,18 @@
 // Rests on tables for the memory, and on rings for the entries.
 #![tactic(auto)]
 
-ghost use Rattle.std.specs.Prelude.{◌≡◌, ◌+◌, ◌-◌, ◌*◌, ◌≤◌, length, set};
+ghost use Rattle.std.specs.Prelude.{◌≡◌, ◌+◌, ◌-◌, ◌*◌, ◌<◌, ◌≤◌, length, set};
 ghost use Rattle.tables.specs.Decode.{head_of};
-ghost use Rattle.tables.specs.Layout.{OneOf, Fits};
-ghost use Rattle.tables.specs.Shows.{DoesIf};
+ghost use Rattle.tables.specs.Layout.{OneOf};
+ghost use Rattle.tables.specs.Lent.{Step, GoesIf};
 ghost use Rattle.ledger.specs.Services.{put_entry};
 ghost use Rattle.ledger.specs.Refusals.{on_not_empty, on_not_full, meets21};
 ghost use Rattle.queues.specs.Rings.{RingFits, HasRoom, head_in, count_in, TellsRing, Takes};
+ghost use Rattle.queues.specs.Taking.{Copied};
 ghost use Rattle.queues.specs.Waits.{not_full_of};
 
 use tables::counts::count_of;
-use tables::shape::Shape;
+use tables::lent::Tables;
 use tables::tasks::Outcome;
 
 // A queue's width and depth, and where its entries lie in the tables: of the configuration.
@@ -33,111 +34,117 @@ fn head_of(depth: usize, x: u8) -> usize
 }
 
 // The place of the oldest entry.
-fn head(tables: &[u8], shape: Shape, ring: Ring, q: u8) -> usize
-    requires { Fits shape (length tables.now) × OneOf shape.queues q }
-    ensures { result ≡ head_in shape ring tables.now (q - 1) }
+fn head(tables: &Tables<'_>, ring: Ring, q: u8) -> usize
+    requires { OneOf tables.now.shape.queues q }
+    ensures { result ≡ head_in tables.now.shape ring tables.now.bytes.now (q - 1) }
 {
-    let at = shape.ringat + (q as usize - 1) * 2;
-    head_of(ring.depth, tables[at])
+    let at = tables.shape.ringat + (q as usize - 1) * 2;
+    head_of(ring.depth, tables.bytes[at])
 }
 
 // How many entries a queue holds.
-pub fn count(tables: &[u8], shape: Shape, ring: Ring, q: u8) -> usize
-    requires { Fits shape (length tables.now) × OneOf shape.queues q }
-    ensures { result ≡ count_in shape ring tables.now (q - 1) }
+pub fn count(tables: &Tables<'_>, ring: Ring, q: u8) -> usize
+    requires { OneOf tables.now.shape.queues q }
+    ensures { result ≡ count_in tables.now.shape ring tables.now.bytes.now (q - 1) }
 {
-    let at = shape.ringat + (q as usize - 1) * 2 + 1;
-    count_of(ring.depth, tables[at])
+    let at = tables.shape.ringat + (q as usize - 1) * 2 + 1;
+    count_of(ring.depth, tables.bytes[at])
 }
 
 // The semaphore not-full of a queue; not-empty is the one before it.
-pub fn not_full(shape: Shape, q: u8) -> u8
-    requires { Fits shape shape.end × OneOf shape.queues q }
-    ensures { (result ≡ not_full_of shape q) × OneOf shape.semaphores result × OneOf shape.semaphores (result - 1) }
+pub fn not_full(tables: &Tables<'_>, q: u8) -> u8
+    requires { OneOf tables.now.shape.queues q }
+    ensures { (result ≡ not_full_of tables.now.shape q) × OneOf tables.now.shape.semaphores result × OneOf tables.now.shape.semaphores (result - 1) }
 {
-    (shape.named + shape.tasks + 2 * (q as usize)) as u8
+    (tables.shape.named + tables.shape.tasks + 2 * (q as usize)) as u8
 }
 
 // Whether a dequeue would wait where another task waits: on not-empty, if the queue is empty.
-pub fn take_waits(tables: &[u8], shape: Shape, ring: Ring, q: u8) -> bool
-    requires { Fits shape (length tables.now) × OneOf shape.queues q }
-    ensures { TellsRing shape tables.now ring q (λ c L. meets21 c L on_not_empty q 0) result }
+pub fn take_waits(tables: &Tables<'_>, ring: Ring, q: u8) -> bool
+    requires { OneOf tables.now.shape.queues q }
+    ensures { TellsRing tables.now.shape tables.now.bytes.now ring q (λ c L. meets21 c L on_not_empty q 0) result }
 {
-    if count(tables, shape, ring, q) != 0 {
+    if count(tables, ring, q) != 0 {
         return false;
     }
-    tables::semaphores::is_waiting(tables, shape, not_full(shape, q) - 1)
+    tables.is_waiting(not_full(tables, q) - 1)
 }
 
 // Whether an enqueue would wait where another task waits: on not-full, if the queue is full.
-pub fn put_waits(tables: &[u8], shape: Shape, ring: Ring, q: u8) -> bool
-    requires { Fits shape (length tables.now) × OneOf shape.queues q }
-    ensures { TellsRing shape tables.now ring q (λ c L. meets21 c L on_not_full q 0) result }
+pub fn put_waits(tables: &Tables<'_>, ring: Ring, q: u8) -> bool
+    requires { OneOf tables.now.shape.queues q }
+    ensures { TellsRing tables.now.shape tables.now.bytes.now ring q (λ c L. meets21 c L on_not_full q 0) result }
 {
-    if count(tables, shape, ring, q) < ring.depth {
+    if count(tables, ring, q) < ring.depth {
         return false;
     }
-    tables::semaphores::is_waiting(tables, shape, not_full(shape, q))
+    tables.is_waiting(not_full(tables, q))
 }
 
 // Puts an entry behind those that the queue holds. The caller has seen that it is not full.
-pub fn put(tables: &mut [u8], shape: Shape, ring: Ring, q: u8, entry: &[u8])
-    requires { Fits shape (length tables.old) × RingFits shape ring × OneOf shape.queues q × (length entry.now ≡ ring.width) }
-    ensures { DoesIf shape tables.old tables.new (HasRoom shape ring q) (λ c L. put_entry q entry.now L) }
+pub fn put(tables: &mut Tables<'_>, ring: Ring, q: u8, entry: &[u8])
+    requires { RingFits tables.old.shape ring × OneOf tables.old.shape.queues q × (length entry.now ≡ ring.width) }
+    ensures { GoesIf tables.old tables.new (HasRoom tables.old.shape ring q) (λ c L. put_entry q entry.now L) }
 {
     let depth = ring.depth;
-    let first = head(tables, shape, ring, q);
-    let many = count(tables, shape, ring, q);
+    let first = head(tables, ring, q);
+    let many = count(tables, ring, q);
     if many >= depth {
         return;
     }
     let base = ring.base;
     let end = base + depth * ring.width;
     rings::put(
-        &mut tables[base..end],
+        &mut tables.bytes[base..end],
         first,
         many,
         ring.width,
         depth,
         entry,
     );
-    let at = shape.ringat + (q as usize - 1) * 2 + 1;
-    tables[at] = (many + 1) as u8;
+    let at = tables.shape.ringat + (q as usize - 1) * 2 + 1;
+    tables.bytes[at] = (many + 1) as u8;
 }
 
-fn step_on(tables: &mut [u8], shape: Shape, q: u8, next: u8, many: u8)
-    requires { Fits shape (length tables.old) × OneOf shape.queues q }
-    ensures { tables.new ≡ set (set tables.old (shape.ringat + (q - 1) * 2) next) (shape.ringat + (q - 1) * 2 + 1) many }
+fn step_on(tables: &mut Tables<'_>, q: u8, next: u8, many: u8)
+    requires { OneOf tables.old.shape.queues q }
+    ensures { Step tables.old tables.new (λ s d d'. d' ≡ set (set d (s.ringat + (q - 1) * 2) next) (s.ringat + (q - 1) * 2 + 1) many) }
 {
-    let at = shape.ringat + (q as usize - 1) * 2;
-    tables[at] = next;
-    tables[at + 1] = many;
+    let at = tables.shape.ringat + (q as usize - 1) * 2;
+    tables.bytes[at] = next;
+    tables.bytes[at + 1] = many;
+}
+
+// Copies the oldest of `many` entries out, and gives the place of the next one.
+fn copy_first(tables: &Tables<'_>, ring: Ring, first: usize, many: usize, slot: &mut [u8]) -> usize
+    requires { RingFits tables.now.shape ring × (first < ring.depth) × (0 < many) × (many ≤ ring.depth) × (ring.width ≤ length slot.old) }
+    ensures { Copied ring tables.now.bytes.now first many slot.old slot.new result }
+{
+    let base = ring.base;
+    let end = base + ring.depth * ring.width;
+    rings::take_out(
+        &tables.bytes[base..end],
+        first,
+        many,
+        ring.width,
+        ring.depth,
+        slot,
+    )
 }
 
 // Takes the oldest entry into the slot of task t. The caller has seen that there is one.
-pub fn take(tables: &mut [u8], slots: &mut [u8], shape: Shape, ring: Ring, q: u8, t: u8)
-    requires { Fits shape (length tables.old) × RingFits shape ring × OneOf shape.queues q × OneOf shape.tasks t × (16 * shape.tasks ≤ length slots.old) }
-    ensures { Takes shape tables.old slots.old tables.new slots.new ring t q }
+pub fn take(tables: &mut Tables<'_>, slots: &mut [u8], ring: Ring, q: u8, t: u8)
+    requires { RingFits tables.old.shape ring × OneOf tables.old.shape.queues q × OneOf tables.old.shape.tasks t × (16 * tables.old.shape.tasks ≤ length slots.old) }
+    ensures { Step tables.old tables.new (λ s d d'. Takes s d slots.old d' slots.new ring t q) }
 {
-    let depth = ring.depth;
-    let width = ring.width;
-    let first = head(tables, shape, ring, q);
-    let many = count(tables, shape, ring, q);
+    let first = head(tables, ring, q);
+    let many = count(tables, ring, q);
     if many == 0 {
         return;
     }
-    let base = ring.base;
-    let end = base + depth * width;
     let a = (t as usize - 1) * 16;
     let e = a + 16;
-    let next = rings::take_out(
-        &tables[base..end],
-        first,
-        many,
-        width,
-        depth,
-        &mut slots[a..e],
-    );
-    step_on(tables, shape, q, next as u8, (many - 1) as u8);
-    tables::tasks::store_outcome(tables, shape, t, Outcome::Entry(width as u8));
+    let next = copy_first(tables, ring, first, many, &mut slots[a..e]);
+    step_on(tables, q, next as u8, (many - 1) as u8);
+    tables.set_outcome(t, Outcome::Entry(ring.width as u8));
 }

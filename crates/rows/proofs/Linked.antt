@@ -8,6 +8,7 @@ use Rattle.rows.proofs.copy_in.Symbol as copy_in
 use Rattle.rows.proofs.copy_short.Symbol as copy_short
 use Rattle.rows.proofs.get4.Symbol as get4
 use Rattle.rows.proofs.insert_at.Symbol as insert_at
+use Rattle.rows.proofs.long_word.Symbol as long_word
 use Rattle.rows.proofs.put4.Symbol as put4
 use Rattle.rows.proofs.remove_at.Symbol as remove_at
 use Rattle.rows.proofs.replace_at.Symbol as replace_at
@@ -31,6 +32,10 @@ get4_linked W h = link.linked-rows::get4 W h tt
 pub insert_at_linked : (W : World) → Holds W "rows" the_table → HasT (in_world W) true insert_at.code
 unfolding the_table
 insert_at_linked W h = link.linked-rows::insert_at W h tt
+
+pub long_word_linked : (W : World) → Holds W "rows" the_table → HasT (in_world W) true long_word.code
+unfolding the_table
+long_word_linked W h = link.linked-rows::long_word W h tt
 
 pub put4_linked : (W : World) → Holds W "rows" the_table → HasT (in_world W) true put4.code
 unfolding the_table

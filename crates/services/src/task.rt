@@ -2,62 +2,59 @@
 ghost use Rattle.std.specs.Prelude.{length};
 ghost use Rattle.tables.specs.Decode.{view_blocks, view_outcome};
 ghost use Rattle.tables.specs.Encoded.{Narrow};
-ghost use Rattle.tables.specs.Layout.{OneOf, Fits};
-ghost use Rattle.tables.specs.Shows.{Does, DoesWithTimers};
+ghost use Rattle.tables.specs.Layout.{OneOf};
+ghost use Rattle.tables.specs.Lent.{Goes, GoesWithTimers};
 ghost use Rattle.clock.specs.Held.{Holds};
 ghost use Rattle.ledger.specs.Ledger.{task, set_task, set_suspended};
 ghost use Rattle.services.specs.Tasks.{anew};
 ghost use Rattle.ledger.specs.Services as ledger;
 
 use tables::blocks::{Block, Blocks};
-use tables::shape::Shape;
+use tables::lent::Tables;
 use tables::tasks::{Outcome, Request};
 
+// A task that nothing keeps from running.
+const FREE: Blocks = Blocks {
+    idle: false,
+    suspended: false,
+    event: false,
+    message: false,
+};
+
 // Suspend, or resume.
-pub fn set_suspended(tables: &mut [u8], shape: Shape, t: u8, on: bool)
-    requires { Fits shape (length tables.old) × OneOf shape.tasks t }
-    ensures { Does shape tables.old tables.new (λ c L. set_suspended t on L) }
+pub fn set_suspended(tables: &mut Tables<'_>, t: u8, on: bool)
+    requires { OneOf tables.old.shape.tasks t }
+    ensures { Goes tables.old tables.new (λ c L. set_suspended t on L) }
 {
-    tables::blocks::set(tables, shape, t, Block::Suspended, on);
+    tables.set_block(t, Block::Suspended, on);
 }
 
 // Blocks, outcome and no open request, all at once.
-fn set_record(tables: &mut [u8], shape: Shape, t: u8, b: Blocks, o: Outcome)
-    requires { Fits shape (length tables.old) × OneOf shape.tasks t × Narrow o }
-    ensures { Does shape tables.old tables.new (λ c L. set_task t (anew (view_blocks b) (view_outcome o (task L t).slot) (task L t).slot) L) }
+fn set_record(tables: &mut Tables<'_>, t: u8, b: Blocks, o: Outcome)
+    requires { OneOf tables.old.shape.tasks t × Narrow o }
+    ensures { Goes tables.old tables.new (λ c L. set_task t (anew (view_blocks b) (view_outcome o (task L t).slot) (task L t).slot) L) }
 {
-    tables::blocks::store(tables, shape, t, b);
-    tables::tasks::store_outcome(tables, shape, t, o);
-    tables::tasks::store_request(tables, shape, t, Request::None);
+    tables.set_blocks(t, b);
+    tables.set_outcome(t, o);
+    tables.set_request(t, Request::None);
 }
 
-pub fn execute(tables: &mut [u8], shape: Shape, a: u8)
-    requires { Fits shape (length tables.old) × OneOf shape.tasks a }
-    ensures { Does shape tables.old tables.new (λ c L. ledger.execute a L) }
+pub fn execute(tables: &mut Tables<'_>, a: u8)
+    requires { OneOf tables.old.shape.tasks a }
+    ensures { Goes tables.old tables.new (λ c L. ledger.execute a L) }
 {
-    tables::semaphores::withdraw(tables, shape, a);
-    let free = Blocks {
-        idle: false,
-        suspended: false,
-        event: false,
-        message: false,
-    };
-    set_record(tables, shape, a, free, Outcome::Begin);
+    tables.withdraw(a);
+    set_record(tables, a, FREE, Outcome::Begin);
 }
 
 // The wait is withdrawn and the timers go; then the messages are dropped, which may free their senders; last, the record of an idle task.
-pub fn terminate(tables: &mut [u8], timers: &mut [u8], shape: Shape, a: u8)
-    requires { Fits shape (length tables.old) × Holds shape (length timers.old) × OneOf shape.tasks a }
-    ensures { DoesWithTimers shape tables.old timers.old tables.new timers.new (λ c L. ledger.terminate a L) }
+pub fn terminate(tables: &mut Tables<'_>, timers: &mut [u8], a: u8)
+    requires { Holds tables.old.shape (length timers.old) × OneOf tables.old.shape.tasks a }
+    ensures { GoesWithTimers tables.old timers.old tables.new timers.new (λ c L. ledger.terminate a L) }
 {
-    tables::semaphores::withdraw(tables, shape, a);
-    clock::purge(timers, shape, a, None);
-    crate::message::drop_messages(tables, shape, a);
-    let idle = Blocks {
-        idle: true,
-        suspended: false,
-        event: false,
-        message: false,
-    };
-    set_record(tables, shape, a, idle, Outcome::Plain);
+    tables.withdraw(a);
+    clock::purge(timers, tables.shape, a, None);
+    crate::message::drop_messages(tables, a);
+    let idle = Blocks { idle: true, ..FREE };
+    set_record(tables, a, idle, Outcome::Plain);
 }

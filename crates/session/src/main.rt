@@ -8,6 +8,7 @@ ghost use Rattle.feeding.specs.Line.{most};
 ghost use Rattle.session.specs.Few.{HoldsFew};
 
 use feeding::{HELD, Reached, Stage};
+use std::fmt;
 use std::io::{Read, Write};
 
 // What a block leads to: more of the input is to be fed; its end was met; or a refused configuration has ended the session.
@@ -25,13 +26,13 @@ enum Failure {
     Output,
 }
 
-// Says what went wrong, to standard error. Where that fails too, nobody can be told.
-fn complain(rt: &HostRuntime, failure: Failure) {
-    let what = match failure {
-        Failure::Input => "session: the input cannot be read\n",
-        Failure::Output => "session: the output cannot be written\n",
-    };
-    let _ = rt.stderr().write_all(what.as_bytes());
+impl fmt::Display for Failure {
+    fn fmt<W: fmt::Write>(&self, f: &mut fmt::Formatter<W>) -> fmt::Result {
+        match self {
+            Failure::Input => write!(f, "the input cannot be read"),
+            Failure::Output => write!(f, "the output cannot be written"),
+        }
+    }
 }
 
 // Writes what was printed.
@@ -43,103 +44,86 @@ fn write_out(rt: &HostRuntime, out: &[u8], printed: usize) -> Result<(), Failure
         .map_err(|_| Failure::Output)
 }
 
-// Reads a block, feeds it and writes what was printed. An error is not the end of the input, and no line ends with it.
-fn turn(
-    rt: &HostRuntime,
-    reached: Reached,
-    line: &mut [u8; HELD],
-    config: &mut [u8; 336],
-    tables: &mut [u8; 7517],
-    slots: &mut [u8; 2024],
-    timers: &mut [u8; 659],
-    answer: &mut [u8; 21],
-    out: &mut [u8; 335872],
-) -> Result<Fed, Failure>
-    requires { reached.held ≤ most }
-    ensures { IfOk result HoldsFew }
-{
-    let mut input = [0u8; 8192];
-    let Ok(n) = rt.stdin().read(&mut input) else {
-        return Err(Failure::Input);
-    };
-    let from = feeding::next_block(reached);
-    let r = feeding::feed(
-        &input[..n],
-        from,
-        line,
-        config,
-        tables,
-        slots,
-        timers,
-        answer,
-        out,
-    );
-    write_out(rt, out, r.printed)?;
-    if n == 0 {
-        return Ok(Fed::Whole(r));
-    }
-    match r.stage {
-        Stage::Ended => Ok(Fed::Refused),
-        _ => Ok(Fed::Part(r)),
-    }
+// What a session needs: the bytes held of a line, the executive's blocks, and room for what is printed of one block of the input.
+#[derive(Drop)]
+struct Memory {
+    line: [u8; HELD],
+    config: [u8; 336],
+    tables: [u8; 7517],
+    slots: [u8; 2024],
+    timers: [u8; 659],
+    answer: [u8; 21],
+    out: [u8; 335872],
 }
 
-// The end of the input.
-fn end(
-    rt: &HostRuntime,
-    reached: Reached,
-    line: &[u8; HELD],
-    config: &mut [u8; 336],
-    tables: &mut [u8; 7517],
-    slots: &mut [u8; 2024],
-    timers: &mut [u8; 659],
-    answer: &mut [u8; 21],
-    out: &mut [u8; 335872],
-) -> Result<(), Failure>
-    requires { reached.held ≤ most }
-{
-    let last = feeding::next_block(reached);
-    let printed = feeding::finish(last, line, config, tables, slots, timers, answer, out);
-    write_out(rt, out, printed)
+impl Memory {
+    // Reads a block, feeds it and writes what was printed. An error is not the end of the input, and no line ends with it.
+    fn turn(&mut self, rt: &HostRuntime, reached: Reached) -> Result<Fed, Failure>
+        requires { reached.held ≤ most }
+        ensures { IfOk result HoldsFew }
+    {
+        let mut input = [0u8; 8192];
+        // Not by `map_err` and `?`, behind which the check does not find that no more is read than there is room for.
+        let Ok(n) = rt.stdin().read(&mut input) else {
+            return Err(Failure::Input);
+        };
+        let from = feeding::next_block(reached);
+        let r = feeding::feed(
+            &input[..n],
+            from,
+            &mut self.line,
+            &mut self.config,
+            &mut self.tables,
+            &mut self.slots,
+            &mut self.timers,
+            &mut self.answer,
+            &mut self.out,
+        );
+        write_out(rt, &self.out, r.printed)?;
+        if n == 0 {
+            return Ok(Fed::Whole(r));
+        }
+        match r.stage {
+            Stage::Ended => Ok(Fed::Refused),
+            _ => Ok(Fed::Part(r)),
+        }
+    }
+
+    // The end of the input.
+    fn end(&mut self, rt: &HostRuntime, reached: Reached) -> Result<(), Failure>
+        requires { reached.held ≤ most }
+    {
+        let last = feeding::next_block(reached);
+        let printed = feeding::finish(
+            last,
+            &self.line,
+            &mut self.config,
+            &mut self.tables,
+            &mut self.slots,
+            &mut self.timers,
+            &mut self.answer,
+            &mut self.out,
+        );
+        write_out(rt, &self.out, printed)
+    }
 }
 
 // Feeds all of the input. A proved loop has to end, and nothing says that an input does, so the turns are as many as no run uses up.
 fn feed_all(rt: &HostRuntime) -> Result<(), Failure> {
-    let mut line = [0u8; HELD];
-    let mut config = [0u8; 336];
-    let mut tables = [0u8; 7517];
-    let mut slots = [0u8; 2024];
-    let mut timers = [0u8; 659];
-    let mut answer = [0u8; 21];
-    let mut out = [0u8; 335872];
+    let mut memory = Memory {
+        line: [0; HELD],
+        config: [0; 336],
+        tables: [0; 7517],
+        slots: [0; 2024],
+        timers: [0; 659],
+        answer: [0; 21],
+        out: [0; 335872],
+    };
     let mut reached = feeding::start();
     for _ in 0..u64::MAX {
-        let fed = turn(
-            rt,
-            reached,
-            &mut line,
-            &mut config,
-            &mut tables,
-            &mut slots,
-            &mut timers,
-            &mut answer,
-            &mut out,
-        )?;
-        match fed {
+        match memory.turn(rt, reached)? {
             Fed::Part(on) => reached = on,
-            Fed::Whole(last) => {
-                return end(
-                    rt,
-                    last,
-                    &line,
-                    &mut config,
-                    &mut tables,
-                    &mut slots,
-                    &mut timers,
-                    &mut answer,
-                    &mut out,
-                );
-            }
+            Fed::Whole(last) => return memory.end(rt, last),
             Fed::Refused => return Ok(()),
         }
     }
@@ -148,6 +132,7 @@ fn feed_all(rt: &HostRuntime) -> Result<(), Failure> {
 
 fn main(rt: HostRuntime) {
     if let Err(failure) = feed_all(&rt) {
-        complain(&rt, failure);
+        // Where this fails too, nobody can be told.
+        let _ = eprintln!(rt; "session: {failure}");
     }
 }

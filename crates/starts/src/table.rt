@@ -33,7 +33,7 @@ const UNUSED: Residue = Residue {
 fn in_range(period: u32) -> bool
     ensures { Decides result (InRange period) }
 {
-    1 <= period && period <= LONGEST_CYCLE
+    matches!(period, 1..=LONGEST_CYCLE)
 }
 
 #[tactic(auto, using(crate::specs::Divisor::gcd_pos))]
@@ -65,7 +65,8 @@ pub fn residues(timers: &[Cycle], period: u32) -> Option<[Residue; MOST_CYCLES]>
     Some(residues)
 }
 
-// Whether a start has the rest of one of the timers.
+// Whether a start has the rest of one of the timers. A loop, as below: `any` and `find` are std's, and no code of std runs below an
+// exported function (theorems/proofs/World).
 fn hit(residues: &[Residue], start: u32) -> bool
     requires { Positive residues.now }
     ensures { Decides result (Hit residues.now start) }
@@ -78,7 +79,7 @@ fn hit(residues: &[Residue], start: u32) -> bool
     false
 }
 
-// How many starts are tried: those below the period, and no more than are enough.
+// How many starts are tried: those below the period, and no more than are enough. Not by std's `min`, for the same reason.
 fn tried(period: u32) -> u32
     ensures { result ≡ tried_of period }
 {

@@ -16,3 +16,4 @@ pub mod Running
 pub mod Waiting
 pub mod Withdrawn
 pub mod AnyMemory
+pub mod Lent

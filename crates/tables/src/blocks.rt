@@ -3,10 +3,11 @@ ghost use Rattle.std.specs.Prelude.{◌≡◌, ◌-◌, ◌<◌, length};
 ghost use Rattle.tables.specs.Layout.{OneOf, Fits, regions};
 ghost use Rattle.tables.specs.Planes.{plane_of, has};
 ghost use Rattle.tables.specs.Decode.{view_blocks};
-ghost use Rattle.tables.specs.Shows.{record_in, Does};
+ghost use Rattle.tables.specs.Shows.{record_in};
 ghost use Rattle.tables.specs.Blocks.{set_block};
 ghost use Rattle.ledger.specs.Ledger.{set_blocks};
 
+use crate::lent::Tables;
 use crate::planes::{bit_of, put_bit};
 use crate::shape::{PLANES_AT, Shape};
 
@@ -55,23 +56,35 @@ pub fn load(tables: &[u8], shape: Shape, t: u8) -> Blocks
     }
 }
 
-// Gives a task one block, or takes it.
-pub fn set(tables: &mut [u8], shape: Shape, t: u8, k: Block, on: bool)
-    requires { Fits shape (length tables.old) × OneOf shape.tasks t }
-    ensures { Does shape tables.old tables.new (λ c L. set_block k t on L) }
-{
-    let i = t as usize - 1;
-    let at = PLANES_AT + 16 * plane_of(k) + i / 8;
-    tables[at] = put_bit(tables[at], i % 8, on);
-}
+impl<'a> Tables<'a> {
+    ghost use Rattle.tables.specs.Lent.{Goes};
 
-// All blocks of a task at once.
-pub fn store(tables: &mut [u8], shape: Shape, t: u8, b: Blocks)
-    requires { Fits shape (length tables.old) × OneOf shape.tasks t }
-    ensures { Does shape tables.old tables.new (λ c L. set_blocks t (view_blocks b) L) }
-{
-    set(tables, shape, t, Block::Idle, b.idle);
-    set(tables, shape, t, Block::Suspended, b.suspended);
-    set(tables, shape, t, Block::Event, b.event);
-    set(tables, shape, t, Block::Message, b.message);
+    // The blocks of a task, of tables that are lent for writing too.
+    pub fn blocks(&self, t: u8) -> Blocks
+        requires { OneOf self.now.shape.tasks t }
+        ensures { result ≡ (record_in self.now.shape self.now.bytes.now t).blocks }
+    {
+        load(self.bytes, self.shape, t)
+    }
+
+    // Gives a task one block, or takes it.
+    pub fn set_block(&mut self, t: u8, k: Block, on: bool)
+        requires { OneOf self.old.shape.tasks t }
+        ensures { Goes self.old self.new (λ c L. set_block k t on L) }
+    {
+        let i = t as usize - 1;
+        let at = PLANES_AT + 16 * plane_of(k) + i / 8;
+        self.bytes[at] = put_bit(self.bytes[at], i % 8, on);
+    }
+
+    // All blocks of a task at once.
+    pub fn set_blocks(&mut self, t: u8, b: Blocks)
+        requires { OneOf self.old.shape.tasks t }
+        ensures { Goes self.old self.new (λ c L. set_blocks t (view_blocks b) L) }
+    {
+        self.set_block(t, Block::Idle, b.idle);
+        self.set_block(t, Block::Suspended, b.suspended);
+        self.set_block(t, Block::Event, b.event);
+        self.set_block(t, Block::Message, b.message);
+    }
 }

@@ -5,6 +5,7 @@
 
 pub mod blocks;
 pub mod counts;
+pub mod lent;
 pub mod planes;
 pub mod semaphores;
 pub mod shape;

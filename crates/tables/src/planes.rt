@@ -60,6 +60,7 @@ pub fn bit_of(x: u8, i: usize) -> bool
     (x >> i) % 2 == 1
 }
 
+// Set and cleared apart: each is one operator of the language, with a clause of its own.
 fn with_bit(x: u8, i: usize) -> u8
     requires { i < 8 }
     ensures { result ≡ bit_or x (2 ^ i) }

@@ -1,14 +1,14 @@
 // The semaphores, a byte each.
-ghost use Rattle.std.specs.Prelude.{◌≡◌, map, length};
+ghost use Rattle.std.specs.Prelude.{◌≡◌, map};
 ghost use Rattle.tables.specs.Decode.{state_of, state_byte, cleared_of, view_semaphore};
-ghost use Rattle.tables.specs.Layout.{OneOf, Fits};
+ghost use Rattle.tables.specs.Layout.{OneOf};
 ghost use Rattle.tables.specs.Encoded.{Waiter};
-ghost use Rattle.tables.specs.Shows.{Does, Tells};
+ghost use Rattle.tables.specs.Shows.{Tells};
 ghost use Rattle.ledger.specs.Ledger.{semaphore_of, set_semaphore};
 ghost use Rattle.ledger.specs.Refusals.{is_waiting};
 ghost use Rattle.ledger.specs.Services.{withdraw_wait};
 
-use crate::shape::Shape;
+use crate::lent::Tables;
 
 #[derive(Clone, Copy)]
 pub enum Semaphore {
@@ -17,6 +17,7 @@ pub enum Semaphore {
     Waiting(u8),
 }
 
+// What a byte says of a semaphore, among so many tasks: no `From`, which would be lent the byte alone.
 fn state_of(tasks: usize, x: u8) -> Semaphore
     ensures { result ≡ state_of tasks x }
 {
@@ -27,39 +28,17 @@ fn state_of(tasks: usize, x: u8) -> Semaphore
     }
 }
 
-fn state_byte(s: Semaphore) -> u8
-    ensures { result ≡ state_byte s }
-{
-    match s {
-        Semaphore::Pending => 0,
-        Semaphore::Done => 255,
-        Semaphore::Waiting(t) => t,
+// The byte of a semaphore.
+impl From<Semaphore> for u8 {
+    ghost from_gives = { λ s byte. byte ≡ state_byte s };
+
+    fn from(s: Semaphore) -> u8 {
+        match s {
+            Semaphore::Pending => 0,
+            Semaphore::Done => 255,
+            Semaphore::Waiting(t) => t,
+        }
     }
-}
-
-pub fn load(tables: &[u8], shape: Shape, b: u8) -> Semaphore
-    requires { Fits shape (length tables.now) × OneOf shape.semaphores b }
-    ensures tells { Tells shape tables.now (λ c L. semaphore_of L b) (view_semaphore result) }
-    ensures waiter { Waiter shape.tasks result }
-{
-    let at = shape.semaphoreat + (b as usize - 1);
-    state_of(shape.tasks, tables[at])
-}
-
-pub fn store(tables: &mut [u8], shape: Shape, b: u8, s: Semaphore)
-    requires { Fits shape (length tables.old) × OneOf shape.semaphores b × Waiter shape.tasks s }
-    ensures { Does shape tables.old tables.new (λ c L. set_semaphore b (view_semaphore s) L) }
-{
-    let at = shape.semaphoreat + (b as usize - 1);
-    tables[at] = state_byte(s);
-}
-
-// Whether a semaphore is WAITING.
-pub fn is_waiting(tables: &[u8], shape: Shape, b: u8) -> bool
-    requires { Fits shape (length tables.now) × OneOf shape.semaphores b }
-    ensures { Tells shape tables.now (λ c L. is_waiting (semaphore_of L b)) result }
-{
-    matches!(load(tables, shape, b), Semaphore::Waiting(_))
 }
 
 fn cleared(x: u8, t: u8) -> u8
@@ -76,12 +55,41 @@ fn clear_all(part: &mut [u8], t: u8)
     }
 }
 
-// The semaphore that is WAITING with a task becomes PENDING.
-pub fn withdraw(tables: &mut [u8], shape: Shape, t: u8)
-    requires { Fits shape (length tables.old) × OneOf shape.tasks t }
-    ensures { Does shape tables.old tables.new (λ c L. withdraw_wait t L) }
-{
-    let at = shape.semaphoreat;
-    let end = shape.waitingat;
-    clear_all(&mut tables[at..end], t);
+impl<'a> Tables<'a> {
+    ghost use Rattle.tables.specs.Lent.{Goes};
+
+    pub fn semaphore(&self, b: u8) -> Semaphore
+        requires { OneOf self.now.shape.semaphores b }
+        ensures tells { Tells self.now.shape self.now.bytes.now (λ c L. semaphore_of L b) (view_semaphore result) }
+        ensures waiter { Waiter self.now.shape.tasks result }
+    {
+        let at = self.shape.semaphoreat + (b as usize - 1);
+        state_of(self.shape.tasks, self.bytes[at])
+    }
+
+    pub fn set_semaphore(&mut self, b: u8, s: Semaphore)
+        requires { OneOf self.old.shape.semaphores b × Waiter self.old.shape.tasks s }
+        ensures { Goes self.old self.new (λ c L. set_semaphore b (view_semaphore s) L) }
+    {
+        let at = self.shape.semaphoreat + (b as usize - 1);
+        self.bytes[at] = u8::from(s);
+    }
+
+    // Whether a semaphore is WAITING.
+    pub fn is_waiting(&self, b: u8) -> bool
+        requires { OneOf self.now.shape.semaphores b }
+        ensures { Tells self.now.shape self.now.bytes.now (λ c L. is_waiting (semaphore_of L b)) result }
+    {
+        matches!(self.semaphore(b), Semaphore::Waiting(_))
+    }
+
+    // The semaphore that is WAITING with a task becomes PENDING.
+    pub fn withdraw(&mut self, t: u8)
+        requires { OneOf self.old.shape.tasks t }
+        ensures { Goes self.old self.new (λ c L. withdraw_wait t L) }
+    {
+        let at = self.shape.semaphoreat;
+        let end = self.shape.waitingat;
+        clear_all(&mut self.bytes[at..end], t);
+    }
 }

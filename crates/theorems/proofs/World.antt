@@ -74,6 +74,9 @@ unfolding environment
 wired = has-wired_t (in_world world) environment (tie_t-follows (in_world world)) (tie_t-threads (in_world world))
 
 -- ---- what the functions of a crate call of others
+tocks_below : tocks.Below world
+tocks_below = (rows.long_word_linked world refl, (rows.word_linked world refl, tt))
+
 rings_below : rings.Below world
 rings_below = (rows.copy_short_linked world refl, tt)
 
@@ -90,28 +93,28 @@ tables_below : tables.Below world
 tables_below = (rows.copy_in_linked world refl, tt)
 
 queues_below : queues.Below world
-queues_below = (rings.put_linked world refl rings_below, (rings.take_out_linked world refl rings_below, (tables.counts_count_of_linked world refl tables_below, (tables.semaphores_is_waiting_linked world refl tables_below, (tables.tasks_store_outcome_linked world refl tables_below, tt)))))
+queues_below = (rings.put_linked world refl rings_below, (rings.take_out_linked world refl rings_below, (tables.counts_count_of_linked world refl tables_below, (tables.lent_Tables_is_waiting_linked world refl tables_below, (tables.lent_Tables_set_outcome_linked world refl tables_below, tt)))))
 
 mailboxes_below : mailboxes.Below world
-mailboxes_below = (messages.complete_linked world refl messages_below, (messages.find_linked world refl messages_below, (messages.holds_linked world refl messages_below, (messages.insert_linked world refl messages_below, (messages.load_linked world refl messages_below, (messages.remove_linked world refl messages_below, (tables.counts_count_of_linked world refl tables_below, tt)))))))
+mailboxes_below = (messages.insert_linked world refl messages_below, (messages.lent_Messages_complete_linked world refl messages_below, (messages.lent_Messages_find_linked world refl messages_below, (messages.lent_Messages_holds_linked world refl messages_below, (messages.lent_Messages_load_linked world refl messages_below, (messages.remove_linked world refl messages_below, (tables.counts_count_of_linked world refl tables_below, tt)))))))
 
 clock_below : clock.Below world
-clock_below = (tables.counts_count_of_linked world refl tables_below, (timers.has_linked world refl timers_below, (timers.insert_linked world refl timers_below, (timers.pass_linked world refl timers_below, (timers.purge_linked world refl timers_below, (timers.take_due_linked world refl timers_below, tt))))))
+clock_below = (tables.counts_count_of_linked world refl tables_below, (timers.Timers_insert_linked world refl timers_below, (timers.Timers_pass_linked world refl timers_below, (timers.Timers_purge_linked world refl timers_below, (timers.Timers_take_due_linked world refl timers_below, (timers.has_linked world refl timers_below, tt))))))
 
 services_below : services.Below world
-services_below = (clock.advance_linked world refl clock_below, (clock.purge_linked world refl clock_below, (clock.start_linked world refl clock_below, (clock.take_due_linked world refl clock_below, (mailboxes.insert_linked world refl mailboxes_below, (mailboxes.take_linked world refl mailboxes_below, (queues.count_linked world refl queues_below, (queues.not_full_linked world refl queues_below, (queues.put_linked world refl queues_below, (queues.take_linked world refl queues_below, (tables.blocks_set_linked world refl tables_below, (tables.blocks_store_linked world refl tables_below, (tables.semaphores_load_linked world refl tables_below, (tables.semaphores_store_linked world refl tables_below, (tables.semaphores_withdraw_linked world refl tables_below, (tables.tasks_store_enqueue_linked world refl tables_below, (tables.tasks_store_outcome_linked world refl tables_below, (tables.tasks_store_request_linked world refl tables_below, tt))))))))))))))))))
+services_below = (clock.advance_linked world refl clock_below, (clock.purge_linked world refl clock_below, (clock.start_linked world refl clock_below, (clock.take_due_linked world refl clock_below, (mailboxes.insert_linked world refl mailboxes_below, (mailboxes.take_linked world refl mailboxes_below, (queues.count_linked world refl queues_below, (queues.not_full_linked world refl queues_below, (queues.put_linked world refl queues_below, (queues.take_linked world refl queues_below, (tables.lent_Tables_semaphore_linked world refl tables_below, (tables.lent_Tables_set_block_linked world refl tables_below, (tables.lent_Tables_set_blocks_linked world refl tables_below, (tables.lent_Tables_set_enqueue_linked world refl tables_below, (tables.lent_Tables_set_outcome_linked world refl tables_below, (tables.lent_Tables_set_request_linked world refl tables_below, (tables.lent_Tables_set_semaphore_linked world refl tables_below, (tables.lent_Tables_withdraw_linked world refl tables_below, tt))))))))))))))))))
 
 answer_below : answer.Below world
-answer_below = (rows.copy_in_linked world refl, (tables.counts_count_of_linked world refl tables_below, (tables.tasks_load_linked world refl tables_below, tt)))
+answer_below = (rows.copy_short_linked world refl, (tables.counts_count_of_linked world refl tables_below, (tables.tasks_load_linked world refl tables_below, tt)))
 
 configuration_below : configuration.Below world
-configuration_below = (tables.planes_put_bit_linked world refl tables_below, tt)
+configuration_below = (rows.word_linked world refl, (tables.planes_put_bit_linked world refl tables_below, tt))
 
 command_below : command.Below world
-command_below = (clock.count_linked world refl clock_below, (clock.has_linked world refl clock_below, (configuration.block_ring_of_linked world refl configuration_below, (mailboxes.holds_linked world refl mailboxes_below, (queues.put_waits_linked world refl queues_below, (queues.take_waits_linked world refl queues_below, (tables.blocks_load_linked world refl tables_below, (tables.semaphores_is_waiting_linked world refl tables_below, tt))))))))
+command_below = (clock.count_linked world refl clock_below, (clock.has_linked world refl clock_below, (configuration.block_ring_of_linked world refl configuration_below, (mailboxes.holds_linked world refl mailboxes_below, (queues.put_waits_linked world refl queues_below, (queues.take_waits_linked world refl queues_below, (rows.long_word_linked world refl, (rows.word_linked world refl, (tables.lent_Tables_blocks_linked world refl tables_below, (tables.lent_Tables_is_waiting_linked world refl tables_below, tt))))))))))
 
 executive_below : executive.Below world
-executive_below = (answer.write_linked world refl answer_below, (clock.purge_linked world refl clock_below, (clock.start_linked world refl clock_below, (command.codes_CodeTryFromU8_try_from_linked world refl command_below, (command.codes_row_linked world refl command_below, (command.fields_meant_semaphore_linked world refl command_below, (command.fields_meant_task_linked world refl command_below, (command.refusal_linked world refl command_below, (configuration.block_ring_of_linked world refl configuration_below, (queues.count_linked world refl queues_below, (queues.put_waits_linked world refl queues_below, (queues.take_waits_linked world refl queues_below, (refusals.from_linked world refl, (services.message_receive_linked world refl services_below, (services.message_send_linked world refl services_below, (services.message_sendw_linked world refl services_below, (services.queue_complete_dequeue_linked world refl services_below, (services.queue_complete_enqueue_linked world refl services_below, (services.queue_dequeue_linked world refl services_below, (services.queue_enqueue_linked world refl services_below, (services.queue_wait_to_dequeue_linked world refl services_below, (services.queue_wait_to_enqueue_linked world refl services_below, (services.semaphore_signal_linked world refl services_below, (services.semaphore_signal_by_linked world refl services_below, (services.semaphore_wait_linked world refl services_below, (services.task_execute_linked world refl services_below, (services.task_set_suspended_linked world refl services_below, (services.task_terminate_linked world refl services_below, (services.timer_delay_linked world refl services_below, (services.timer_tick_linked world refl services_below, (tables.semaphores_store_linked world refl tables_below, (tables.tasks_load_linked world refl tables_below, (tables.tasks_load_waiting_linked world refl tables_below, (tables.tasks_running_linked world refl tables_below, (tables.tasks_store_outcome_linked world refl tables_below, (tables.tasks_store_request_linked world refl tables_below, (tocks.long_tock_value_at_linked world refl, (tocks.tock_value_at_linked world refl, tt))))))))))))))))))))))))))))))))))))))
+executive_below = (answer.write_linked world refl answer_below, (clock.purge_linked world refl clock_below, (clock.start_linked world refl clock_below, (command.codes_row_linked world refl command_below, (command.fields_meant_semaphore_linked world refl command_below, (command.fields_meant_task_linked world refl command_below, (command.refusal_linked world refl command_below, (configuration.block_ring_of_linked world refl configuration_below, (queues.count_linked world refl queues_below, (queues.put_waits_linked world refl queues_below, (queues.take_waits_linked world refl queues_below, (refusals.from_linked world refl, (services.message_receive_linked world refl services_below, (services.message_send_linked world refl services_below, (services.message_sendw_linked world refl services_below, (services.queue_complete_dequeue_linked world refl services_below, (services.queue_complete_enqueue_linked world refl services_below, (services.queue_dequeue_linked world refl services_below, (services.queue_enqueue_linked world refl services_below, (services.queue_wait_to_dequeue_linked world refl services_below, (services.queue_wait_to_enqueue_linked world refl services_below, (services.semaphore_signal_linked world refl services_below, (services.semaphore_signal_by_linked world refl services_below, (services.semaphore_wait_linked world refl services_below, (services.task_execute_linked world refl services_below, (services.task_set_suspended_linked world refl services_below, (services.task_terminate_linked world refl services_below, (services.timer_delay_linked world refl services_below, (services.timer_tick_linked world refl services_below, (tables.lent_Tables_copy_waiting_linked world refl tables_below, (tables.lent_Tables_running_linked world refl tables_below, (tables.lent_Tables_set_outcome_linked world refl tables_below, (tables.lent_Tables_set_request_linked world refl tables_below, (tables.lent_Tables_set_semaphore_linked world refl tables_below, (tables.lent_Tables_task_linked world refl tables_below, (tocks.long_tock_value_at_linked world refl tocks_below, (tocks.tock_value_at_linked world refl tocks_below, tt)))))))))))))))))))))))))))))))))))))
 
 stretch_below : stretch.Below world
 stretch_below = (refusals.from_linked world refl, tt)
@@ -120,10 +123,10 @@ starts_below : starts.Below world
 starts_below = (refusals.from_linked world refl, tt)
 
 mcx11_below : mcx11.Below world
-mcx11_below = (answer.refuse_configuration_linked world refl answer_below, (answer.write_linked world refl answer_below, (configuration.block_counts_linked world refl configuration_below, (configuration.block_lent_linked world refl configuration_below, (configuration.block_shape_of_linked world refl configuration_below, (configuration.frame_refusal_by_linked world refl configuration_below, (configuration.fresh_start_linked world refl configuration_below, (configuration.limits_brake_module_linked world refl configuration_below, (configuration.limits_controller_linked world refl configuration_below, (configuration.limits_longest_linked world refl configuration_below, (executive.frames_step_linked world refl executive_below, (line.read_linked world refl, (line.write_linked world refl, (mailboxes.sound_linked world refl mailboxes_below, (parts.frame_length_linked world refl parts_below, (parts.is_marked_linked world refl parts_below, (parts.keep_frame_linked world refl parts_below, (parts.mark_ends_linked world refl parts_below, (refusals.from_linked world refl, (refusals.returned_linked world refl, (starts.free_start_linked world refl starts_below, (starts.give_linked world refl starts_below, (stretch.busiest_linked world refl stretch_below, (stretch.give_linked world refl stretch_below, (tables.tasks_running_linked world refl tables_below, (tocks.milliseconds_linked world refl, tt))))))))))))))))))))))))))
+mcx11_below = (answer.refuse_configuration_linked world refl answer_below, (answer.write_linked world refl answer_below, (configuration.block_counts_linked world refl configuration_below, (configuration.block_lent_linked world refl configuration_below, (configuration.block_shape_of_linked world refl configuration_below, (configuration.frame_refusal_by_linked world refl configuration_below, (configuration.fresh_start_linked world refl configuration_below, (configuration.limits_brake_module_linked world refl configuration_below, (configuration.limits_controller_linked world refl configuration_below, (configuration.limits_longest_linked world refl configuration_below, (executive.frames_step_linked world refl executive_below, (line.read_linked world refl, (line.write_linked world refl, (mailboxes.sound_linked world refl mailboxes_below, (parts.frame_length_linked world refl parts_below, (parts.is_marked_linked world refl parts_below, (parts.keep_frame_linked world refl parts_below, (parts.kept_frame_linked world refl parts_below, (parts.mark_ends_linked world refl parts_below, (refusals.from_linked world refl, (refusals.returned_linked world refl, (starts.free_start_linked world refl starts_below, (starts.give_linked world refl starts_below, (stretch.busiest_linked world refl stretch_below, (stretch.give_linked world refl stretch_below, (tables.tasks_running_linked world refl tables_below, (tocks.milliseconds_linked world refl tocks_below, tt)))))))))))))))))))))))))))
 
 feeding_below : feeding.Below world
-feeding_below = (answer.refuse_configuration_linked world refl answer_below, (configuration.block_lent_linked world refl configuration_below, (configuration.limits_controller_linked world refl configuration_below, (line.read_linked world refl, (line.write_linked world refl, (mcx11.by_limits_tell_linked world refl mcx11_below, (mcx11.entries_mcx11_configure_blocks_linked world refl mcx11_below, (mcx11.entries_mcx11_frame_blocks_linked world refl mcx11_below, (mcx11.lent_counts_linked world refl mcx11_below, (parts.frame_length_linked world refl parts_below, tt))))))))))
+feeding_below = (answer.refuse_configuration_linked world refl answer_below, (configuration.block_lent_linked world refl configuration_below, (configuration.limits_controller_linked world refl configuration_below, (line.read_linked world refl, (line.write_linked world refl, (mcx11.by_limits_tell_linked world refl mcx11_below, (mcx11.entries_mcx11_configure_blocks_linked world refl mcx11_below, (mcx11.entries_mcx11_frame_blocks_linked world refl mcx11_below, (mcx11.lent_counts_linked world refl mcx11_below, (parts.kept_frame_linked world refl parts_below, (tables.counts_count_of_linked world refl tables_below, tt)))))))))))
 
 -- ---- the functions whose runs are spoken of
 pub configure_wired : Wired environment configure-symbol.code

@@ -4,11 +4,11 @@ use prog.Linked.{Tree, World, Holds, in_world}
 use prog.LinkedThreads.{HasT}
 use mathlib.Core.Bool.{true}
 use Rattle.timers.proofs.TheLink as link
+use Rattle.timers.proofs.Timers.insert.Symbol as Timers_insert
+use Rattle.timers.proofs.Timers.pass.Symbol as Timers_pass
+use Rattle.timers.proofs.Timers.purge.Symbol as Timers_purge
+use Rattle.timers.proofs.Timers.take_due.Symbol as Timers_take_due
 use Rattle.timers.proofs.has.Symbol as has
-use Rattle.timers.proofs.insert.Symbol as insert
-use Rattle.timers.proofs.pass.Symbol as pass
-use Rattle.timers.proofs.purge.Symbol as purge
-use Rattle.timers.proofs.take_due.Symbol as take_due
 
 pub the_table : Tree
 the_table = link.table
@@ -16,22 +16,22 @@ the_table = link.table
 abbrev pub Below : World → Type 0
 Below = link.Below
 
+pub Timers_insert_linked : (W : World) → Holds W "timers" the_table → Below W → HasT (in_world W) true Timers_insert.code
+unfolding the_table
+Timers_insert_linked = link.linked-timers::Timers::insert
+
+pub Timers_pass_linked : (W : World) → Holds W "timers" the_table → Below W → HasT (in_world W) true Timers_pass.code
+unfolding the_table
+Timers_pass_linked = link.linked-timers::Timers::pass
+
+pub Timers_purge_linked : (W : World) → Holds W "timers" the_table → Below W → HasT (in_world W) true Timers_purge.code
+unfolding the_table
+Timers_purge_linked = link.linked-timers::Timers::purge
+
+pub Timers_take_due_linked : (W : World) → Holds W "timers" the_table → Below W → HasT (in_world W) true Timers_take_due.code
+unfolding the_table
+Timers_take_due_linked = link.linked-timers::Timers::take_due
+
 pub has_linked : (W : World) → Holds W "timers" the_table → Below W → HasT (in_world W) true has.code
 unfolding the_table
 has_linked = link.linked-timers::has
-
-pub insert_linked : (W : World) → Holds W "timers" the_table → Below W → HasT (in_world W) true insert.code
-unfolding the_table
-insert_linked = link.linked-timers::insert
-
-pub pass_linked : (W : World) → Holds W "timers" the_table → Below W → HasT (in_world W) true pass.code
-unfolding the_table
-pass_linked = link.linked-timers::pass
-
-pub purge_linked : (W : World) → Holds W "timers" the_table → Below W → HasT (in_world W) true purge.code
-unfolding the_table
-purge_linked = link.linked-timers::purge
-
-pub take_due_linked : (W : World) → Holds W "timers" the_table → Below W → HasT (in_world W) true take_due.code
-unfolding the_table
-take_due_linked = link.linked-timers::take_due

@@ -62,7 +62,7 @@ row_period r y h k =
     let e : r ≡ elems 10 0 r = drop_elems 10 0 r h in
     ap (λ (z : List ℕ). entry_of (splice z 6 (bytes4 y))) e ∙ ap (λ (z : ℕ). entry (get_or r 0 0) (get_or r 1 0) (le4 r 2) z) (four_back y k)
 
--- what the stores of `write_row` leave
+-- what the stores of `row_of` leave
 pub row_made : (t s x p : ℕ) (r r₁ r₂ : List ℕ) → length r ≡ 10 → r₁ ≡ splice (set (set r 0 t) 1 s) 2 (bytes4 x) → r₂ ≡ splice r₁ 6 (bytes4 p) → r₂ ≡ row_of t s x p
 row_made t s x p r r₁ r₂ h e f =
     f

@@ -12,6 +12,8 @@ pub mod Records
 pub mod Loops
 pub mod Ends
 pub mod Tocks
+-- The rows as they are lent.
+pub mod Lent
 -- What the changes are to every ledger whose timers the bytes show.
 pub mod Lists
 pub mod Shown

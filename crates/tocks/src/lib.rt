@@ -1,6 +1,6 @@
 // Numbers of tocks: the tock value of a frame and milliseconds as tocks.
 // Promises: each answer is the ledger's own (Time) of the same bits or numbers, for every input.
-// Rests on the checker's reading of a signed number's bits.
+// Rests on rows, for numbers of bytes, and on the checker's reading of a signed number's bits.
 #![tactic(auto)]
 
 ghost use Rattle.std.specs.Prelude.{◌≡◌, ◌+◌, ◌*◌, ◌<◌, ◌≤◌, ◌^◌};
@@ -59,18 +59,14 @@ fn signed(bits: u32, half: u32) -> i32
 pub fn signed_word(high: u8, low: u8) -> i16
     ensures { result ≡ to_z w16 (256 * high + low) }
 {
-    let bits = 256 * (high as u32) + (low as u32);
-    signed(bits, 0x8000) as i16
+    signed(rows::word(high, low) as u32, 0x8000) as i16
 }
 
 // The number that four bytes are.
 pub fn signed_long(b0: u8, b1: u8, b2: u8, b3: u8) -> i32
     ensures { result ≡ to_z w32 (65536 * (256 * b0 + b1) + (256 * b2 + b3)) }
 {
-    let high = 256 * (b0 as u32) + (b1 as u32);
-    let low = 256 * (b2 as u32) + (b3 as u32);
-    let bits = 65536 * high + low;
-    signed(bits, 0x80000000)
+    signed(rows::long_word(b0, b1, b2, b3), 0x80000000)
 }
 
 // The tock value of two bytes of a frame, high first.

@@ -3,7 +3,7 @@ use mathlib.Core.Path.{refl, ◌∙◌}
 use mathlib.Core.List.{[], ◌∷◌}
 use native.Mathlib.Omega.{arith}
 use Prim.Native.Nat.{ℕ, ◌+◌}
-use lib.ListN.{length, length-set}
+use lib.ListN.{length}
 use lib.Seq.{sets-eq}
 use Rattle.answer.specs.Written.{parts, valued}
 use Rattle.answer.proofs.put.Goals as goal
@@ -13,4 +13,4 @@ returns c =
     let a = c.args in
     let v = a.value.now in
     let n : ℕ = length v + 4 in
-    c.copy_in.ensures ∙ valued a.answer.now _ a.head n a.kind v (sets-eq (n ∷ parts a.head a.kind []) a.answer.now 0 (omega arith)) refl (omega arith)
+    c.copy_short.ensures ∙ valued a.answer.now _ a.head n a.kind v (sets-eq (n ∷ parts a.head a.kind []) a.answer.now 0 (omega arith)) refl (omega arith)

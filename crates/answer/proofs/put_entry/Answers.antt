@@ -1,7 +1,5 @@
 -- The width cut to 16 is the length of what is copied.
 use mathlib.Core.Path.{◌∙◌}
-use native.Mathlib.Omega.{arith}
-use lib.ListN.{length-take, length-drop}
 use Rattle.answer.specs.Written.{entered}
 use Rattle.answer.proofs.put_entry.Goals as goal
 

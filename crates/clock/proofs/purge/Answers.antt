@@ -9,4 +9,4 @@ returns c =
     let a = c.args in
     let n = c.count-n in
     let p = c.purge-left in
-    purge_does a.shape a.timers.now c.requires n.result n.ensures.1 p.new.b c.timers-1.given.1 p.result p.result (omega (arith, p.ensures.means.0, n.ensures.0)) refl p.ensures.upright a.task _ _ p.ensures.means.1
+    purge_does a.shape a.timers.now c.requires n.result n.ensures.1 p.new.rows c.timers-1.given.1 p.result p.result (omega (arith, p.ensures.means.0, n.ensures.0)) refl p.ensures.upright a.task _ _ p.ensures.means.1

@@ -16,4 +16,4 @@ returns c =
     let a = c.args in
     let n = c.count-n in
     let i = c.insert in
-    λ v el ep tidy g L d z room h. start_does a.shape a.timers.now c.requires n.result n.ensures.1 i.new.b c.timers-1.given.1 (n.result + 1) (n.result + 1) (omega (arith, c.if-n-shape.false)) refl i.ensures.upright a.task a.semaphore a.left a.period i.ensures.means tidy g L d z v el ep h
+    λ v el ep tidy g L d z room h. start_does a.shape a.timers.now c.requires n.result n.ensures.1 i.new.rows c.timers-1.given.1 (n.result + 1) (n.result + 1) (omega (arith, c.if-n-shape.false)) refl i.ensures.upright a.task a.semaphore a.left a.period i.ensures.means tidy g L d z v el ep h

@@ -19,7 +19,7 @@ returns c = let n = c.count-n in
     let w = c.args.timers.now in
     let f = p.result in
     let u = p.ensures.means in record {
-      fewer = due_fewer h w c.requires.0 n.result n.ensures.1 p.new.b k f.count f.count (omega (arith, u.0, n.ensures.0)) refl p.ensures.upright u.2 c.requires.1;
+      fewer = due_fewer h w c.requires.0 n.result n.ensures.1 p.new.rows k f.count f.count (omega (arith, u.0, n.ensures.0)) refl p.ensures.upright u.2 c.requires.1;
       tells = due_tells h w c.requires.0 n.result n.ensures.1 f.semaphore u.1;
-      does = due_does h w c.requires.0 n.result n.ensures.1 p.new.b k f.count f.count (omega (arith, u.0, n.ensures.0)) refl p.ensures.upright u.2;
+      does = due_does h w c.requires.0 n.result n.ensures.1 p.new.rows k f.count f.count (omega (arith, u.0, n.ensures.0)) refl p.ensures.upright u.2;
     }

@@ -1,55 +1,53 @@
 -- Nothing was found in the task's mailbox; or its first such record was, and the region came back without it, the count one less.
 use native.Mathlib.Omega.{arith}
+use Rattle.std.proofs.Common.{rules}
 use Rattle.messages.specs.Pending.{letter}
+use Rattle.tables.specs.Lent.{stays}
 use Rattle.mailboxes.specs.Received.{view_received, taken}
-use Rattle.mailboxes.specs.Mail.{lies, bytes_length, bytes_bounded}
+use Rattle.mailboxes.specs.Mail.{lies, bytes_length}
 use Rattle.mailboxes.specs.Operations.{take_none, take_some, take_done}
 use Rattle.mailboxes.proofs.take.Goals as goal
-
-pub bounds-tables-1 : goal.bounds-tables-1
-bounds-tables-1 c = (lies c.requires.0).counted
-
-pub slice_bounds-find-count : goal.slice_bounds-find-count
-slice_bounds-find-count c = (lies c.requires.0).start
-
-pub find-requires : goal.find-requires
-find-requires c =
-    (bytes_bounded c.args.tables.now c.requires.0 c.count_of-n.ensures.1, omega (arith, c.requires.1.0, c.requires.1.1), omega (arith, c.requires.1.0, c.requires.1.1))
 
 pub returns-in_default : goal.returns-in_default
 unfolding view_received taken
 returns-in_default c =
     let a = c.args in
-    let n = c.count_of-n in
-    record { tells = λ g L z w h. take_none g a.shape L a.tables.now z w h n.result n.ensures.0 a.t c.requires.1 a.from c.in_default.ensures; does = λ tidy g L z w h. h }
-
-pub slice_bounds-load-count : goal.slice_bounds-load-count
-slice_bounds-load-count c = (lies c.requires.0).start
-
-pub load-message-requires : goal.load-message-requires
-load-message-requires c = omega (arith, bytes_length c.args.tables.now c.requires.0, c.in-Some.ensures.inside, c.count_of-n.ensures.1)
+    let b = a.tables.now in
+    let m = c.pending-pending in
+    let e = m.ensures in
+    record {
+      tells = λ g L z w h. take_none g b.shape L b.bytes.now z w h m.result.count e.count a.t c.requires a.from (rw (e.tasks, e.records) at c.in_default.ensures);
+      does = stays (λ tidy g L z w h. h);
+    }
 
 pub slice_bounds-remove-count : goal.slice_bounds-remove-count
-slice_bounds-remove-count c = (lies c.requires.0).start
+slice_bounds-remove-count c = (lies c.args.tables.now.fits).start
 
 pub remove-requires : goal.remove-requires
-remove-requires c = (c.in-Some.ensures.inside, omega (arith, bytes_length c.args.tables.now c.requires.0, c.count_of-n.ensures.1))
+remove-requires c = (c.in-Some.ensures.inside, omega (arith, bytes_length c.args.tables.now.bytes.now c.args.tables.now.fits, c.pending-pending.ensures.few))
 
 pub overflow_cast-tables : goal.overflow_cast-tables
-overflow_cast-tables c = omega (arith, (lies c.requires.0).most, c.count_of-n.ensures.1)
+overflow_cast-tables c = omega (arith, (lies c.args.tables.now.fits).most, c.pending-pending.ensures.few)
 
-pub bounds-tables-1-2 : goal.bounds-tables-1-2
-bounds-tables-1-2 c = omega (arith, (lies c.requires.0).counted)
+pub bounds-tables-1 : goal.bounds-tables-1
+bounds-tables-1 c = omega (arith, (lies c.args.tables.now.fits).counted)
 
 pub returns : goal.returns
 unfolding view_received taken
 returns c =
     let a = c.args in
-    let n = c.count_of-n in
+    let b = a.tables.now in
+    let m = c.pending-pending in
+    let e = m.ensures in
     let k = c.in-Some in
+    let f = rw (e.tasks, e.records) at k.ensures in
     let p = c.load-message in
-    let m = c.remove in
+    let q = c.remove in
     record {
-      tells = λ g L z w h. take_some g a.shape L a.tables.now z w h n.result n.ensures.0 a.t c.requires.1 n.ensures.1 a.from k.k k.ensures (letter p.result.number p.result.sender p.result.semaphore) p.ensures;
-      does = λ tidy g L z w h. take_done g a.shape L a.tables.now z w h n.result n.ensures.0 a.t c.requires.1 n.ensures.1 a.from k.k k.ensures m.new.b m.auto.b m.ensures;
+      tells = λ g L z w h. take_some g b.shape L b.bytes.now z w h m.result.count e.count a.t c.requires e.few a.from k.k f (letter p.result.number p.result.sender p.result.semaphore) (rw e.records at p.ensures);
+      does = record {
+        reference = search rules;
+        shape = search rules;
+        does = λ tidy g L z w h. take_done g b.shape L b.bytes.now z w h m.result.count e.count a.t c.requires e.few a.from k.k f q.new.b q.auto.b q.ensures;
+      };
     }

@@ -14,7 +14,7 @@ insert_at-requires c =
       | in-Some w ↦ w.place-is ∙ sym (ap (λ (o : Option ℕ). unwrap_or o a.n) w.in-Some.is)
       | in-None w ↦ w.place-is ∙ sym (ap (λ (o : Option ℕ). unwrap_or o a.n) w.in-None.is)
     ] in
-    (omega (arith, e, place_inside (pendings a.tasks a.n a.b.now) (behind a.to a.sender) _ c.place.ensures.searched), omega (arith, c.requires.0.few), refl)
+    (omega (arith, e, place_inside (pendings a.tasks a.n a.b.now) (behind a.to a.message.sender) _ c.place.ensures.searched), omega (arith, c.requires.0.few), refl)
 
 pub returns : goal.returns
 unfolding place_for
@@ -25,5 +25,5 @@ returns c =
       | in-Some w ↦ w.place-is ∙ sym (ap (λ (o : Option ℕ). unwrap_or o a.n) w.in-Some.is)
       | in-None w ↦ w.place-is ∙ sym (ap (λ (o : Option ℕ). unwrap_or o a.n) w.in-None.is)
     ] in
-    let p = place_is (pendings a.tasks a.n a.b.now) (behind a.to a.sender) _ c.place.ensures.searched in
-    inserted a.tasks a.n c.match-place.place a.to a.number a.sender a.semaphore a.b.now c.insert_at.new.buf c.requires.1 c.requires.2 (e ∙ p) c.insert_at.ensures
+    let p = place_is (pendings a.tasks a.n a.b.now) (behind a.to a.message.sender) _ c.place.ensures.searched in
+    inserted a.tasks a.n c.match-place.place a.to a.message.number a.message.sender a.message.semaphore a.b.now c.insert_at.new.buf c.requires.1 c.requires.2 (e ∙ p) c.insert_at.ensures

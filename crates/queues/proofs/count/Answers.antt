@@ -5,8 +5,20 @@ use Rattle.tables.specs.Decode.{count_of}
 use Rattle.queues.specs.Rings.{count_in, rings_in, count_byte}
 use Rattle.queues.proofs.count.Goals as goal
 
+pub overflow_mul-at : goal.overflow_mul-at
+overflow_mul-at c = omega (arith, rings_in c.args.tables.now.fits c.args.q c.requires)
+
+pub overflow_add-at : goal.overflow_add-at
+overflow_add-at c = omega (arith, rings_in c.args.tables.now.fits c.args.q c.requires)
+
+pub overflow_add-at-2 : goal.overflow_add-at-2
+overflow_add-at-2 c = omega (arith, rings_in c.args.tables.now.fits c.args.q c.requires)
+
+pub bounds-tables-at : goal.bounds-tables-at
+bounds-tables-at c = omega (arith, rings_in c.args.tables.now.fits c.args.q c.requires)
+
 pub returns : goal.returns
 unfolding count_in
 returns c =
     let a = c.args in
-    c.count_of.ensures.0 ∙ ap (count_of a.ring.depth) (count_byte c.requires.0 a.q c.requires.1 a.tables.now)
+    c.count_of.ensures.0 ∙ ap (count_of a.ring.depth) (count_byte c.args.tables.now.fits a.q c.requires a.tables.now.bytes.now)

@@ -1,7 +1,6 @@
 -- What is copied so far is `paste`.
 use native.Mathlib.Omega.{arith}
-use lib.Seq.{paste-zero}
-use Rattle.rows.specs.Laws.{copied_turn, copied_end}
+use Rattle.rows.specs.Laws.{copied_turn}
 use Rattle.rows.proofs.copy_in.Goals as goal
 
 pub loop-j-preserved : goal.loop-j-preserved

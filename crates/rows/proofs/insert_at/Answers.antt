@@ -1,5 +1,3 @@
-use native.Mathlib.Nat.{mul-le-mul_right}
-use native.Mathlib.Omega.{arith}
 use Rattle.rows.specs.Rows.{inserted}
 use Rattle.rows.proofs.insert_at.Goals as goal
 

@@ -1,7 +1,5 @@
 use mathlib.Core.Path.{ap, ◌∙◌}
 use Prim.Native.Nat.{◌-◌}
-use native.Mathlib.Nat.{mul-le-mul_right, suc-mul}
-use native.Mathlib.Omega.{arith}
 use Rattle.rows.specs.Rows.{rows_of, rows_remove}
 use Rattle.rows.proofs.remove_at.Goals as goal
 

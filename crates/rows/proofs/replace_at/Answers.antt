@@ -1,7 +1,5 @@
 -- `replace_at`: the rows up to the new place move down by one, and the row is copied behind them.
-use native.Mathlib.Nat.{mul-le-mul_right}
-use native.Mathlib.Omega.{arith}
-use Rattle.rows.specs.Rows.{row_fits, replaced}
+use Rattle.rows.specs.Rows.{replaced}
 use Rattle.rows.proofs.replace_at.Goals as goal
 
 pub returns : goal.returns

@@ -1,6 +1,6 @@
 -- What is moved so far is `paste`.
 use native.Mathlib.Omega.{arith}
-use Rattle.rows.specs.Laws.{lowered_zero, lowered_turn, lowered_end}
+use Rattle.rows.specs.Laws.{lowered_turn}
 use Rattle.rows.proofs.shift_down.Goals as goal
 
 pub loop-i-preserved : goal.loop-i-preserved

@@ -1,6 +1,6 @@
 -- What is moved so far is `raised`.
 use native.Mathlib.Omega.{arith}
-use Rattle.rows.specs.Laws.{raised_zero, raised_turn, raised_end}
+use Rattle.rows.specs.Laws.{raised_turn}
 use Rattle.rows.proofs.shift_up.Goals as goal
 
 pub loop-i-preserved : goal.loop-i-preserved

@@ -10,25 +10,22 @@ use Rattle.command.specs.Firsts.{pairs_behind}
 use Rattle.command.proofs.firsts.before_first.Goals as goal
 
 pub overflow_add-from : goal.overflow_add-from
-overflow_add-from c = omega (arith, few c.requires.0)
+overflow_add-from c = omega (arith, few c.requires)
 
 pub overflow_mul-from : goal.overflow_mul-from
-overflow_mul-from c = omega (arith, few c.requires.0)
+overflow_mul-from c = omega (arith, few c.requires)
 
 pub overflow_add-from-in-ToStart : goal.overflow_add-from-in-ToStart
-overflow_add-from-in-ToStart c = omega (arith, few c.requires.0)
+overflow_add-from-in-ToStart c = omega (arith, few c.requires)
 
 pub slice_bounds-some_holds_back-count : goal.slice_bounds-some_holds_back-count
-slice_bounds-some_holds_back-count c = omega (arith, bytes c.requires.0)
+slice_bounds-some_holds_back-count c = omega (arith, bytes c.requires)
 
 pub slice_bounds-some_holds_back-start : goal.slice_bounds-some_holds_back-start
-slice_bounds-some_holds_back-start c = omega (arith, bytes c.requires.0)
-
-pub some_holds_back-requires : goal.some_holds_back-requires
-some_holds_back-requires c = c.requires.1
+slice_bounds-some_holds_back-start c = omega (arith, bytes c.requires)
 
 pub returns-in-ToStart : goal.returns-in-ToStart
 unfolding meets26
 returns-in-ToStart c =
     let g = config_in c.args.config.now in
-    λ L z w h. rw c.in-ToStart.is (c.some_holds_back.ensures g L z w h ∙ ap (λ (l : List Pair). any (holds_back L c.args.a) l) (pairs_behind c.requires.0))
+    λ L z w h. rw c.in-ToStart.is (c.some_holds_back.ensures g L z w h ∙ ap (λ (l : List Pair). any (holds_back L c.args.a) l) (pairs_behind c.requires))

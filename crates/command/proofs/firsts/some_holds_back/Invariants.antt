@@ -11,4 +11,4 @@ use Rattle.tables.specs.Shows.{Shows}
 use Rattle.command.proofs.firsts.some_holds_back.Given as goal
 
 abbrev pub invariant-loop-k : goal.invariant-loop-k
-invariant-loop-k l = (g : Config) (L : Ledger) (z w : List ℕ) → Shows g l.shape L l.tables z w → any (holds_back L l.a) (pairs_in l.pairs) ≡ any (holds_back L l.a) (pairs_in (drop (2 * l.k) l.pairs))
+invariant-loop-k l = (g : Config) (L : Ledger) (z w : List ℕ) → Shows g l.tables.shape L l.tables.bytes.now z w → any (holds_back L l.a) (pairs_in l.pairs) ≡ any (holds_back L l.a) (pairs_in (drop (2 * l.k) l.pairs))

@@ -4,4 +4,4 @@ use Rattle.executive.proofs.carrying.prepare.Goals as goal
 
 pub returns-then-service-clause-does : goal.returns-then-service-clause-does
 unfolding view_outcome
-returns-then-service-clause-does c = λ tidy g L z w h. rw c.if-service.true (c.store_outcome.ensures.does tidy g L z w h)
+returns-then-service-clause-does c = rw c.if-service.true c.set_outcome.ensures.does

@@ -16,10 +16,11 @@ pub returns : goal.returns
 unfolding view_request is_open
 returns c =
     let a = c.args in
+    let b = a.tables.now in
     let lo : 1 ≤ a.t = omega arith in (
       λ e. lo,
       λ g L z w h. elim c.match-matches.branch [
-        | in-None k ↦ rw k.matches-is (ap is_open (request_is g a.shape L a.tables.now z w h a.t _ _ (lo, c.requires.1) (ap (λ x. x.request) c.load.ensures.0) k.in-None.is))
-        | in_default k ↦ rw k.matches-is (some_open g _ c.load.result.request k.in_default.not-None ∙ ap is_open (request_is g a.shape L a.tables.now z w h a.t _ _ (lo, c.requires.1) (ap (λ x. x.request) c.load.ensures.0) refl))
+        | in-None k ↦ rw k.matches-is (ap is_open (request_is g b.shape L b.bytes.now z w h a.t _ _ (lo, c.requires) (ap (λ x. x.request) c.task.ensures.0) k.in-None.is))
+        | in_default k ↦ rw k.matches-is (some_open g _ c.task.result.request k.in_default.not-None ∙ ap is_open (request_is g b.shape L b.bytes.now z w h a.t _ _ (lo, c.requires) (ap (λ x. x.request) c.task.ensures.0) refl))
       ],
     )

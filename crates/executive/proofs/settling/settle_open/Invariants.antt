@@ -1,9 +1,11 @@
 -- `settle_open` issues again until the running task has no open request, 2T times at most, as the ledger's fuel has it.
 use mathlib.Core.Bool.{true}
 use Rattle.tables.specs.Layout.{OneOf}
-use Rattle.ledger.specs.Config.{config_in}
+use Rattle.executive.specs.Lent.{Step}
 use Rattle.executive.specs.Kept.{Runs, Kept}
 use Rattle.executive.proofs.settling.settle_open.Given as goal
 
 abbrev pub invariant-loop-n : goal.invariant-loop-n
-invariant-loop-n l = OneOf l.shape.tasks l.running × Runs l.shape l.tables l.running true × Kept (config_in l.config) l.shape l.initial.tables l.initial.slots l.tables l.slots l.n
+invariant-loop-n l =
+    let s = l.initial.lent.tables.now.shape in
+    OneOf s.tasks l.running × Runs s l.lent.tables.now.bytes.now l.running true × Step l.initial.lent l.lent (λ c s d z d' z'. Kept c s d z d' z' l.n)

@@ -2,7 +2,6 @@
 use Rattle.std.proofs.Common.{refl, ap, ◌∙◌, arith}
 use Rattle.configuration.specs.Limits.{limits_of}
 use Rattle.configuration.specs.Block.{counts_rule}
-use Rattle.mcx11.specs.Framed.{frame_is}
 use Rattle.mcx11.proofs.Inside.{counts_here, kept_inside, sized_here, frame_met, frame_unmet}
 use Rattle.mcx11.proofs.by_limits.frame.Goals as goal
 
@@ -11,17 +10,12 @@ returns-then-not-meets_limits c =
     let a = c.args in
     frame_unmet (limits_of a.limits) a.frame.now a.config.now a.tables.now a.slots.now a.timers.now a.answer.now (λ x e. c.meets_limits.ensures x e ∙ c.if-not-meets_limits.true)
 
-pub frame_length-end-requires : goal.frame_length-end-requires
-frame_length-end-requires c =
+pub kept_frame-kept-requires : goal.kept_frame-kept-requires
+kept_frame-kept-requires c =
     let a = c.args in
     let met = c.meets_limits.ensures a.answer.now refl ∙ c.if-not-meets_limits.false in
-    omega (arith, kept_inside (limits_of a.limits) a.frame.now a.config.now a.tables.now a.slots.now a.timers.now a.answer.now met)
-
-pub slice_bounds-inside-end : goal.slice_bounds-inside-end
-slice_bounds-inside-end c =
-    let a = c.args in
-    let met = c.meets_limits.ensures a.answer.now refl ∙ c.if-not-meets_limits.false in
-    omega (arith, kept_inside (limits_of a.limits) a.frame.now a.config.now a.tables.now a.slots.now a.timers.now a.answer.now met, c.frame_length-end.ensures.0)
+    let k = kept_inside (limits_of a.limits) a.frame.now a.config.now a.tables.now a.slots.now a.timers.now a.answer.now met in
+    (omega (arith, k), omega (arith, k))
 
 pub inside-requires : goal.inside-requires
 inside-requires c =
@@ -29,7 +23,7 @@ inside-requires c =
     let k = limits_of a.limits in
     let met = c.meets_limits.ensures a.answer.now refl ∙ c.if-not-meets_limits.false in (
       c.requires,
-      ap (counts_rule k) (frame_is a.config.now _ c.frame_length-end.ensures.0) ∙ counts_here k a.frame.now a.config.now a.tables.now a.slots.now a.timers.now a.answer.now met,
+      ap (counts_rule k) c.kept_frame-kept.ensures ∙ counts_here k a.frame.now a.config.now a.tables.now a.slots.now a.timers.now a.answer.now met,
       sized_here k a.frame.now a.config.now a.tables.now a.slots.now a.timers.now a.answer.now met,
     )
 
@@ -38,5 +32,5 @@ returns c =
     let a = c.args in
     let k = c.inside.auto in
     let met = c.meets_limits.ensures a.answer.now refl ∙ c.if-not-meets_limits.false in
-    frame_met (limits_of a.limits) a.frame.now a.config.now a.tables.now a.slots.now a.timers.now a.answer.now met _ (frame_is a.config.now _ c.frame_length-end.ensures.0) _ _ _ _ _
+    frame_met (limits_of a.limits) a.frame.now a.config.now a.tables.now a.slots.now a.timers.now a.answer.now met _ c.kept_frame-kept.ensures _ _ _ _ _
     record { config = refl; tables = k.tables; slots = k.slots; timers = k.timers; answer = k.answer } c.inside.ensures

@@ -1,12 +1,11 @@
 -- The bit of the byte is the one that `has` names.
-use native.Mathlib.Omega.{arith}
 use mathlib.Core.Path.{ap, sym, ◌∙◌}
 use Prim.Native.Nat.{ℕ, ◌+◌, ◌-◌, ◌*◌, ◌/◌, ◌%◌}
 use lib.ListN.{get_or}
 use Rattle.tables.specs.Layout.{planes_at}
 use Rattle.tables.specs.Bits.{bit}
 use Rattle.tables.specs.Planes.{has}
-use Rattle.tables.specs.Blocks.{block_in, block_read}
+use Rattle.tables.specs.Blocks.{block_read}
 use Rattle.tables.proofs.blocks.has_block.Goals as goal
 
 pub returns : goal.returns

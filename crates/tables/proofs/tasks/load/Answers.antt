@@ -1,5 +1,3 @@
-use native.Mathlib.Omega.{arith}
-use Rattle.tables.specs.Layout.{record_in_lem}
 use Rattle.tables.specs.Shows.{record_made}
 use Rattle.tables.proofs.tasks.load.Goals as goal
 

@@ -1,7 +1,0 @@
--- The test reads the number in the record.
-use Rattle.std.proofs.Common.{eqb, rules}
-use Rattle.messages.specs.Looking.{numbers, searched}
-use Rattle.messages.proofs.search.number.Goals as goal
-
-pub returns-clause-searched : goal.returns-clause-searched
-returns-clause-searched c = let a = c.args in searched (numbers a.n a.b.now) (λ y. eqb y a.number) _ c.first.ensures.answered (λ k b h e. search rules)
