@@ -1,6 +1,7 @@
 /* A host of the executive: it configures, feeds frames as a ride's tasks and interrupts would, says what each answer means, and
-   what to do about a refusal. It keeps a record of each frame, and says at the end which frames were the busiest. A real host also
-   switches stacks where it says "switch" here; see docs/HOST.md. */
+   what to do about a refusal. It asks when a lamp test may be started that never falls in the tock of a brake check. It keeps a record
+   of each frame, and says at the end which frames were the busiest. A real host also switches stacks where it says "switch" here; see
+   docs/HOST.md. */
 #include <stdio.h>
 #include <stdlib.h>
 
@@ -15,6 +16,9 @@ static uint8_t before; /* the task that ran before the call */
 static mcx11_record_t records[MCX11_MOST_RECORDS]; /* of the frames that have an answer, oldest first */
 static size_t kept;                                /* how many */
 static uint32_t ticks;                             /* since the configuration */
+
+static mcx11_cycle_t checks[MCX11_MOST_CYCLES]; /* of the brakes: the tock that each was started in, and its period */
+static size_t check_count;                      /* how many */
 
 /* What to do about each number. */
 static const char *advice(uint8_t number)
@@ -118,15 +122,18 @@ static void print_call(const char *asked, uint8_t number)
     printf("\n");
 }
 
+/* The tocks since the configuration. No answer tells them: the host counts the ticks. */
+static uint32_t tocks(void) { return ticks / TICKS_PER_TOCK; }
+
 /* Tells what came of a frame, and keeps a record of it if it has an answer: a refused one has, one that gave 11 has not. */
 static void tell(const char *asked, uint8_t number)
 {
     print_call(asked, number);
     if (number != MCX11_NUMBER_MEMORY && kept < MCX11_MOST_RECORDS)
-        records[kept++] = mcx11_record(&ride, ticks / TICKS_PER_TOCK);
+        records[kept++] = mcx11_record(&ride, tocks());
 }
 
-/* The clock ticks. How many tocks have passed no answer tells: for its records the host counts the ticks. */
+/* The clock ticks. */
 static void tick(void)
 {
     const uint8_t number = mcx11_tick(&ride);
@@ -194,10 +201,60 @@ static void end_the_lap(void)
    refused with 9. A season timer has 32 bits. */
 static void inspect_the_wheels(void)
 {
-    const int32_t tocks = (int32_t)30 * 24 * 3600 * (1000 / TOCK_MS);
+    const int32_t days = (int32_t)30 * 24 * 3600 * (1000 / TOCK_MS);
 
-    tell("task 1: timer of 30 days", mcx11_timer(&ride, MCX11_SELF, MCX11_OWN, MCX11_EVERY(tocks)));
-    tell("task 1: season timer of 30 days", mcx11_season_timer(&ride, MCX11_SELF, MCX11_OWN, MCX11_SEASON_EVERY(tocks)));
+    tell("task 1: timer of 30 days", mcx11_timer(&ride, MCX11_SELF, MCX11_OWN, MCX11_EVERY(days)));
+    tell("task 1: season timer of 30 days", mcx11_season_timer(&ride, MCX11_SELF, MCX11_OWN, MCX11_SEASON_EVERY(days)));
+}
+
+/* Task 1 starts a brake check, and the host notes in which tock and with which period. */
+static void check_the_brakes(const char *asked, uint8_t semaphore, uint16_t period)
+{
+    const uint8_t number = mcx11_timer(&ride, MCX11_SELF, semaphore, MCX11_EVERY(period));
+
+    tell(asked, number);
+    if (number == MCX11_ACCEPTED && check_count < MCX11_MOST_CYCLES) {
+        checks[check_count].start = tocks();
+        checks[check_count].period = period;
+        check_count++;
+    }
+}
+
+/* In which tock a lamp test with this period may be started, so that it never falls in the tock of a brake check. */
+static uint8_t plan_the_lamps(uint32_t period, uint32_t *start)
+{
+    const uint8_t given = mcx11_free_start(checks, check_count, period, start);
+
+    printf("a lamp test every %u tocks beside %u brake checks\n    ", (unsigned)period, (unsigned)check_count);
+    if (given == MCX11_ACCEPTED)
+        printf("start it in tock %u, %u, %u and so on", (unsigned)*start, (unsigned)(*start + period),
+               (unsigned)(*start + 2 * period));
+    else if (given == MCX11_NO_START)
+        printf("whenever it is started, some day it falls in the tock of a brake check: ask for another period");
+    else
+        print_refusal(given);
+    printf("\n");
+    return given;
+}
+
+/* Brake checks every 6 and every 10 tocks, and a lamp test beside them. 40,000 tocks are too many for the question. 9 and 10 have no
+   common divisor but 1, and such timers always meet. 4 has a free start; it is past, so the lamp test waits for a later one. */
+static void test_the_lamps(void)
+{
+    const uint16_t period = 4;
+    uint32_t start;
+
+    check_the_brakes("task 1: timer on semaphore 2, a brake check every 6 tocks", 2, 6);
+    tick();
+    tick();
+    check_the_brakes("task 1: timer on semaphore 3, a brake check every 10 tocks", 3, 10);
+    plan_the_lamps(40000, &start);
+    plan_the_lamps(9, &start);
+    if (plan_the_lamps(period, &start) != MCX11_ACCEPTED)
+        return;
+    while (tocks() % period != start)
+        tick();
+    tell("task 1: timer on semaphore 4, the lamp test", mcx11_timer(&ride, MCX11_SELF, 4, MCX11_EVERY(period)));
 }
 
 /* Which w consecutive frames had the most reissues, the first frame behind the configuration being frame 1. */
@@ -223,9 +280,9 @@ int main(void)
     uint8_t number;
 
     configuration.tasks = 3;
-    configuration.named_semaphores = 1;
+    configuration.named_semaphores = 4;
     configuration.queues = 1;
-    configuration.timers = 1;
+    configuration.timers = 4;
     configuration.messages = 1;
     configuration.ticks_per_tock = TICKS_PER_TOCK;
     configuration.milliseconds_per_tock = TOCK_MS;
@@ -266,6 +323,7 @@ int main(void)
     tick();
     end_the_lap();
     inspect_the_wheels();
+    test_the_lamps();
     print_the_busiest(5);
     print_the_busiest(kept + 1);
     return EXIT_SUCCESS;
