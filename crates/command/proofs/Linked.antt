@@ -4,6 +4,7 @@ use prog.Linked.{Tree, World, Holds, in_world}
 use prog.LinkedThreads.{HasT}
 use mathlib.Core.Bool.{true}
 use Rattle.command.proofs.TheLink as link
+use Rattle.command.proofs.codes.CodeTryFromU8.try_from.Symbol as codes_try_from
 use Rattle.command.proofs.codes.row.Symbol as codes_row
 use Rattle.command.proofs.fields.meant_semaphore.Symbol as fields_meant_semaphore
 use Rattle.command.proofs.fields.meant_task.Symbol as fields_meant_task
@@ -14,6 +15,10 @@ the_table = link.table
 
 abbrev pub Below : World → Type 0
 Below = link.Below
+
+pub codes_try_from_linked : (W : World) → Holds W "command" the_table → Below W → HasT (in_world W) true codes_try_from.code
+unfolding the_table
+codes_try_from_linked = link.linked-command::codes::CodeTryFromU8::try_from
 
 pub codes_row_linked : (W : World) → Holds W "command" the_table → Below W → HasT (in_world W) true codes_row.code
 unfolding the_table

@@ -1,5 +1,5 @@
 -- A pair's two numbers, and what they mean in a ledger shown.
-use Rattle.std.specs.Prelude.{ℕ, ◌+◌, ◌*◌, ◌≡◌, Bool, true, not, List}
+use Rattle.std.specs.Prelude.{ℕ, ◌+◌, ◌*◌, ◌≤◌, ◌≡◌, Bool, true, not, List}
 use Rattle.std.proofs.Math.Path.{sym, ap}
 use Rattle.std.proofs.Common.{◌∙◌, arith}
 use Rattle.std.proofs.Math.Bool.{false}
@@ -8,15 +8,23 @@ use borrow.Author.Tests.{eq-eqb, ne_eqb, not-true, not-false}
 use Rattle.rows.specs.Splice.{cut}
 use Rattle.rows.specs.Tab.{tab_length}
 use Rattle.ledger.specs.Lists.{within}
-use Rattle.ledger.specs.Config.{pair_of, pairs_in, config_in}
-use Rattle.ledger.specs.Ledger.{Task, null_task, task}
+use Rattle.ledger.specs.Config.{Config, pair_of, pairs_in, config_in}
+use Rattle.ledger.specs.Ledger.{Ledger, Task, null_task, task}
 use Rattle.ledger.specs.Refusals.{holds_back}
 use Rattle.tables.specs.declared.shape.Shape.{Shape}
 use Rattle.ledger.proofs.Theorems.Checks.{within_numbered, at_none}
-use Rattle.tables.specs.Layout.{OneOf, regions}
+use Rattle.tables.specs.Layout.{OneOf, Fits, records_at, regions}
 use Rattle.tables.specs.Shows.{tasks_in, task_at, Tells}
 use Rattle.configuration.specs.Block.{pairs_in_lem}
 use Rattle.command.specs.Configured.{Framed, framed}
+
+-- bytes that have the planes, and no more tasks than have a bit there
+abbrev pub HasPlanes : (tasks : ℕ) → List ℕ → Type 0
+HasPlanes tasks d = (records_at ≤ length d) × (tasks ≤ 126)
+
+-- r is f of every ledger that the bytes show, by every shape with so many tasks
+abbrev pub ToldBy : {A : Type 0} → (tasks : ℕ) → List ℕ → (Config → Ledger → A) → A → Type 0
+ToldBy tasks d f r = (s : Shape) → Fits s (length d) → s.tasks ≡ tasks → Tells s d f r
 
 pub one_of : (n f j : ℕ) → j ≡ f → not (within 1 n j) ≡ false → OneOf n f
 one_of n f j ej e = let k = within_numbered n j (not-false _ e) in (omega (arith, k.from), omega (arith, k.upto))

@@ -44,6 +44,10 @@ module _ (s : Shape) (d : List ℕ) (t : ℕ) (o : OneOf s.tasks t) (x : Blocks)
   unfolding view_blocks
   idle_told c L z w h = ap (λ (k : ledger.Blocks). k.idle) (blocks_are c L z w h)
 
+-- a task's idle block alone
+pub idle_in : {s : Shape} {d : List ℕ} {t : ℕ} {r : Bool} → OneOf s.tasks t → r ≡ (record_in s d t).blocks.idle → Tells s d (λ c L. (task L t).blocks.idle) r
+idle_in {s} {d} {t} o e c L z w h = e ∙ idle_told s d t o (record_in s d t).blocks refl c L z w h
+
 and_same : (t : Bool) (y z : Bool) → (t ≡ true → y ≡ z) → (t && y) ≡ (t && z)
 and_same true y z e = e refl
 and_same false y z e = refl

@@ -1,6 +1,6 @@
 // Whether a frame is accepted, or what it is refused for; the lent memory is only read.
 // Promises: the number is the ledger's refusal, for every ledger shown.
-// Rests on the crates that read the memory: tables, mailboxes, clock and queues, and on configuration for a queue's ring.
+// Rests on the crates that read the memory: tables, mailboxes, clock and queues, on configuration for a queue's ring, and on refusals.
 #![tactic(auto)]
 
 pub mod codes;
@@ -46,7 +46,16 @@ fn checked(
     }
     let a = fields::meant_task(u.a, me, frame[1]);
     let b = fields::meant_semaphore(u.b, tables.shape, me, a, frame[2]);
-    if let Err(refusal) = state::state(u, config, tables, timers, a, b, frame[4]) {
+    if let Err(refusal) = state::state(
+        u,
+        config,
+        tables.bytes,
+        timers,
+        tables.shape,
+        a,
+        b,
+        frame[4],
+    ) {
         return Err(refusal);
     }
     Ok(code)

@@ -4,7 +4,7 @@ use Rattle.std.proofs.Math.Path.{sym, ap, subst}
 use Rattle.std.proofs.Common.{◌∙◌, arith, length-drop, take_all, ne_eqb, ltb-false}
 use Rattle.std.proofs.Math.ListN.{length}
 use Rattle.std.proofs.lemmas.Bool.{not-false}
-use Rattle.ledger.specs.Lists.{at, put, byte, first}
+use Rattle.ledger.specs.Lists.{at, put, byte, first, within}
 use Rattle.ledger.specs.Config.{Config}
 use Rattle.ledger.specs.Ledger.{plain, Ledger, running, semaphore_of, set_semaphore, set_semaphores, set_task, set_outcome}
 use Rattle.ledger.specs.Services.{Code, shape, signalled, signal, effect}
@@ -140,12 +140,12 @@ pub long_passed : (c : Config) (self : ℕ) (f : List ℕ) → first (from_input
 unfolding from_input
 long_passed c self f e = let (short, rest) = passes _ refl e in ltb-false (length f) 5 short
 
-pub code_passed : (c : Config) (self : ℕ) (f : List ℕ) → first (from_input c self f) ≡ 0 → OneOf 18 (byte 0 f)
+pub within_passed : (c : Config) (self : ℕ) (f : List ℕ) → first (from_input c self f) ≡ 0 → within 1 18 (byte 0 f) ≡ true
 unfolding from_input
-code_passed c self f e =
-    let (short, (code, rest)) = passes _ refl e in
-    let n = within_numbered 18 (byte 0 f) (not-false _ code) in
-    (n.from, n.upto)
+within_passed c self f e = let (short, (code, rest)) = passes _ refl e in not-false _ code
+
+pub code_passed : (c : Config) (self : ℕ) (f : List ℕ) → first (from_input c self f) ≡ 0 → OneOf 18 (byte 0 f)
+code_passed c self f e = let n = within_numbered 18 (byte 0 f) (within_passed c self f e) in (n.from, n.upto)
 
 -- and a season timer's has seven
 pub seven_passed : (c : Config) (self : ℕ) (f : List ℕ) → first (from_input c self f) ≡ 0 → Seven (code_at (byte 0 f)) f

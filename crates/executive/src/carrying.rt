@@ -75,7 +75,7 @@ fn serve(code: Code, me: u8, a: u8, b: u8, frame: &[u8], lent: &mut Lent<'_, '_>
 }
 
 // The effect of an accepted frame with this code, while task `me` runs, with the fields that it means.
-pub fn carry_out(code: Code, me: u8, frame: &[u8], lent: &mut Lent<'_, '_>, timers: &mut [u8])
+pub fn carried(code: Code, me: u8, frame: &[u8], lent: &mut Lent<'_, '_>, timers: &mut [u8])
     requires { (5 ≤ length frame.now) × IsCode (byte 0 frame.now) code × Holds lent.old.tables.now.shape (length timers.old)
         × Passed (config_in lent.old.config.now) lent.old.tables.now.shape me frame.now lent.old.tables.now.bytes.now }
     ensures { Step lent.old lent.new (λ c s d z d' z'. Carries c s me frame.now d z timers.old d' z' timers.new) }
@@ -85,4 +85,17 @@ pub fn carry_out(code: Code, me: u8, frame: &[u8], lent: &mut Lent<'_, '_>, time
     let b = command::fields::meant_semaphore(u.b, lent.tables.shape, me, a, frame[2]);
     prepare(u.service, lent.tables, me);
     serve(code, me, a, b, frame, lent, timers);
+}
+
+// The effect of an accepted frame, while task `me` runs, by the code that its first byte is. A frame that has just been tested has its code at
+// hand, and is carried out by `carried`.
+pub fn carry_out(me: u8, frame: &[u8], lent: &mut Lent<'_, '_>, timers: &mut [u8])
+    requires { Holds lent.old.tables.now.shape (length timers.old)
+        × Passed (config_in lent.old.config.now) lent.old.tables.now.shape me frame.now lent.old.tables.now.bytes.now }
+    ensures { Step lent.old lent.new (λ c s d z d' z'. Carries c s me frame.now d z timers.old d' z' timers.new) }
+{
+    let Ok(code) = Code::try_from(frame[0]) else {
+        return;
+    };
+    carried(code, me, frame, lent, timers);
 }

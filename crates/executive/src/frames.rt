@@ -38,7 +38,7 @@ fn act<'a, 'b>(
         tables,
         slots,
     };
-    crate::carrying::carry_out(code, me, frame, &mut lent, timers);
+    crate::carrying::carried(code, me, frame, &mut lent, timers);
     crate::settling::settle(&mut lent)
 }
 

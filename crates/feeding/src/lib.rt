@@ -1,6 +1,7 @@
 // A session's input fed in blocks: its lines cut out, answered by the executive, and the answers printed, all in lent memory.
 // Promises: whatever the blocks are, what is printed is the ledger's `output` of the whole input (proofs/Whole, proofs/Session).
-// Rests on mcx11 for the executive, on line for digits, and on configuration, parts and answer for the answer to a line that is no frame.
+// Rests on mcx11 for the executive, on line for digits, on tables for a length's byte, and on configuration, parts and answer for the answer
+// to a line that is no frame.
 #![tactic(auto)]
 
 mod gathering; // gathering.rt: the bytes of a line, up to its end

@@ -7,6 +7,7 @@ use mathlib.Core.Option.{Option, none, some}
 use native.Mathlib.Omega.{arith}
 use lib.ListN.{length, get_or, take}
 use lib.Dec.{leb, eqb}
+use lib.Seq.{take_all}
 use borrow.Author.Tests.{le-leb, lt-leb, leb-true, leb-false, eqb-true, eqb-false}
 use Rattle.ledger.specs.Lists.{all}
 use Rattle.ledger.specs.Config.{twos}
@@ -52,6 +53,13 @@ module _ (p : ℕ → Bool) where
   all_more (x ∷ xs) (suc i) h =
       let n : suc i + 1 ≡ suc (i + 1) = omega arith in
       rw (n, all_more xs i (omega arith)) (sym (and_assoc (p x) (all p (take i xs)) (p (get_or xs i 0))))
+
+  pub all_whole : (l : List ℕ) (i : ℕ) → length l ≤ i → all p (take i l) ≡ all p l
+  all_whole l i h = rw (take_all i l h)
+
+-- a turn that tests the next character
+pub digits_more : (l : List ℕ) (i : ℕ) (good x : Bool) → good ≡ all is_digit (take i l) → x ≡ is_digit (get_or l i 0) → i < length l → good && x ≡ all is_digit (take (i + 1) l)
+digits_more l i good x e f h = rw (e, f) (sym (all_more is_digit l i h))
 
 -- ---- the second pass
 

@@ -1,6 +1,6 @@
 // Lines of digits and frames, both ways, on slices that the caller lends.
 // Promises: the ledger's own read_line and write_line (Lines), for every line, frame and buffer; with a number nothing is written.
-// Rests on the ledger's definitions alone.
+// Rests on refusals, for what a call is refused for, and on the ledger's definitions.
 #![tactic(auto)]
 
 mod reading; // reading.rt: a line to a frame

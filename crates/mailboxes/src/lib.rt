@@ -29,7 +29,7 @@ fn pending<'a>(tables: &'a Tables<'_>) -> Messages<'a>
     pending_in(tables.bytes, tables.shape)
 }
 
-// The same in bytes beside their shape, as `sound` is lent them.
+// The same in bytes beside their shape, as `holds` and `sound` are lent them.
 #[inline(always)]
 fn pending_in<'a>(bytes: &'a [u8], shape: Shape) -> Messages<'a>
     requires { Fits shape (length bytes.now) }
@@ -44,11 +44,12 @@ fn pending_in<'a>(bytes: &'a [u8], shape: Shape) -> Messages<'a>
     }
 }
 
-// Whether the message of a number lies in a mailbox.
-pub fn holds(tables: &Tables<'_>, number: u8) -> bool
-    ensures { Tells tables.now.shape tables.now.bytes.now (λ c L. inamailbox L number) result }
+// Whether the message of a number lies in a mailbox. Over bytes beside a shape, as `sound` is: a `&mut` would ask more.
+pub fn holds(tables: &[u8], shape: Shape, number: u8) -> bool
+    requires { Fits shape (length tables.now) }
+    ensures { Tells shape tables.now (λ c L. inamailbox L number) result }
 {
-    pending(tables).holds(number)
+    pending_in(tables, shape).holds(number)
 }
 
 // Puts a message into the mailbox of task `to`, where there is room for one more.

@@ -32,7 +32,7 @@ module _ {A : Type 0} {n : ℕ} (i : Listed A n) (p : A → Bool) where
   abbrev l : List A
   l = i.items
 
-  look_start : Looking i p 0
+  pub look_start : Looking i p 0
   look_start = record { inside = omega arith; so_far = sym (zero-add _); counted = sym (zero-add _) }
 
   module _ (k : ℕ) (s : Looking i p k) where
@@ -43,17 +43,17 @@ module _ {A : Type 0} {n : ℕ} (i : Listed A n) (p : A → Bool) where
       short : k < length l
       short = omega (arith, i.many)
 
-      look_here : p (i.at k) ≡ true → (k ≡ first_of p l) × (k + 1 ≡ looked_at p l)
+      pub look_here : p (i.at k) ≡ true → (k ≡ first_of p l) × (k + 1 ≡ looked_at p l)
       look_here y =
           let one : looked_at p (drop k l) ≡ 1 = rw (drop-cons l k i.else short, tested y) in
           (first_here p l k s.so_far i.else short (tested y), omega (arith, one, s.counted))
 
-      look_on : p (i.at k) ≡ false → Looking i p (k + 1)
+      pub look_on : p (i.at k) ≡ false → Looking i p (k + 1)
       look_on y =
           let more : looked_at p (drop k l) ≡ suc (looked_at p (drop (suc k) l)) = rw (drop-cons l k i.else short, tested y) in
           record { inside = omega arith; so_far = first_on p l k s.so_far i.else short (tested y); counted = rw add-one (omega (arith, more, s.counted)) }
 
-    look_end : n ≤ k → (k ≡ first_of p l) × (k ≡ looked_at p l)
+    pub look_end : n ≤ k → (k ≡ first_of p l) × (k ≡ looked_at p l)
     look_end h =
         let none : looked_at p (drop k l) ≡ 0 = rw (drop_of_length-le l {i = k} (omega (arith, i.many))) in
         (first_end p l k s.so_far (omega (arith, i.many)), omega (arith, none, s.counted))

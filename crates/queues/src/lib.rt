@@ -3,6 +3,8 @@
 // Rests on tables for the memory, and on rings for the entries.
 #![tactic(auto)]
 
+pub mod reading;
+
 ghost use Rattle.std.specs.Prelude.{◌≡◌, ◌+◌, ◌-◌, ◌*◌, ◌<◌, ◌≤◌, length, set};
 ghost use Rattle.tables.specs.Decode.{head_of};
 ghost use Rattle.tables.specs.Layout.{OneOf};
@@ -13,7 +15,6 @@ ghost use Rattle.queues.specs.Rings.{RingFits, HasRoom, head_in, count_in, Tells
 ghost use Rattle.queues.specs.Taking.{Copied};
 ghost use Rattle.queues.specs.Waits.{not_full_of};
 
-use tables::counts::count_of;
 use tables::lent::Tables;
 use tables::tasks::Outcome;
 
@@ -42,13 +43,12 @@ fn head(tables: &Tables<'_>, ring: Ring, q: u8) -> usize
     head_of(ring.depth, tables.bytes[at])
 }
 
-// How many entries a queue holds.
+// How many entries a queue holds. This and what follows up to `put` is of tables that are lent for writing too.
 pub fn count(tables: &Tables<'_>, ring: Ring, q: u8) -> usize
     requires { OneOf tables.now.shape.queues q }
     ensures { result ≡ count_in tables.now.shape ring tables.now.bytes.now (q - 1) }
 {
-    let at = tables.shape.ringat + (q as usize - 1) * 2 + 1;
-    count_of(ring.depth, tables.bytes[at])
+    reading::count(tables.bytes, tables.shape, ring, q)
 }
 
 // The semaphore not-full of a queue; not-empty is the one before it.
@@ -56,7 +56,7 @@ pub fn not_full(tables: &Tables<'_>, q: u8) -> u8
     requires { OneOf tables.now.shape.queues q }
     ensures { (result ≡ not_full_of tables.now.shape q) × OneOf tables.now.shape.semaphores result × OneOf tables.now.shape.semaphores (result - 1) }
 {
-    (tables.shape.named + tables.shape.tasks + 2 * (q as usize)) as u8
+    reading::not_full(tables.shape, q)
 }
 
 // Whether a dequeue would wait where another task waits: on not-empty, if the queue is empty.
@@ -64,10 +64,7 @@ pub fn take_waits(tables: &Tables<'_>, ring: Ring, q: u8) -> bool
     requires { OneOf tables.now.shape.queues q }
     ensures { TellsRing tables.now.shape tables.now.bytes.now ring q (λ c L. meets21 c L on_not_empty q 0) result }
 {
-    if count(tables, ring, q) != 0 {
-        return false;
-    }
-    tables.is_waiting(not_full(tables, q) - 1)
+    reading::take_waits(tables.bytes, tables.shape, ring, q)
 }
 
 // Whether an enqueue would wait where another task waits: on not-full, if the queue is full.
@@ -75,10 +72,7 @@ pub fn put_waits(tables: &Tables<'_>, ring: Ring, q: u8) -> bool
     requires { OneOf tables.now.shape.queues q }
     ensures { TellsRing tables.now.shape tables.now.bytes.now ring q (λ c L. meets21 c L on_not_full q 0) result }
 {
-    if count(tables, ring, q) < ring.depth {
-        return false;
-    }
-    tables.is_waiting(not_full(tables, q))
+    reading::put_waits(tables.bytes, tables.shape, ring, q)
 }
 
 // Puts an entry behind those that the queue holds. The caller has seen that it is not full.

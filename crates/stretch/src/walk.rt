@@ -15,7 +15,7 @@ pub fn turned_away(n: usize, w: usize) -> bool
     MOST_RECORDS < n || w == 0 || n < w
 }
 
-#[tactic(auto, using(crate::proofs::Sums::head_more))]
+#[tactic(auto, using(crate::proofs::Sums::head_joins))]
 fn reissues(records: &[Record]) -> u32
     requires { length records.now ≤ most_records }
     ensures summed { result ≡ sum (counts records.now) }

@@ -4,6 +4,8 @@ use prog.Linked.{Tree, World, Holds, in_world}
 use prog.LinkedThreads.{HasT}
 use mathlib.Core.Bool.{true}
 use Rattle.tables.proofs.TheLink as link
+use Rattle.tables.proofs.blocks.is_idle.Symbol as blocks_is_idle
+use Rattle.tables.proofs.blocks.load.Symbol as blocks_load
 use Rattle.tables.proofs.counts.count_of.Symbol as counts_count_of
 use Rattle.tables.proofs.lent.Tables.blocks.Symbol as lent_Tables_blocks
 use Rattle.tables.proofs.lent.Tables.copy_waiting.Symbol as lent_Tables_copy_waiting
@@ -19,6 +21,8 @@ use Rattle.tables.proofs.lent.Tables.set_semaphore.Symbol as lent_Tables_set_sem
 use Rattle.tables.proofs.lent.Tables.task.Symbol as lent_Tables_task
 use Rattle.tables.proofs.lent.Tables.withdraw.Symbol as lent_Tables_withdraw
 use Rattle.tables.proofs.planes.put_bit.Symbol as planes_put_bit
+use Rattle.tables.proofs.semaphores.is_waiting.Symbol as semaphores_is_waiting
+use Rattle.tables.proofs.semaphores.load.Symbol as semaphores_load
 use Rattle.tables.proofs.tasks.load.Symbol as tasks_load
 use Rattle.tables.proofs.tasks.running.Symbol as tasks_running
 
@@ -27,6 +31,14 @@ the_table = link.table
 
 abbrev pub Below : World → Type 0
 Below = link.Below
+
+pub blocks_is_idle_linked : (W : World) → Holds W "tables" the_table → Below W → HasT (in_world W) true blocks_is_idle.code
+unfolding the_table
+blocks_is_idle_linked = link.linked-tables::blocks::is_idle
+
+pub blocks_load_linked : (W : World) → Holds W "tables" the_table → Below W → HasT (in_world W) true blocks_load.code
+unfolding the_table
+blocks_load_linked = link.linked-tables::blocks::load
 
 pub counts_count_of_linked : (W : World) → Holds W "tables" the_table → Below W → HasT (in_world W) true counts_count_of.code
 unfolding the_table
@@ -87,6 +99,14 @@ lent_Tables_withdraw_linked = link.linked-tables::lent::Tables::withdraw
 pub planes_put_bit_linked : (W : World) → Holds W "tables" the_table → Below W → HasT (in_world W) true planes_put_bit.code
 unfolding the_table
 planes_put_bit_linked = link.linked-tables::planes::put_bit
+
+pub semaphores_is_waiting_linked : (W : World) → Holds W "tables" the_table → Below W → HasT (in_world W) true semaphores_is_waiting.code
+unfolding the_table
+semaphores_is_waiting_linked = link.linked-tables::semaphores::is_waiting
+
+pub semaphores_load_linked : (W : World) → Holds W "tables" the_table → Below W → HasT (in_world W) true semaphores_load.code
+unfolding the_table
+semaphores_load_linked = link.linked-tables::semaphores::load
 
 pub tasks_load_linked : (W : World) → Holds W "tables" the_table → Below W → HasT (in_world W) true tasks_load.code
 unfolding the_table

@@ -18,10 +18,14 @@ use Rattle.tables.specs.Layout.{OneOf, Fits, fitting, planes_at, bound, Regions,
 use Rattle.tables.specs.Planes.{plane_of, blocks_at, NewBit, NewBlock}
 use Rattle.tables.specs.OneBit.{block_set}
 use Rattle.tables.specs.Decode.{view_blocks, view_task, record_as, record_of}
-use Rattle.tables.specs.Shows.{task_at, ShowsAs, Does}
+use Rattle.tables.specs.Shows.{task_at, record_in, ShowsAs, Does}
 use Rattle.tables.specs.Items.{with_tasks, task_shown}
 use Rattle.tables.specs.Stored.{shows_as, shown_task, task_in}
 use Rattle.tables.specs.SetTwice.{task_task, task_set}
+
+-- whether a task is idle, of every shape by which the bytes are laid out
+abbrev pub IdleIn : (d : List ℕ) (t : ℕ) → Bool → Type 0
+IdleIn d t r = (s : Shape) → Fits s (length d) → OneOf s.tasks t → r ≡ (record_in s d t).blocks.idle
 
 abbrev pub with_block : Block → Bool → Blocks → Blocks
 with_block Idle v b = record { idle = v; suspended = b.suspended; event = b.event; message = b.message }

@@ -1,10 +1,10 @@
 // The blocks of a task: each is a bit of its plane.
-ghost use Rattle.std.specs.Prelude.{◌≡◌, ◌-◌, ◌<◌, length};
-ghost use Rattle.tables.specs.Layout.{OneOf, Fits, regions};
+ghost use Rattle.std.specs.Prelude.{◌≡◌, ◌-◌, ◌<◌, ◌≤◌, length};
+ghost use Rattle.tables.specs.Layout.{OneOf, Fits, records_at, regions};
 ghost use Rattle.tables.specs.Planes.{plane_of, has};
 ghost use Rattle.tables.specs.Decode.{view_blocks};
 ghost use Rattle.tables.specs.Shows.{record_in};
-ghost use Rattle.tables.specs.Blocks.{set_block};
+ghost use Rattle.tables.specs.Blocks.{IdleIn, set_block};
 ghost use Rattle.ledger.specs.Ledger.{set_blocks};
 
 use crate::lent::Tables;
@@ -54,6 +54,15 @@ pub fn load(tables: &[u8], shape: Shape, t: u8) -> Blocks
         event: has_block(tables, shape, t, Block::Event),
         message: has_block(tables, shape, t, Block::Message),
     }
+}
+
+// Whether a task is idle, by the planes alone, which lie at one place whatever the shape: so a loop over many tasks holds no shape.
+pub fn is_idle(tables: &[u8], t: u8) -> bool
+    requires { (records_at ≤ length tables.now) × OneOf 126 t }
+    ensures { IdleIn tables.now t result }
+{
+    let i = t as usize - 1;
+    bit_of(tables[PLANES_AT + i / 8], i % 8)
 }
 
 impl<'a> Tables<'a> {

@@ -1,7 +1,7 @@
 // The semaphores, a byte each.
-ghost use Rattle.std.specs.Prelude.{◌≡◌, map};
+ghost use Rattle.std.specs.Prelude.{◌≡◌, map, length};
 ghost use Rattle.tables.specs.Decode.{state_of, state_byte, cleared_of, view_semaphore};
-ghost use Rattle.tables.specs.Layout.{OneOf};
+ghost use Rattle.tables.specs.Layout.{OneOf, Fits};
 ghost use Rattle.tables.specs.Encoded.{Waiter};
 ghost use Rattle.tables.specs.Shows.{Tells};
 ghost use Rattle.ledger.specs.Ledger.{semaphore_of, set_semaphore};
@@ -9,6 +9,7 @@ ghost use Rattle.ledger.specs.Refusals.{is_waiting};
 ghost use Rattle.ledger.specs.Services.{withdraw_wait};
 
 use crate::lent::Tables;
+use crate::shape::Shape;
 
 #[derive(Clone, Copy)]
 pub enum Semaphore {
@@ -55,16 +56,35 @@ fn clear_all(part: &mut [u8], t: u8)
     }
 }
 
+// It is compiled into its callers, since each call would take a copy of the shape on the stack.
+#[inline(always)]
+pub fn load(tables: &[u8], shape: Shape, b: u8) -> Semaphore
+    requires { Fits shape (length tables.now) × OneOf shape.semaphores b }
+    ensures tells { Tells shape tables.now (λ c L. semaphore_of L b) (view_semaphore result) }
+    ensures waiter { Waiter shape.tasks result }
+{
+    let at = shape.semaphoreat + (b as usize - 1);
+    state_of(shape.tasks, tables[at])
+}
+
+// Whether a semaphore is WAITING.
+pub fn is_waiting(tables: &[u8], shape: Shape, b: u8) -> bool
+    requires { Fits shape (length tables.now) × OneOf shape.semaphores b }
+    ensures { Tells shape tables.now (λ c L. is_waiting (semaphore_of L b)) result }
+{
+    matches!(load(tables, shape, b), Semaphore::Waiting(_))
+}
+
 impl<'a> Tables<'a> {
     ghost use Rattle.tables.specs.Lent.{Goes};
 
+    // Of tables that are lent for writing too.
     pub fn semaphore(&self, b: u8) -> Semaphore
         requires { OneOf self.now.shape.semaphores b }
         ensures tells { Tells self.now.shape self.now.bytes.now (λ c L. semaphore_of L b) (view_semaphore result) }
         ensures waiter { Waiter self.now.shape.tasks result }
     {
-        let at = self.shape.semaphoreat + (b as usize - 1);
-        state_of(self.shape.tasks, self.bytes[at])
+        load(self.bytes, self.shape, b)
     }
 
     pub fn set_semaphore(&mut self, b: u8, s: Semaphore)
@@ -75,12 +95,12 @@ impl<'a> Tables<'a> {
         self.bytes[at] = u8::from(s);
     }
 
-    // Whether a semaphore is WAITING.
+    // Whether a semaphore of such tables is WAITING.
     pub fn is_waiting(&self, b: u8) -> bool
         requires { OneOf self.now.shape.semaphores b }
         ensures { Tells self.now.shape self.now.bytes.now (λ c L. is_waiting (semaphore_of L b)) result }
     {
-        matches!(self.semaphore(b), Semaphore::Waiting(_))
+        is_waiting(self.bytes, self.shape, b)
     }
 
     // The semaphore that is WAITING with a task becomes PENDING.

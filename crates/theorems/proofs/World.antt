@@ -93,7 +93,7 @@ tables_below : tables.Below world
 tables_below = (rows.copy_in_linked world refl, tt)
 
 queues_below : queues.Below world
-queues_below = (rings.put_linked world refl rings_below, (rings.take_out_linked world refl rings_below, (tables.counts_count_of_linked world refl tables_below, (tables.lent_Tables_is_waiting_linked world refl tables_below, (tables.lent_Tables_set_outcome_linked world refl tables_below, tt)))))
+queues_below = (rings.put_linked world refl rings_below, (rings.take_out_linked world refl rings_below, (tables.counts_count_of_linked world refl tables_below, (tables.lent_Tables_set_outcome_linked world refl tables_below, (tables.semaphores_is_waiting_linked world refl tables_below, tt)))))
 
 mailboxes_below : mailboxes.Below world
 mailboxes_below = (messages.insert_linked world refl messages_below, (messages.lent_Messages_complete_linked world refl messages_below, (messages.lent_Messages_find_linked world refl messages_below, (messages.lent_Messages_holds_linked world refl messages_below, (messages.lent_Messages_load_linked world refl messages_below, (messages.remove_linked world refl messages_below, (tables.counts_count_of_linked world refl tables_below, tt)))))))
@@ -111,10 +111,10 @@ configuration_below : configuration.Below world
 configuration_below = (rows.word_linked world refl, (tables.planes_put_bit_linked world refl tables_below, tt))
 
 command_below : command.Below world
-command_below = (clock.count_linked world refl clock_below, (clock.has_linked world refl clock_below, (configuration.block_ring_of_linked world refl configuration_below, (mailboxes.holds_linked world refl mailboxes_below, (queues.put_waits_linked world refl queues_below, (queues.take_waits_linked world refl queues_below, (rows.long_word_linked world refl, (rows.word_linked world refl, (tables.lent_Tables_blocks_linked world refl tables_below, (tables.lent_Tables_is_waiting_linked world refl tables_below, tt))))))))))
+command_below = (clock.count_linked world refl clock_below, (clock.has_linked world refl clock_below, (configuration.block_ring_of_linked world refl configuration_below, (mailboxes.holds_linked world refl mailboxes_below, (queues.reading_put_waits_linked world refl queues_below, (queues.reading_take_waits_linked world refl queues_below, (rows.long_word_linked world refl, (rows.word_linked world refl, (tables.blocks_is_idle_linked world refl tables_below, (tables.blocks_load_linked world refl tables_below, (tables.semaphores_is_waiting_linked world refl tables_below, tt)))))))))))
 
 executive_below : executive.Below world
-executive_below = (answer.write_linked world refl answer_below, (clock.purge_linked world refl clock_below, (clock.start_linked world refl clock_below, (command.codes_row_linked world refl command_below, (command.fields_meant_semaphore_linked world refl command_below, (command.fields_meant_task_linked world refl command_below, (command.refusal_linked world refl command_below, (configuration.block_ring_of_linked world refl configuration_below, (queues.count_linked world refl queues_below, (queues.put_waits_linked world refl queues_below, (queues.take_waits_linked world refl queues_below, (refusals.from_linked world refl, (services.message_receive_linked world refl services_below, (services.message_send_linked world refl services_below, (services.message_sendw_linked world refl services_below, (services.queue_complete_dequeue_linked world refl services_below, (services.queue_complete_enqueue_linked world refl services_below, (services.queue_dequeue_linked world refl services_below, (services.queue_enqueue_linked world refl services_below, (services.queue_wait_to_dequeue_linked world refl services_below, (services.queue_wait_to_enqueue_linked world refl services_below, (services.semaphore_signal_linked world refl services_below, (services.semaphore_signal_by_linked world refl services_below, (services.semaphore_wait_linked world refl services_below, (services.task_execute_linked world refl services_below, (services.task_set_suspended_linked world refl services_below, (services.task_terminate_linked world refl services_below, (services.timer_delay_linked world refl services_below, (services.timer_tick_linked world refl services_below, (tables.lent_Tables_copy_waiting_linked world refl tables_below, (tables.lent_Tables_running_linked world refl tables_below, (tables.lent_Tables_set_outcome_linked world refl tables_below, (tables.lent_Tables_set_request_linked world refl tables_below, (tables.lent_Tables_set_semaphore_linked world refl tables_below, (tables.lent_Tables_task_linked world refl tables_below, (tocks.long_tock_value_at_linked world refl tocks_below, (tocks.tock_value_at_linked world refl tocks_below, tt)))))))))))))))))))))))))))))))))))))
+executive_below = (answer.write_linked world refl answer_below, (clock.purge_linked world refl clock_below, (clock.start_linked world refl clock_below, (command.codes_try_from_linked world refl command_below, (command.codes_row_linked world refl command_below, (command.fields_meant_semaphore_linked world refl command_below, (command.fields_meant_task_linked world refl command_below, (command.refusal_linked world refl command_below, (configuration.block_ring_of_linked world refl configuration_below, (queues.count_linked world refl queues_below, (queues.put_waits_linked world refl queues_below, (queues.take_waits_linked world refl queues_below, (refusals.from_linked world refl, (services.message_receive_linked world refl services_below, (services.message_send_linked world refl services_below, (services.message_sendw_linked world refl services_below, (services.queue_complete_dequeue_linked world refl services_below, (services.queue_complete_enqueue_linked world refl services_below, (services.queue_dequeue_linked world refl services_below, (services.queue_enqueue_linked world refl services_below, (services.queue_wait_to_dequeue_linked world refl services_below, (services.queue_wait_to_enqueue_linked world refl services_below, (services.semaphore_signal_linked world refl services_below, (services.semaphore_signal_by_linked world refl services_below, (services.semaphore_wait_linked world refl services_below, (services.task_execute_linked world refl services_below, (services.task_set_suspended_linked world refl services_below, (services.task_terminate_linked world refl services_below, (services.timer_delay_linked world refl services_below, (services.timer_tick_linked world refl services_below, (tables.lent_Tables_copy_waiting_linked world refl tables_below, (tables.lent_Tables_running_linked world refl tables_below, (tables.lent_Tables_set_outcome_linked world refl tables_below, (tables.lent_Tables_set_request_linked world refl tables_below, (tables.lent_Tables_set_semaphore_linked world refl tables_below, (tables.lent_Tables_task_linked world refl tables_below, (tocks.long_tock_value_at_linked world refl tocks_below, (tocks.tock_value_at_linked world refl tocks_below, tt))))))))))))))))))))))))))))))))))))))
 
 stretch_below : stretch.Below world
 stretch_below = (refusals.from_linked world refl, tt)

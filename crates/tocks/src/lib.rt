@@ -1,6 +1,6 @@
 // Numbers of tocks: the tock value of a frame and milliseconds as tocks.
 // Promises: each answer is the ledger's own (Time) of the same bits or numbers, for every input.
-// Rests on rows, for numbers of bytes, and on the checker's reading of a signed number's bits.
+// Rests on rows, for numbers of bytes, on refusals, and on the checker's reading of a signed number's bits.
 #![tactic(auto)]
 
 ghost use Rattle.std.specs.Prelude.{◌≡◌, ◌+◌, ◌*◌, ◌<◌, ◌≤◌, ◌^◌};

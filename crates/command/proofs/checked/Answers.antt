@@ -24,7 +24,7 @@ pub meant_semaphore-b-requires : goal.meant_semaphore-b-requires
 meant_semaphore-b-requires c = let g = config_in c.args.config.now in let f = c.args.frame.now in let o = of c.requires.2 in let r = row_is f _ c.row-u.result c.requires.0 (subst (λ (n : ℕ). IsCode n c.in-Ok.code) (sym c.requires.1) c.in-Ok.ensures) c.row-u.ensures in let e = sym c.in_default-input.ensures in let k = good g c.args.me f (omega (arith, c.requires.4, o.tasks)) e in (fits c.requires.2, c.requires.4, owner_of o c.args.me f _ r k _ (task_is g c.args.me r c.meant_task-a.ensures))
 
 pub state-requires : goal.state-requires
-state-requires c = let g = config_in c.args.config.now in let f = c.args.frame.now in let o = of c.requires.2 in let r = row_is f _ c.row-u.result c.requires.0 (subst (λ (n : ℕ). IsCode n c.in-Ok.code) (sym c.requires.1) c.in-Ok.ensures) c.row-u.ensures in let e = sym c.in_default-input.ensures in let k = good g c.args.me f (omega (arith, c.requires.4, o.tasks)) e in let a = task_is g c.args.me r c.meant_task-a.ensures in (c.requires.2, c.requires.3, waits_of o c.args.me f _ r k _ a _ (semaphore_is g c.args.me r a (c.meant_semaphore-b.ensures g o)))
+state-requires c = let g = config_in c.args.config.now in let f = c.args.frame.now in let o = of c.requires.2 in let r = row_is f _ c.row-u.result c.requires.0 (subst (λ (n : ℕ). IsCode n c.in-Ok.code) (sym c.requires.1) c.in-Ok.ensures) c.row-u.ensures in let e = sym c.in_default-input.ensures in let k = good g c.args.me f (omega (arith, c.requires.4, o.tasks)) e in let a = task_is g c.args.me r c.meant_task-a.ensures in (c.requires.2, c.args.tables.now.fits, c.requires.3, waits_of o c.args.me f _ r k _ a _ (semaphore_is g c.args.me r a (c.meant_semaphore-b.ensures g o)))
 
 pub returns-in-Err-state-clause-refuses : goal.returns-in-Err-state-clause-refuses
 returns-in-Err-state-clause-refuses c = let g = config_in c.args.config.now in let f = c.args.frame.now in let o = of c.requires.2 in let r = row_is f _ c.row-u.result c.requires.0 (subst (λ (n : ℕ). IsCode n c.in-Ok.code) (sym c.requires.1) c.in-Ok.ensures) c.row-u.ensures in let e = sym c.in_default-input.ensures in let k = good g c.args.me f (omega (arith, c.requires.4, o.tasks)) e in let a = task_is g c.args.me r c.meant_task-a.ensures in by_state f e _ (λ L z h. c.in-Err-state.ensures _ (means o c.args.me f _ r k _ a _ (semaphore_is g c.args.me r a (c.meant_semaphore-b.ensures g o))) L z h)

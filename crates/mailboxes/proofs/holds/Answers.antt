@@ -5,6 +5,5 @@ use Rattle.mailboxes.proofs.holds.Goals as goal
 pub returns : goal.returns
 returns c =
     let a = c.args in
-    let b = a.tables.now in
-    let m = c.pending in
-    λ g L z w h. holds_told g b.shape L b.bytes.now z w h m.result.count m.ensures.count a.number c.holds.result (rw m.ensures.records at c.holds.ensures)
+    let m = c.pending_in in
+    λ g L z w h. holds_told g a.shape L a.tables.now z w h m.result.count m.ensures.count a.number c.holds.result (rw m.ensures.records at c.holds.ensures)

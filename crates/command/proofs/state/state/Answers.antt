@@ -34,4 +34,4 @@ pub returns : goal.returns
 unfolding from_state
 returns c =
     let g = config_in c.args.config.now in let w = c.args.timers.now in
-    λ k m L z h. is_24 g L k m _ (c.no_timer.ensures g L c.args.tables.now.bytes.now z h) ∙ sym (next _ 25 _ (sym (is_25 g L k m _ (c.busy.ensures g L z w h)) ∙ c.if-busy.false) ∙ next _ 26 _ (sym (is_26 g L k m _ (c.before_first.ensures L z w h)) ∙ c.if-before_first.false) ∙ next _ 22 _ (sym (is_22 g L k m _ (c.lies.ensures g L z w h)) ∙ c.if-lies.false) ∙ next _ 21 _ (sym (is_21 g L k m _ (c.meets21.ensures L z w h)) ∙ c.if-meets21.false))
+    λ k m L z h. is_24 g L k m _ (c.no_timer.ensures g L c.args.tables.now z h) ∙ sym (next _ 25 _ (sym (is_25 g L k m _ (c.busy.ensures g L z w h)) ∙ c.if-busy.false) ∙ next _ 26 _ (sym (is_26 g L k m _ (c.before_first.ensures L z w h)) ∙ c.if-before_first.false) ∙ next _ 22 _ (sym (is_22 g L k m _ (c.lies.ensures g L z w h)) ∙ c.if-lies.false) ∙ next _ 21 _ (sym (is_21 g L k m _ (c.meets21.ensures L z w h)) ∙ c.if-meets21.false))

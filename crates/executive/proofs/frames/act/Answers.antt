@@ -8,7 +8,7 @@ pub returns : goal.returns
 returns c =
     let a = c.args in
     let w = a.timers.now in
-    back {R = λ g s d z d' z'. Acts g s a.me a.frame.now d z w d' z' c.carry_out.new.timers c.settle.result} (going c.carry_out.ensures c.settle.ensures (λ carries settles. record {
+    back {R = λ g s d z d' z'. Acts g s a.me a.frame.now d z w d' z' c.carried.new.timers c.settle.result} (going c.carried.ensures c.settle.ensures (λ carries settles. record {
       low = settles.0;
       few = settles.1;
       ends = λ L q f h. settles.2 _ _ _ (carries _ L q f h);
