@@ -4,8 +4,8 @@
 use Rattle.std.specs.Prelude.{◌≡◌, refl, Bool, true, false, cond, List, [], ◌∷◌, ℕ, zero, suc, ◌+◌, ◌-◌, ◌<◌, ◌≤◌, ltb, length, sum, take, drop, get_or}
 use Rattle.std.proofs.Common.{sym, ap, ◌∙◌, arith, take-add, length-take, add-one, ltb-false}
 use Rattle.std.proofs.Math.ListN.{get_or-map}
-use Rattle.std.proofs.lemmas.List.{length-map, get_or-take, get_or-drop}
-use Rattle.std.proofs.lemmas.List.Sums.{sum_by-cons, sum_by-append, sum_by_more}
+use Rattle.std.proofs.lemmas.List.{get_or-take, get_or-drop}
+use Rattle.std.proofs.lemmas.List.Sums.{sum_by-cons, sum_by-append}
 use Rattle.stretch.specs.declared.Record.{Record}
 use Rattle.stretch.specs.declared.Stretch.{Stretch}
 use Rattle.stretch.specs.Busiest.{counts, stretch_sum, better, best_upto}
@@ -41,12 +41,7 @@ stretch_head w cs p = ap sum (take-add p w cs) ∙ sum_by-append (λ (x : ℕ). 
 
 -- of the records: one more joins
 pub head_joins : (rs : List Record) (k : ℕ) → k < length rs → head (counts rs) (k + 1) ≡ head (counts rs) k + reissues_at rs k
-head_joins rs k l =
-    let f : Record → ℕ = λ (r : Record). r.reissues in
-    let n : length (counts rs) ≡ length rs = length-map rs f in
-    let m = sum_by_more (λ (x : ℕ). x) (counts rs) k 0 (omega arith) in
-    let e : get_or (counts rs) k 0 ≡ reissues_at rs k = get_or-map f rs k none in
-    omega arith
+head_joins rs k l = rw add-one (head_suc (counts rs) k ∙ ap (λ (n : ℕ). head (counts rs) k + n) (get_or-map (λ (r : Record). r.reissues) rs k none))
 
 -- the record at place p leaves; the one that joins is that at p of those behind the first w
 pub slides : (w : ℕ) (rs : List Record) (p : ℕ) → p < length (take (length rs - w) (drop w rs))

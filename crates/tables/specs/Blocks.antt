@@ -6,6 +6,8 @@ use mathlib.Core.List.{List}
 use Prim.Native.Nat.{ℕ, ◌+◌, ◌-◌, ◌*◌, ◌/◌, ◌%◌, ◌<◌}
 use native.Mathlib.Omega.{arith}
 use Rattle.std.proofs.Math.ListN.{length, set}
+use Rattle.rows.specs.Splice.{cut}
+use Rattle.rows.specs.Laws.{get_d_cut}
 use Rattle.rows.specs.Rows.{row_at}
 use Rattle.ledger.specs.Config.{Config}
 use Rattle.ledger.specs.Ledger as ledger
@@ -14,18 +16,14 @@ use Rattle.tables.specs.declared.shape.Shape.{Shape}
 use Rattle.tables.specs.declared.blocks.Block.{Block}
 use Rattle.tables.specs.declared.blocks.Block.TheVariants.{Idle, Suspended, Event, Message}
 use Rattle.tables.specs.declared.blocks.Blocks.{Blocks}
-use Rattle.tables.specs.Layout.{OneOf, Fits, fitting, planes_at, bound, Regions, named, regions, but, byte_written, region_length, plane_at, few}
-use Rattle.tables.specs.Planes.{plane_of, blocks_at, NewBit, NewBlock}
+use Rattle.tables.specs.Layout.{OneOf, Fits, fitting, planes_at, records_at, bound, Regions, named, regions, but, byte_written, region_length, planes_are, plane_at, few}
+use Rattle.tables.specs.Planes.{plane_of, has, blocks_at, NewBit, NewBlock}
 use Rattle.tables.specs.OneBit.{block_set}
 use Rattle.tables.specs.Decode.{view_blocks, view_task, record_as, record_of}
 use Rattle.tables.specs.Shows.{task_at, record_in, ShowsAs, Does}
 use Rattle.tables.specs.Items.{with_tasks, task_shown}
 use Rattle.tables.specs.Stored.{shows_as, shown_task, task_in}
 use Rattle.tables.specs.SetTwice.{task_task, task_set}
-
--- whether a task is idle, of every shape by which the bytes are laid out
-abbrev pub IdleIn : (d : List ℕ) (t : ℕ) → Bool → Type 0
-IdleIn d t r = (s : Shape) → Fits s (length d) → OneOf s.tasks t → r ≡ (record_in s d t).blocks.idle
 
 abbrev pub with_block : Block → Bool → Blocks → Blocks
 with_block Idle v b = record { idle = v; suspended = b.suspended; event = b.event; message = b.message }
@@ -71,10 +69,23 @@ plane_low Message = omega arith
 pub block_in : {s : Shape} {n : ℕ} → Fits s n → (t : ℕ) → OneOf s.tasks t → (k : Block) → planes_at + 16 * plane_of k + (t - 1) / 8 < n
 block_in (fitting l r) t i k = omega (arith, plane_low k)
 
-pub block_read : {s : Shape} {n : ℕ} → Fits s n → (d : List ℕ) (t : ℕ) → OneOf s.tasks t → (k : Block) → get_or (regions s d).blocks (16 * plane_of k + (t - 1) / 8) 0 ≡ get_or d (planes_at + 16 * plane_of k + (t - 1) / 8) 0
-block_read f d t i k =
+-- in bytes b that are the planes of d
+block_at : (b d : List ℕ) → ((i : ℕ) → i < 64 → get_or b i 0 ≡ get_or d (planes_at + i) 0) → (t : ℕ) → OneOf 126 t → (k : Block) → get_or b (16 * plane_of k + (t - 1) / 8) 0 ≡ get_or d (planes_at + 16 * plane_of k + (t - 1) / 8) 0
+block_at b d p t o k =
     let e : planes_at + (16 * plane_of k + (t - 1) / 8) ≡ planes_at + 16 * plane_of k + (t - 1) / 8 = omega arith in
-    plane_at f d (16 * plane_of k + (t - 1) / 8) (omega (arith, plane_low k, few f)) ∙ ap (λ (x : ℕ). get_or d x 0) e
+    p (16 * plane_of k + (t - 1) / 8) (omega (arith, plane_low k, o.1)) ∙ ap (λ (x : ℕ). get_or d x 0) e
+
+pub block_read : {s : Shape} {n : ℕ} → Fits s n → (d : List ℕ) (t : ℕ) → OneOf s.tasks t → (k : Block) → get_or (regions s d).blocks (16 * plane_of k + (t - 1) / 8) 0 ≡ get_or d (planes_at + 16 * plane_of k + (t - 1) / 8) 0
+block_read {s} f d t i k = block_at (regions s d).blocks d (plane_at f d) t (i.0, omega (arith, i.1, few f)) k
+
+-- and without a shape
+pub block_cut : (d : List ℕ) (t : ℕ) → OneOf 126 t → (k : Block) → get_or (cut d planes_at records_at) (16 * plane_of k + (t - 1) / 8) 0 ≡ get_or d (planes_at + 16 * plane_of k + (t - 1) / 8) 0
+block_cut d t o k = block_at (cut d planes_at records_at) d (λ i h. get_d_cut d planes_at records_at i (omega arith)) t o k
+
+-- the planes' idle block is the task's, by the shape
+pub idle_is : {s : Shape} (d : List ℕ) (t : ℕ) → Fits s (length d) → has Idle (cut d planes_at records_at) (t - 1) ≡ (record_in s d t).blocks.idle
+unfolding record_in record_of blocks_at
+idle_is d t f = ap (λ (x : List ℕ). has Idle x (t - 1)) (sym (planes_are f d))
 
 -- ---- in the memory
 module _ {tidy : Bool} (c : Config) (s : Shape) (L : Ledger) (d z w : List ℕ) (h : ShowsAs tidy c s L d z w) (t : ℕ) (o : OneOf s.tasks t) where

@@ -1,10 +1,12 @@
 // The blocks of a task: each is a bit of its plane.
 ghost use Rattle.std.specs.Prelude.{◌≡◌, ◌-◌, ◌<◌, ◌≤◌, length};
-ghost use Rattle.tables.specs.Layout.{OneOf, Fits, records_at, regions};
+ghost use Rattle.tables.specs.declared.blocks.Block.TheVariants.{Idle};
+ghost use Rattle.tables.specs.Layout.{OneOf, Fits, planes_at, records_at};
+ghost use Rattle.rows.specs.Splice.{cut};
 ghost use Rattle.tables.specs.Planes.{plane_of, has};
 ghost use Rattle.tables.specs.Decode.{view_blocks};
 ghost use Rattle.tables.specs.Shows.{record_in};
-ghost use Rattle.tables.specs.Blocks.{IdleIn, set_block};
+ghost use Rattle.tables.specs.Blocks.{set_block};
 ghost use Rattle.ledger.specs.Ledger.{set_blocks};
 
 use crate::lent::Tables;
@@ -35,13 +37,22 @@ fn plane_of(k: Block) -> usize
     k as usize
 }
 
-fn has_block(tables: &[u8], shape: Shape, t: u8, k: Block) -> bool
-    requires { Fits shape (length tables.now) × OneOf shape.tasks t }
-    ensures { result ≡ has k (regions shape tables.now).blocks (t - 1) }
+// Whether a task has a block. The planes lie at one place whatever the shape, so none is asked for.
+fn has_block(tables: &[u8], t: u8, k: Block) -> bool
+    requires { (records_at ≤ length tables.now) × OneOf 126 t }
+    ensures { result ≡ has k (cut tables.now planes_at records_at) (t - 1) }
 {
     let i = t as usize - 1;
     let at = PLANES_AT + 16 * plane_of(k) + i / 8;
     bit_of(tables[at], i % 8)
+}
+
+// Whether a task is idle. A loop over many tasks asks this, and holds no shape.
+pub fn is_idle(tables: &[u8], t: u8) -> bool
+    requires { (records_at ≤ length tables.now) × OneOf 126 t }
+    ensures { result ≡ has Idle (cut tables.now planes_at records_at) (t - 1) }
+{
+    has_block(tables, t, Block::Idle)
 }
 
 pub fn load(tables: &[u8], shape: Shape, t: u8) -> Blocks
@@ -49,20 +60,11 @@ pub fn load(tables: &[u8], shape: Shape, t: u8) -> Blocks
     ensures { result ≡ (record_in shape tables.now t).blocks }
 {
     Blocks {
-        idle: has_block(tables, shape, t, Block::Idle),
-        suspended: has_block(tables, shape, t, Block::Suspended),
-        event: has_block(tables, shape, t, Block::Event),
-        message: has_block(tables, shape, t, Block::Message),
+        idle: has_block(tables, t, Block::Idle),
+        suspended: has_block(tables, t, Block::Suspended),
+        event: has_block(tables, t, Block::Event),
+        message: has_block(tables, t, Block::Message),
     }
-}
-
-// Whether a task is idle, by the planes alone, which lie at one place whatever the shape: so a loop over many tasks holds no shape.
-pub fn is_idle(tables: &[u8], t: u8) -> bool
-    requires { (records_at ≤ length tables.now) × OneOf 126 t }
-    ensures { IdleIn tables.now t result }
-{
-    let i = t as usize - 1;
-    bit_of(tables[PLANES_AT + i / 8], i % 8)
 }
 
 impl<'a> Tables<'a> {

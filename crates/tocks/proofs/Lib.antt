@@ -1,6 +1,5 @@
 pub mod Opposite
 pub mod Complement
-pub mod Sign
 pub mod Rounding
 -- Its functions in the world of a build.
 pub mod Linked

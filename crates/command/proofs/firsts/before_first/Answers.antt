@@ -5,7 +5,6 @@ use mathlib.Core.List.{List}
 use Rattle.ledger.specs.Lists.{any}
 use Rattle.ledger.specs.Config.{Pair, config_in}
 use Rattle.ledger.specs.Refusals.{holds_back, meets26}
-use Rattle.tables.specs.Layout.{planes_in}
 use Rattle.tables.specs.Layout as layout
 use Rattle.command.specs.Configured.{bytes, few}
 use Rattle.command.specs.Firsts.{pairs_behind}
@@ -27,7 +26,7 @@ pub slice_bounds-some_holds_back-start : goal.slice_bounds-some_holds_back-start
 slice_bounds-some_holds_back-start c = omega (arith, bytes c.requires.0)
 
 pub some_holds_back-requires : goal.some_holds_back-requires
-some_holds_back-requires c = (planes_in c.requires.1, layout.few c.requires.1)
+some_holds_back-requires c = (layout.planes_in c.requires.1, layout.few c.requires.1)
 
 pub returns-in-ToStart : goal.returns-in-ToStart
 unfolding meets26

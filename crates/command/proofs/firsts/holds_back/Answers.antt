@@ -7,6 +7,7 @@ use native.Mathlib.Omega.{arith}
 use Rattle.std.proofs.Common.{eqb-true}
 use Rattle.ledger.specs.Lists.{within}
 use Rattle.tables.specs.Layout.{OneOf}
+use Rattle.tables.specs.Blocks.{idle_is}
 use Rattle.command.specs.State.{idle_in}
 use Rattle.command.specs.Firsts.{of_another, of_nobody, of_first, one_of}
 use Rattle.command.proofs.firsts.holds_back.Goals.{then-then-a, else-then-a}
@@ -24,7 +25,7 @@ pub returns-then-not-outside : goal.returns-then-not-outside
 returns-then-not-outside c =
     let a = c.args in
     λ s f e. elim c.if-then-a.branch [
-      | then-then-a w ↦ let o = one_of _ _ _ refl (sym w.outside.ensures ∙ not-true _ (sym w.value-is ∙ c.if-not-outside.true)) in let p = subst (λ (n : ℕ). OneOf n a.first) (sym e) o in of_first s a.tables.now a.a a.first a.then w.if-then-a.true _ (idle_in p (c.is_idle.ensures s f p))
+      | then-then-a w ↦ let o = one_of _ _ _ refl (sym w.outside.ensures ∙ not-true _ (sym w.value-is ∙ c.if-not-outside.true)) in let p = subst (λ (n : ℕ). OneOf n a.first) (sym e) o in of_first s a.tables.now a.a a.first a.then w.if-then-a.true _ (idle_in p (c.is_idle.ensures ∙ idle_is a.tables.now a.first f))
       | else-then-a w ↦ absurd (w.if-then-a.false (eqb-true _ _ (sym w.value-is ∙ c.if-not-outside.true)))
     ]
 

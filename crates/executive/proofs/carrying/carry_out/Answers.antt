@@ -1,9 +1,7 @@
 -- `carry_out`: an accepted frame has five bytes, and its code is in the table.
-use mathlib.Core.Path.{sym, ap, ◌∙◌}
-use Prim.Native.Nat.{ℕ}
+use mathlib.Core.Path.{sym, ◌∙◌}
 use native.Mathlib.Omega.{arith}
 use Rattle.ledger.specs.Config.{config_in}
-use Rattle.ledger.specs.Lists.{within}
 use Rattle.ledger.proofs.Theorems.Checks.{never}
 use Rattle.executive.specs.Carried.{long_passed, within_passed}
 use Rattle.executive.proofs.carrying.carry_out.Goals as goal
