@@ -1,3 +1,4 @@
+pub mod Sign
 pub mod Opposite
 pub mod Complement
 pub mod Rounding
